@@ -2,3 +2,5 @@ pub mod Cells
 pub mod Regions
 pub mod Cuts
 pub mod Goods
+pub mod Counts
+pub mod RowParts
