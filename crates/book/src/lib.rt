@@ -1,0 +1,1 @@
+// The words of a book: settings, units, grids and laying.
