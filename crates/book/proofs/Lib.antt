@@ -2,3 +2,4 @@ pub mod Cells
 pub mod Regions
 pub mod Cuts
 pub mod Goods
+pub mod Heads

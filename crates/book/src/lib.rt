@@ -2,3 +2,4 @@
 pub mod found;
 pub mod units;
 pub mod grid;
+pub mod settings;
