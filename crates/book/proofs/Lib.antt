@@ -4,3 +4,4 @@ pub mod Cuts
 pub mod Goods
 pub mod Counts
 pub mod RowParts
+pub mod Heads

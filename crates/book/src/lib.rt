@@ -3,3 +3,4 @@ pub mod found;
 pub mod grid;
 pub mod rows;
 pub mod units;
+pub mod settings;
