@@ -1,0 +1,4 @@
+pub mod Cells
+pub mod Regions
+pub mod Cuts
+pub mod Goods
