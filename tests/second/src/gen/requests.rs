@@ -67,13 +67,22 @@ pub fn deep_state(rng: &mut Rng, settings: Settings, length: usize) -> State {
 /// nothing else can be booked.
 pub fn opening(rng: &mut Rng, s: &Settings) -> Vec<Request> {
     let mut requests = Vec::new();
-    for visitor in rng.some_below(s.visitors.min(40), 80) {
+    for visitor in rng.some_below(s.visitors, opened(s.visitors)) {
         requests.push(Request { b: visitor, ..over_slots(rng, 1, s.dates) });
     }
-    for meeting in rng.some_below(s.meetings.min(40), 80) {
+    for meeting in rng.some_below(s.meetings, opened(s.meetings)) {
         requests.push(Request { a: meeting, ..over_slots(rng, 8, s.sessions()) });
     }
     requests
+}
+
+/// How many of a hundred members an opening brings in: most of a few, some of many.
+fn opened(members: u32) -> u32 {
+    if members <= 40 {
+        80
+    } else {
+        3200 / members
+    }
 }
 
 fn over_slots(rng: &mut Rng, kind: u32, slots: u32) -> Request {
