@@ -5,3 +5,4 @@ pub mod Goods
 pub mod Counts
 pub mod RowParts
 pub mod Heads
+pub mod Entries

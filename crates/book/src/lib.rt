@@ -2,5 +2,5 @@
 pub mod found;
 pub mod grid;
 pub mod rows;
-pub mod units;
 pub mod settings;
+pub mod units;
