@@ -3,3 +3,4 @@ pub mod Regions
 pub mod Cuts
 pub mod Goods
 pub mod Heads
+pub mod Fills
