@@ -2,5 +2,6 @@
 pub mod found;
 pub mod grid;
 pub mod rows;
+pub mod lay;
 pub mod settings;
 pub mod units;
