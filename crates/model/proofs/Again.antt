@@ -3,7 +3,7 @@
 -- Assumes nothing.
 use Prim.Native.Nat.{ℕ, _≤_}
 use mathlib.Core.Path.{_≡_, refl, sym, _∙_, ap}
-use mathlib.Core.Bool.{Bool, true, false, not, _&&_, _||_, cond}
+use mathlib.Core.Bool.{Bool, true, not, _&&_, _||_, cond}
 use mathlib.Core.Option.{Option, none, some}
 use mathlib.Core.List.{List, [], _∷_, _++_}
 use native.Mathlib.Omega.{arith}
@@ -11,15 +11,15 @@ use lib.Dec.{leb, ltb, eqb}
 use borrow.Author.Tests.{eq-eqb}
 use Rattle.model.specs.declared.Settings.{Settings}
 use Rattle.model.specs.declared.Request.{Request}
+use Rattle.model.specs.declared.Answer.the-variants.{Done}
 use Rattle.model.specs.State.{State}
 use Rattle.model.specs.Kinds.{Kind, row, limit, slotsOf, kindOf}
-use Rattle.model.specs.Questions.{Question, Scope, eachSlot, scope, test, number, always, further, ask, judge, Refusal, below}
-use Rattle.model.specs.Questions.{Question.unusedZero, Question.aBelow, Question.bBelow, Question.slotsFit}
-use Rattle.model.specs.Machine.{slot, step, change}
+use Rattle.model.specs.Questions.{Question, test, number, always, further, ask, judge, below}
+use Rattle.model.specs.Questions.{Question.aBelow, Question.bBelow, Question.slotsFit}
+use Rattle.model.specs.Machine.{slot, step, change, value}
 use Rattle.model.proofs.Search.{true-within, and-true}
 use Rattle.model.proofs.Keeps.{Yes, judged, slots-fit}
-use Rattle.model.proofs.Done.{Accepted, outcome, refusing, accepted-step, refused-step, judge-yes, judge-no, ask-first}
-use Rattle.model.proofs.Frame.{settings-change}
+use Rattle.model.proofs.Done.{Accepted, refusing, accepted-step, refused-step, judge-yes, judge-no}
 
 -- the questions of every kind ask only the settings
 pub always-kept : (x y : State) (r : Request) (k : Kind) → y .settings ≡ x .settings → Yes x r k always → Yes y r k always
@@ -84,3 +84,8 @@ module _ (y : State) (r : Request) (k : Kind) (kind : kindOf (r .kind) ≡ some 
   refuse qs q later p e h f =
       refused-step y r k kind (record { number = number q; place = p })
       (ap (λ (l : List Question). judge y r k (always ++ l)) (sym e) ∙ judge-no y r k (always ++ qs) q later p (yes-both y r k always qs a h) f)
+
+  -- it is done with the value v, and leaves the state z
+  pub performs : Yes y r k (further k) → (v : ℕ) (z : State) → value y r k ≡ v → change y r k ≡ z → step y r ≡ record { answer = Done v; state = z }
+  performs h v z e c =
+      accepted-step y r k (accept h) ∙ ap (λ (n : ℕ). record { answer = Done n; state = change y r k }) e ∙ ap (λ (w : State). record { answer = Done v; state = w }) c

@@ -26,7 +26,7 @@ use Rattle.model.proofs.Keeps.{Yes}
 use Rattle.model.proofs.Removal.{removed-bookings}
 use Rattle.model.proofs.Done.{Accepted, accepted-step, refused-keeps, ask-first}
 use Rattle.model.proofs.Frame.{settings-change}
-use Rattle.model.proofs.Again.{always-kept, always-yes, further-yes, first-le, first-slot, own, accept, refuse}
+use Rattle.model.proofs.Again.{always-kept, always-yes, further-yes, first-le, first-slot, own, performs, refuse}
 
 -- the answer of a request of kind k, accepted in the state x, that is sent again at once
 abbrev pub answerAgain : State → Request → Kind → Answer
@@ -92,10 +92,7 @@ module _ (x : State) (r : Request) where
     -- accepted again, with nothing more to change
     passes : (v : ℕ) → Yes (change x r k) r k (further k) → value (change x r k) r k ≡ v → change (change x r k) r k ≡ change x r k
         → step (change x r k) r ≡ record { answer = Done v; state = change x r k }
-    passes v y e c =
-        accepted-step (change x r k) r k (accept (change x r k) r k (h .kind) again y)
-        ∙ ap (λ (n : ℕ). record { answer = Done n; state = change (change x r k) r k }) e
-        ∙ ap (λ (z : State). record { answer = Done v; state = z }) c
+    passes v y e c = performs (change x r k) r k (h .kind) again y v (change x r k) e c
 
     -- the request's own entry in its first slot
     mine : slot r (r .first) && eqb (r .a) (r .a) && eqb (r .b) (r .b) ≡ true
