@@ -1,14 +1,14 @@
 -- Steps on a state that one accepted request has led to: what the questions of every kind say there, and how a refusal in the first
 -- slot, and an acceptance, are shown.
 -- Assumes nothing.
-use Prim.Native.Nat.{ℕ, _≤_}
+use Prim.Native.Nat.{ℕ, _≤_, _<_}
 use mathlib.Core.Path.{_≡_, refl, sym, _∙_, ap}
 use mathlib.Core.Bool.{Bool, true, not, _&&_, _||_, cond}
 use mathlib.Core.Option.{Option, none, some}
 use mathlib.Core.List.{List, [], _∷_, _++_}
 use native.Mathlib.Omega.{arith}
 use lib.Dec.{leb, ltb, eqb}
-use borrow.Author.Tests.{eq-eqb}
+use borrow.Author.Tests.{eq-eqb, le-leb, lt-ltb}
 use Rattle.model.specs.declared.Settings.{Settings}
 use Rattle.model.specs.declared.Request.{Request}
 use Rattle.model.specs.declared.Answer.the-variants.{Done}
@@ -19,7 +19,7 @@ use Rattle.model.specs.Questions.{Question.aBelow, Question.bBelow, Ques
 use Rattle.model.specs.Machine.{slot, step, change, value}
 use Rattle.model.proofs.Search.{true-within, and-true}
 use Rattle.model.proofs.Keeps.{Yes, judged, slots-fit}
-use Rattle.model.proofs.Done.{Accepted, refusing, accepted-step, refused-step, judge-yes, judge-no}
+use Rattle.model.proofs.Done.{Accepted, refusing, accepted-step, refused-step, judge-yes, judge-no, ask-whole}
 
 -- the questions of every kind ask only the settings
 pub always-kept : (x y : State) (r : Request) (k : Kind) → y .settings ≡ x .settings → Yes x r k always → Yes y r k always
@@ -69,6 +69,13 @@ module _ (x : State) (r : Request) (k : Kind) (h : Accepted x r k) where
 
   pub first-slot : slot r (r .first) ≡ true
   first-slot = true-within (r .first) (r .last) (r .first) (omega arith) first-le
+
+-- question 7 is answered yes
+pub fits-by : (x : State) (r : Request) (k : Kind) → r .first ≤ r .last → r .last < slotsOf (x .settings) (row k .unit) → not (row k .one) || eqb (r .first) (r .last) ≡ true
+    → ask x r k slotsFit ≡ none
+unfolding test
+fits-by x r k h l o =
+    ask-whole x r k slotsFit refl (and-true (and-true (le-leb (r .first) (r .last) h) (lt-ltb (r .last) (slotsOf (x .settings) (row k .unit)) l)) o)
 
 -- the request's own entry in a slot
 pub own : (r : Request) (i : ℕ) → slot r i ≡ true → slot r i && eqb (r .a) (r .a) && eqb (r .b) (r .b) ≡ true

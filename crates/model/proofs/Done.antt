@@ -89,6 +89,15 @@ pub judge-no : (x : State) (r : Request) (k : Kind) (qs : List Question) (q : Qu
 judge-no x r k [] q later p h e = rw e
 judge-no x r k (c ∷ qs) q later p h e = rw (h .0) (judge-no x r k qs q later p (h .1) e)
 
+-- a refusal by the first questions is one by all
+pub judge-some : (x : State) (r : Request) (k : Kind) (qs later : List Question) (f : Refusal) → judge x r k qs ≡ some f → judge x r k (qs ++ later) ≡ some f
+judge-some x r k [] later f e = absurd (let z : _≡_ {A = ℕ} 0 1 = cc in omega arith)
+judge-some x r k (q ∷ qs) later f e = go (ask x r k q) e (judge-some x r k qs later f)
+  where
+    go : (o : Option ℕ) → refusal q o (judge x r k qs) ≡ some f → (judge x r k qs ≡ some f → judge x r k (qs ++ later) ≡ some f) → refusal q o (judge x r k (qs ++ later)) ≡ some f
+    go none e rest = rest e
+    go (some p) e rest = e
+
 -- a question is answered yes, or no at a place, by its test
 module _ (x : State) (r : Request) (k : Kind) (q : Question) where
   pub ask-whole : scope q ≡ whole → test x r k q 0 ≡ true → ask x r k q ≡ none
