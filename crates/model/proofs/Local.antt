@@ -1,0 +1,251 @@
+-- What a question, a value and a change look at: two states with the same settings and, on the dates of a request, the same entries
+-- give it the same answer; and a request changes no entry on another date.
+-- Assumes nothing.
+use Prim.Native.Nat.{ℕ, zero, suc, _+_, _-_, _*_, _/_, _≤_, _<_}
+use mathlib.Core.Path.{_≡_, refl, sym, _∙_, ap, ap₂, subst, fun-ext}
+use mathlib.Core.Logic.{_⊎_, inl, inr}
+use mathlib.Core.Bool.{Bool, true, false, not, _&&_, _||_, cond, true≢false, false≢true}
+use mathlib.Core.Option.{Option, none, some}
+use mathlib.Core.List.{List, [], _∷_, _++_}
+use native.Mathlib.Nat.{le-div-iff-mul-le, le-trans, div-mul-le-self, div-zero, eq-zero-or-pos}
+use native.Mathlib.Omega.{arith}
+use lib.Dec.{leb, ltb, eqb}
+use borrow.Author.Tests.{eqb-true, leb-true, leb-false}
+use Rattle.model.specs.declared.Settings.{Settings}
+use Rattle.model.specs.declared.Request.{Request}
+use Rattle.model.specs.declared.Answer.{Answer}
+use Rattle.model.specs.declared.Answer.the-variants.{Done, Refused}
+use Rattle.model.specs.Bounded.{lowest, isSome, any, within, failing, sum, count, count2, one, found}
+use Rattle.model.specs.Site.{capacity, allSessions, allTimes, dateOfSession, dateOfTime}
+use Rattle.model.specs.State.{State, Lunch, Pairs, hotels, rides, attends, confs, lunches, booked, reserved, seatsOf}
+use Rattle.model.specs.Kinds.{Kind, Unit, dates, sessions, times, row, kindOf, dateOf}
+use Rattle.model.specs.Kinds.{Kind.addLeave, Kind.endLeave, Kind.removeVisitor, Kind.addHotel, Kind.eraseHotel, Kind.addRide, Kind.eraseRide}
+use Rattle.model.specs.Kinds.{Kind.addStanding, Kind.endStanding, Kind.addAttend, Kind.eraseAttend, Kind.addConf, Kind.eraseConf}
+use Rattle.model.specs.Kinds.{Kind.addLunch, Kind.eraseLunch, Kind.eraseConfAndLunch, Kind.whichMeeting, Kind.countLeave, Kind.seatsLeft, Kind.freeRoom}
+use Rattle.model.specs.Questions.{Question, scope, whole, eachSlot, eachDate, test, ask, number, always, further, judge, refusal, Refusal, confHeld, lunchHeld, bookings, standsOn, meetingOf, lowestFree, limitA, limitB}
+use Rattle.model.specs.Questions.{Question.unusedZero, Question.aBelow, Question.bBelow, Question.slotsFit, Question.seatsFit, Question.onLeave, Question.stands, Question.standsThatDate, Question.absent, Question.free, Question.elsewhere}
+use Rattle.model.specs.Questions.{Question.roomLeft, Question.present, Question.hasConf, Question.hasLunch, Question.noBookings, Question.notHeld, Question.attended, Question.attendsOne, Question.roomFree, Arg, inA, inB}
+use Rattle.model.specs.Machine.{Outcome, value, change, slot, step, finish, stepKind}
+use Rattle.model.specs.Laws.{unitOf}
+use Rattle.model.proofs.Search.{lowest-same, within-true, true-within, and-left, and-right}
+use Rattle.model.proofs.Keeps.{Yes, judged, slots-fit}
+use Rattle.model.proofs.Done.{Alike, judge-same}
+
+-- the seven sets without the settings
+pub record Sets : Type 0 where
+  pub leave : ℕ → ℕ → Bool
+  pub standing : ℕ → ℕ → Bool
+  pub hotel : ℕ → ℕ → ℕ → Bool
+  pub ride : ℕ → ℕ → ℕ → Bool
+  pub attend : ℕ → ℕ → ℕ → Bool
+  pub conf : ℕ → ℕ → ℕ → Option ℕ
+  pub lunch : ℕ → ℕ → ℕ → Option Lunch
+
+abbrev pub state : Settings → Sets → State
+state S X =
+    record { settings = S; leave = X .leave; standing = X .standing; hotel = X .hotel; ride = X .ride; attend = X .attend; conf = X .conf; lunch = X .lunch }
+
+abbrev pub setsOf : State → Sets
+setsOf x = record { leave = x .leave; standing = x .standing; hotel = x .hotel; ride = x .ride; attend = x .attend; conf = x .conf; lunch = x .lunch }
+
+-- two states have the same entries on date d; "an entry of a session or time is on that one's date"
+pub record Agree (S : Settings) (X Y : Sets) (d : ℕ) : Type 0 where
+  pub leave : (v : ℕ) → X .leave d v ≡ Y .leave d v
+  pub standing : (s m : ℕ) → dateOfSession S s ≡ d → X .standing s m ≡ Y .standing s m
+  pub hotel : (a b : ℕ) → X .hotel d a b ≡ Y .hotel d a b
+  pub ride : (t a b : ℕ) → dateOfTime S t ≡ d → X .ride t a b ≡ Y .ride t a b
+  pub attend : (s a b : ℕ) → dateOfSession S s ≡ d → X .attend s a b ≡ Y .attend s a b
+  pub conf : (s a b : ℕ) → dateOfSession S s ≡ d → X .conf s a b ≡ Y .conf s a b
+  pub lunch : (a b : ℕ) → X .lunch d a b ≡ Y .lunch d a b
+
+-- the dates of a request: "dates from first's to last's"
+abbrev pub reach : Settings → Request → Kind → ℕ → Bool
+reach S r k d = within (dateOf S (row k .unit) (r .first)) (dateOf S (row k .unit) (r .last)) d
+
+-- the date of a slot of the request is one of them
+div-mono : (a b c : ℕ) → a ≤ b → a / c ≤ b / c
+div-mono a b c h = go (eq-zero-or-pos c)
+  where
+    go : (c ≡ 0) ⊎ (0 < c) → a / c ≤ b / c
+    go (inl e) = rw (e, div-zero a, div-zero b) (omega arith)
+    go (inr p) = le-div-iff-mul-le p .1 (le-trans (div-mul-le-self a c) h)
+
+date-mono : (S : Settings) (u : Unit) (i j : ℕ) → i ≤ j → dateOf S u i ≤ dateOf S u j
+date-mono S dates i j h = h
+date-mono S sessions i j h = div-mono i j (S .sessions) h
+date-mono S times i j h = div-mono i j (S .times) h
+
+pub slot-reach : (S : Settings) (r : Request) (k : Kind) (i : ℕ) → slot r i ≡ true → reach S r k (dateOf S (row k .unit) i) ≡ true
+slot-reach S r k i e =
+    let h : (r .first ≤ i) × (i ≤ r .last) = within-true (r .first) (r .last) i e in
+    true-within _ _ _ (date-mono S (row k .unit) (r .first) i (h .0)) (date-mono S (row k .unit) i (r .last) (h .1))
+
+-- tests that agree where they are looked at
+and-same : (t a b : Bool) → (t ≡ true → a ≡ b) → t && a ≡ t && b
+and-same true a b h = h refl
+and-same false a b h = refl
+
+any-same : (p q : ℕ → Bool) (n : ℕ) → ((j : ℕ) → p j ≡ q j) → any p n ≡ any q n
+any-same p q n h = ap isSome (lowest-same p q 0 n (λ j _ _. h j))
+
+failing-same : (p q : ℕ → Bool) (from to : ℕ) → ((j : ℕ) → within from to j ≡ true → p j ≡ q j) → failing p from to ≡ failing q from to
+failing-same p q from to h =
+    lowest-same (λ j. not (p j)) (λ j. not (q j)) from (suc to - from) (λ j l g. ap not (h j (true-within from to j l (omega (arith, l, g)))))
+
+count2-same : (p q : ℕ → ℕ → Bool) (n m : ℕ) → ((i j : ℕ) → p i j ≡ q i j) → count2 p n m ≡ count2 q n m
+count2-same p q n m h = ap (λ (f : ℕ → ℕ → Bool). count2 f n m) (fun-ext (λ i. fun-ext (λ j. h i j)))
+
+module _ (S : Settings) (X Y : Sets) where
+  -- the parts of a date
+  stands-same : (d m : ℕ) → Agree S X Y d → standsOn (state S X) d m ≡ standsOn (state S Y) d m
+  unfolding standsOn
+  stands-same d m g = any-same _ _ (allSessions S) (λ s. and-same (eqb (dateOfSession S s) d) (X .standing s m) (Y .standing s m) (λ e. g .standing s m (eqb-true _ _ e)))
+
+  lunch-same : (d m : ℕ) → Agree S X Y d → lunchHeld (state S X) d m ≡ lunchHeld (state S Y) d m
+  unfolding lunchHeld
+  lunch-same d m g = any-same _ _ (S .dining) (λ a. ap isSome (g .lunch a m))
+
+  conf-same : (i m : ℕ) → Agree S X Y (dateOfSession S i) → confHeld (state S X) i m ≡ confHeld (state S Y) i m
+  unfolding confHeld
+  conf-same i m g = any-same _ _ (S .rooms) (λ c. ap isSome (g .conf i c m refl))
+
+  meeting-same : (i v : ℕ) → Agree S X Y (dateOfSession S i) → meetingOf (state S X) i v ≡ meetingOf (state S Y) i v
+  unfolding meetingOf
+  meeting-same i v g = lowest-same _ _ 0 (S .meetings) (λ m _ _. g .attend i m v refl)
+
+  reserved-same : (d a : ℕ) → Agree S X Y d → reserved (state S X) d a ≡ reserved (state S Y) d a
+  unfolding reserved
+  reserved-same d a g = ap (λ (f : ℕ → ℕ). sum f (S .meetings)) (fun-ext (λ m. ap seatsOf (g .lunch a m)))
+
+  bookings-same : (v from to : ℕ) → ((d : ℕ) → within from to d ≡ true → Agree S X Y d) → bookings (state S X) v from to ≡ bookings (state S Y) v from to
+  unfolding bookings
+  bookings-same v from to g =
+      omega (
+        arith,
+        count2-same (λ d a. within from to d && X .hotel d a v) (λ d a. within from to d && Y .hotel d a v) (S .dates) (S .hotels)
+            (λ d a. and-same (within from to d) _ _ (λ e. g d e .hotel a v)),
+        count2-same (λ t a. within from to (dateOfTime S t) && X .ride t a v) (λ t a. within from to (dateOfTime S t) && Y .ride t a v) (allTimes S) (S .transports)
+            (λ t a. and-same (within from to (dateOfTime S t)) _ _ (λ e. g (dateOfTime S t) e .ride t a v refl)),
+        count2-same (λ s a. within from to (dateOfSession S s) && X .attend s a v) (λ s a. within from to (dateOfSession S s) && Y .attend s a v) (allSessions S) (S .meetings)
+            (λ s a. and-same (within from to (dateOfSession S s)) _ _ (λ e. g (dateOfSession S s) e .attend s a v refl)),
+      )
+
+  booked-same : (p : Pairs) (i a b : ℕ) → Agree S X Y (dateOf S (unitOf p) i) → booked (state S X) p i a b ≡ booked (state S Y) p i a b
+  booked-same hotels i a b g = g .hotel a b
+  booked-same rides i a b g = g .ride i a b refl
+  booked-same attends i a b g = g .attend i a b refl
+  booked-same confs i a b g = ap isSome (g .conf i a b refl)
+  booked-same lunches i a b g = ap isSome (g .lunch a b)
+
+  free-same : (from to : ℕ) → ((i : ℕ) → within from to i ≡ true → Agree S X Y (dateOfSession S i)) → lowestFree (state S X) from to ≡ lowestFree (state S Y) from to
+  unfolding lowestFree
+  free-same from to g =
+      lowest-same _ _ 0 (S .rooms) (λ c _ _. ap (λ (o : Option ℕ). not (isSome o)) (failing-same _ _ from to (λ i e. ap not (any-same _ _ (S .meetings) (λ m. ap isSome (g i e .conf i c m refl))))))
+
+  -- the questions, of a request on whose dates the states agree
+  module _ (r : Request) (k : Kind) (g : (d : ℕ) → reach S r k d ≡ true → Agree S X Y d) where
+    at : (i : ℕ) → slot r i ≡ true → Agree S X Y (dateOf S (row k .unit) i)
+    at i e = g (dateOf S (row k .unit) i) (slot-reach S r k i e)
+
+    each : (q : Question) → scope q ≡ eachSlot → ((i : ℕ) → slot r i ≡ true → test (state S X) r k q i ≡ test (state S Y) r k q i) → ask (state S X) r k q ≡ ask (state S Y) r k q
+    unfolding ask
+    each q w h = rw w (failing-same (test (state S X) r k q) (test (state S Y) r k q) (r .first) (r .last) h)
+
+    pair : (p : Pairs) → row k .unit ≡ unitOf p → (i : ℕ) → slot r i ≡ true → (a b : ℕ) → booked (state S X) p i a b ≡ booked (state S Y) p i a b
+    pair p u i e a b = booked-same p i a b (subst (λ (w : Unit). Agree S X Y (dateOf S w i)) u (at i e))
+
+    same-leave : ask (state S X) r k onLeave ≡ ask (state S Y) r k onLeave
+    unfolding test
+    same-leave = each onLeave refl (λ i e. at i e .leave (r .b))
+
+    same-absent : (p : Pairs) → row k .unit ≡ unitOf p → ask (state S X) r k (absent p) ≡ ask (state S Y) r k (absent p)
+    unfolding test
+    same-absent p u = each (absent p) refl (λ i e. ap not (pair p u i e (r .a) (r .b)))
+
+    same-present : (p : Pairs) → row k .unit ≡ unitOf p → ask (state S X) r k (present p) ≡ ask (state S Y) r k (present p)
+    unfolding test
+    same-present p u = each (present p) refl (λ i e. pair p u i e (r .a) (r .b))
+
+    same-free : (p : Pairs) → row k .unit ≡ unitOf p → ask (state S X) r k (free p) ≡ ask (state S Y) r k (free p)
+    unfolding test
+    same-free p u = each (free p) refl (λ i e. ap not (any-same _ _ (limitB S p) (λ b. pair p u i e (r .a) b)))
+
+    same-elsewhere : (p : Pairs) → row k .unit ≡ unitOf p → ask (state S X) r k (elsewhere p) ≡ ask (state S Y) r k (elsewhere p)
+    unfolding test
+    same-elsewhere p u = each (elsewhere p) refl (λ i e. ap not (any-same _ _ (limitA S p) (λ a. ap (λ (t : Bool). not (eqb a (r .a)) && t) (pair p u i e a (r .b)))))
+
+    same-conf : row k .unit ≡ sessions → ask (state S X) r k hasConf ≡ ask (state S Y) r k hasConf
+    unfolding test
+    same-conf u = each hasConf refl (λ i e. conf-same i (r .b) (subst (λ (w : Unit). Agree S X Y (dateOf S w i)) u (at i e)))
+
+  -- all the questions of a kind
+  further-same : (r : Request) (k : Kind) → ((d : ℕ) → reach S r k d ≡ true → Agree S X Y d) → Alike (state S X) (state S Y) r k (further k)
+  unfolding test ask
+  further-same r addLeave g = tt
+  further-same r endLeave g = (each r endLeave g noBookings refl (λ i e. ap (λ (n : ℕ). eqb n 0) (bookings-same (r .b) i i (λ d h. subst (λ (n : ℕ). Agree S X Y n) (one i d h) (at r endLeave g i e)))), tt)
+    where
+      one : (i d : ℕ) → within i i d ≡ true → i ≡ d
+      one i d h = omega (arith, within-true i i d h)
+  further-same r removeVisitor g = tt
+  further-same r addHotel g = (same-leave r addHotel g, (same-absent r addHotel g hotels refl, (same-free r addHotel g hotels refl, (same-elsewhere r addHotel g hotels refl, tt))))
+  further-same r eraseHotel g = (same-present r eraseHotel g hotels refl, tt)
+  further-same r addRide g = (same-leave r addRide g, (same-absent r addRide g rides refl, (same-free r addRide g rides refl, (same-elsewhere r addRide g rides refl, tt))))
+  further-same r eraseRide g = (same-present r eraseRide g rides refl, tt)
+  further-same r addStanding g = tt
+  further-same r endStanding g = (
+    each r endStanding g notHeld refl (λ i e. ap₂ (λ (c l : Bool). not c && not l) (conf-same i (r .a) (at r endStanding g i e)) (lunch-same (dateOfSession S i) (r .a) (at r endStanding g i e))),
+    (each r endStanding g attended refl (λ i e. any-same _ _ (S .visitors) (λ v. at r endStanding g i e .attend i (r .a) v refl)), tt),
+  )
+  further-same r addAttend g = (
+    same-leave r addAttend g,
+    (each r addAttend g (stands inA) refl (λ i e. at r addAttend g i e .standing i (r .a) refl), (same-absent r addAttend g attends refl, (same-elsewhere r addAttend g attends refl, tt))),
+  )
+  further-same r eraseAttend g = (same-present r eraseAttend g attends refl, tt)
+  further-same r addConf g = (
+    each r addConf g (stands inB) refl (λ i e. at r addConf g i e .standing i (r .b) refl),
+    (same-absent r addConf g confs refl, (same-free r addConf g confs refl, tt)),
+  )
+  further-same r eraseConf g = (same-conf r eraseConf g refl, tt)
+  further-same r addLunch g = (
+    refl,
+    (
+      each r addLunch g standsThatDate refl (λ i e. stands-same i (r .b) (at r addLunch g i e)),
+      (
+        same-absent r addLunch g lunches refl,
+        (
+          same-elsewhere r addLunch g lunches refl,
+          (each r addLunch g roomLeft refl (λ i e. ap (λ (n : ℕ). leb (n + r .n) (capacity S (r .a))) (reserved-same i (r .a) (at r addLunch g i e))), tt),
+        ),
+      ),
+    ),
+  )
+  further-same r eraseLunch g = (same-present r eraseLunch g lunches refl, tt)
+  further-same r eraseConfAndLunch g = (same-conf r eraseConfAndLunch g refl, (failing-same _ _ _ _ (λ d e. lunch-same d (r .b) (g d e)), tt))
+  further-same r whichMeeting g = (each r whichMeeting g attendsOne refl (λ i e. ap isSome (meeting-same i (r .b) (at r whichMeeting g i e))), tt)
+  further-same r countLeave g = tt
+  further-same r seatsLeft g = tt
+  further-same r freeRoom g = (ap (λ (o : Option ℕ). cond (isSome o) none (some 0)) (free-same (r .first) (r .last) (λ i e. at r freeRoom g i e)), tt)
+
+  -- the value of a kind
+  value-same : (r : Request) (k : Kind) → slot r (r .first) ≡ true → ((d : ℕ) → reach S r k d ≡ true → Agree S X Y d) → value (state S X) r k ≡ value (state S Y) r k
+  unfolding value
+  value-same r addLeave e g = refl
+  value-same r endLeave e g = refl
+  value-same r removeVisitor e g = bookings-same (r .b) (r .first) (r .last) g
+  value-same r addHotel e g = refl
+  value-same r eraseHotel e g = refl
+  value-same r addRide e g = refl
+  value-same r eraseRide e g = refl
+  value-same r addStanding e g = refl
+  value-same r endStanding e g = refl
+  value-same r addAttend e g = refl
+  value-same r eraseAttend e g = refl
+  value-same r addConf e g = refl
+  value-same r eraseConf e g = refl
+  value-same r addLunch e g = refl
+  value-same r eraseLunch e g = refl
+  value-same r eraseConfAndLunch e g = refl
+  value-same r whichMeeting e g = ap (λ (o : Option ℕ). found o (λ m. m)) (meeting-same (r .first) (r .b) (at r whichMeeting g (r .first) e))
+  value-same r countLeave e g = ap (λ (f : ℕ → Bool). count f (S .visitors)) (fun-ext (λ v. at r countLeave g (r .first) e .leave v))
+  value-same r seatsLeft e g = ap (λ (n : ℕ). capacity S (r .a) - n) (reserved-same (r .first) (r .a) (at r seatsLeft g (r .first) e))
+  value-same r freeRoom e g = ap (λ (o : Option ℕ). found o (λ c. c)) (free-same (r .first) (r .last) (λ i e. at r freeRoom g i e))
