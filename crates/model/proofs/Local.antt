@@ -25,11 +25,12 @@ use Rattle.model.specs.Kinds.{Kind.addLunch, Kind.eraseLunch, Kind.erase
 use Rattle.model.specs.Questions.{Question, scope, whole, eachSlot, eachDate, test, ask, number, always, further, judge, refusal, Refusal, confHeld, lunchHeld, bookings, standsOn, meetingOf, lowestFree, limitA, limitB}
 use Rattle.model.specs.Questions.{Question.unusedZero, Question.aBelow, Question.bBelow, Question.slotsFit, Question.seatsFit, Question.onLeave, Question.stands, Question.standsThatDate, Question.absent, Question.free, Question.elsewhere}
 use Rattle.model.specs.Questions.{Question.roomLeft, Question.present, Question.hasConf, Question.hasLunch, Question.noBookings, Question.notHeld, Question.attended, Question.attendsOne, Question.roomFree, Arg, inA, inB}
-use Rattle.model.specs.Machine.{Outcome, value, change, slot, step, finish, stepKind}
+use Rattle.model.specs.Machine.{Outcome, value, change, slot, plus, minus, step, finish, stepKind, withLeave, withStanding, withHotel, withRide, withAttend, withConf, withLunch}
 use Rattle.model.specs.Laws.{unitOf}
 use Rattle.model.proofs.Search.{lowest-same, within-true, true-within, and-left, and-right}
 use Rattle.model.proofs.Keeps.{Yes, judged, slots-fit}
 use Rattle.model.proofs.Done.{Alike, judge-same}
+use Rattle.model.proofs.Undo.{never}
 
 -- the seven sets without the settings
 pub record Sets : Type 0 where
@@ -249,3 +250,95 @@ module _ (S : Settings) (X Y : Sets) where
   value-same r countLeave e g = ap (λ (f : ℕ → Bool). count f (S .visitors)) (fun-ext (λ v. at r countLeave g (r .first) e .leave v))
   value-same r seatsLeft e g = ap (λ (n : ℕ). capacity S (r .a) - n) (reserved-same (r .first) (r .a) (at r seatsLeft g (r .first) e))
   value-same r freeRoom e g = ap (λ (o : Option ℕ). found o (λ c. c)) (free-same (r .first) (r .last) (λ i e. at r freeRoom g i e))
+
+-- states that agree on a date still do when one set of each is replaced by sets that agree there
+module _ (S : Settings) (X Y : Sets) (d : ℕ) (g : Agree S X Y d) where
+  agree-leave : (F F′ : ℕ → ℕ → Bool) → ((v : ℕ) → F d v ≡ F′ d v) → Agree S (setsOf (withLeave (state S X) F)) (setsOf (withLeave (state S Y) F′)) d
+  agree-leave F F′ h = record { leave = h; standing = g .standing; hotel = g .hotel; ride = g .ride; attend = g .attend; conf = g .conf; lunch = g .lunch }
+
+  agree-standing : (F F′ : ℕ → ℕ → Bool) → ((s m : ℕ) → dateOfSession S s ≡ d → F s m ≡ F′ s m) → Agree S (setsOf (withStanding (state S X) F)) (setsOf (withStanding (state S Y) F′)) d
+  agree-standing F F′ h = record { leave = g .leave; standing = h; hotel = g .hotel; ride = g .ride; attend = g .attend; conf = g .conf; lunch = g .lunch }
+
+  agree-hotel : (F F′ : ℕ → ℕ → ℕ → Bool) → ((a b : ℕ) → F d a b ≡ F′ d a b) → Agree S (setsOf (withHotel (state S X) F)) (setsOf (withHotel (state S Y) F′)) d
+  agree-hotel F F′ h = record { leave = g .leave; standing = g .standing; hotel = h; ride = g .ride; attend = g .attend; conf = g .conf; lunch = g .lunch }
+
+  agree-ride : (F F′ : ℕ → ℕ → ℕ → Bool) → ((t a b : ℕ) → dateOfTime S t ≡ d → F t a b ≡ F′ t a b) → Agree S (setsOf (withRide (state S X) F)) (setsOf (withRide (state S Y) F′)) d
+  agree-ride F F′ h = record { leave = g .leave; standing = g .standing; hotel = g .hotel; ride = h; attend = g .attend; conf = g .conf; lunch = g .lunch }
+
+  agree-attend : (F F′ : ℕ → ℕ → ℕ → Bool) → ((s a b : ℕ) → dateOfSession S s ≡ d → F s a b ≡ F′ s a b) → Agree S (setsOf (withAttend (state S X) F)) (setsOf (withAttend (state S Y) F′)) d
+  agree-attend F F′ h = record { leave = g .leave; standing = g .standing; hotel = g .hotel; ride = g .ride; attend = h; conf = g .conf; lunch = g .lunch }
+
+  agree-conf : (F F′ : ℕ → ℕ → ℕ → Option ℕ) → ((s a b : ℕ) → dateOfSession S s ≡ d → F s a b ≡ F′ s a b) → Agree S (setsOf (withConf (state S X) F)) (setsOf (withConf (state S Y) F′)) d
+  agree-conf F F′ h = record { leave = g .leave; standing = g .standing; hotel = g .hotel; ride = g .ride; attend = g .attend; conf = h; lunch = g .lunch }
+
+  agree-lunch : (F F′ : ℕ → ℕ → ℕ → Option Lunch) → ((a b : ℕ) → F d a b ≡ F′ d a b) → Agree S (setsOf (withLunch (state S X) F)) (setsOf (withLunch (state S Y) F′)) d
+  agree-lunch F F′ h = record { leave = g .leave; standing = g .standing; hotel = g .hotel; ride = g .ride; attend = g .attend; conf = g .conf; lunch = h }
+
+-- the change in two states
+module _ (S : Settings) (X Y : Sets) (r : Request) (d : ℕ) (g : Agree S X Y d) where
+  change-same : (k : Kind) → Agree S (setsOf (change (state S X) r k)) (setsOf (change (state S Y) r k)) d
+  unfolding change
+  change-same addLeave = agree-leave S _ _ d g _ _ (λ v. ap (λ (o : Bool). plus o (slot r d && eqb v (r .b))) (g .leave v))
+  change-same endLeave = agree-leave S _ _ d g _ _ (λ v. ap (λ (o : Bool). minus o (slot r d && eqb v (r .b))) (g .leave v))
+  change-same removeVisitor = agree-attend S _ _ d (agree-ride S _ _ d (agree-hotel S _ _ d (agree-leave S _ _ d g _ _ (λ v. ap (λ (o : Bool). minus o (slot r d && eqb v (r .b))) (g .leave v))) _ _ (λ a v. ap (λ (o : Bool). minus o (slot r d && eqb v (r .b))) (g .hotel a v))) _ _ (λ t a v e. ap (λ (o : Bool). minus o (slot r (dateOfTime S t) && eqb v (r .b))) (g .ride t a v e))) _ _ (λ s a v e. ap (λ (o : Bool). minus o (slot r (dateOfSession S s) && eqb v (r .b))) (g .attend s a v e))
+  change-same addHotel = agree-hotel S _ _ d g _ _ (λ a v. ap (λ (o : Bool). plus o (slot r d && eqb a (r .a) && eqb v (r .b))) (g .hotel a v))
+  change-same eraseHotel = agree-hotel S _ _ d g _ _ (λ a v. ap (λ (o : Bool). minus o (slot r d && eqb a (r .a) && eqb v (r .b))) (g .hotel a v))
+  change-same addRide = agree-ride S _ _ d g _ _ (λ t a v e. ap (λ (o : Bool). plus o (slot r t && eqb a (r .a) && eqb v (r .b))) (g .ride t a v e))
+  change-same eraseRide = agree-ride S _ _ d g _ _ (λ t a v e. ap (λ (o : Bool). minus o (slot r t && eqb a (r .a) && eqb v (r .b))) (g .ride t a v e))
+  change-same addStanding = agree-standing S _ _ d g _ _ (λ s m e. ap (λ (o : Bool). plus o (slot r s && eqb m (r .a))) (g .standing s m e))
+  change-same endStanding = agree-attend S _ _ d (agree-standing S _ _ d g _ _ (λ s m e. ap (λ (o : Bool). minus o (slot r s && eqb m (r .a))) (g .standing s m e))) _ _ (λ s m v e. ap (λ (o : Bool). minus o (slot r s && eqb m (r .a))) (g .attend s m v e))
+  change-same addAttend = agree-attend S _ _ d g _ _ (λ s m v e. ap (λ (o : Bool). plus o (slot r s && eqb m (r .a) && eqb v (r .b))) (g .attend s m v e))
+  change-same eraseAttend = agree-attend S _ _ d g _ _ (λ s m v e. ap (λ (o : Bool). minus o (slot r s && eqb m (r .a) && eqb v (r .b))) (g .attend s m v e))
+  change-same addConf = agree-conf S _ _ d g _ _ (λ s c m e. ap (λ (o : Option ℕ). cond (slot r s && eqb c (r .a) && eqb m (r .b)) (some (r .info)) o) (g .conf s c m e))
+  change-same eraseConf = agree-conf S _ _ d g _ _ (λ s c m e. ap (λ (o : Option ℕ). cond (slot r s && eqb m (r .b)) none o) (g .conf s c m e))
+  change-same addLunch = agree-lunch S _ _ d g _ _ (λ a m. ap (λ (o : Option Lunch). cond (slot r d && eqb a (r .a) && eqb m (r .b)) (some (record { seats = r .n; info = r .info })) o) (g .lunch a m))
+  change-same eraseLunch = agree-lunch S _ _ d g _ _ (λ a m. ap (λ (o : Option Lunch). cond (slot r d && eqb a (r .a) && eqb m (r .b)) none o) (g .lunch a m))
+  change-same eraseConfAndLunch = agree-lunch S _ _ d (agree-conf S _ _ d g _ _ (λ s c m e. ap (λ (o : Option ℕ). cond (slot r s && eqb m (r .b)) none o) (g .conf s c m e))) _ _ (λ a m. ap (λ (o : Option Lunch). cond (reach S r eraseConfAndLunch d && eqb m (r .b)) none o) (g .lunch a m))
+  change-same whichMeeting = g
+  change-same countLeave = g
+  change-same seatsLeft = g
+  change-same freeRoom = g
+
+-- the change on a date that is not one of the request's
+plus-off : (old t : Bool) → t ≡ false → old || t ≡ old
+plus-off true t e = refl
+plus-off false t e = e
+
+minus-off : (old t : Bool) → t ≡ false → old && not t ≡ old
+minus-off true t e = ap not e
+minus-off false t e = refl
+
+cond-off : {A : Type 0} (t : Bool) (w o : Option A) → t ≡ false → cond t w o ≡ o
+cond-off t w o e = rw e
+
+agree-refl : (S : Settings) (X : Sets) (d : ℕ) → Agree S X X d
+agree-refl S X d =
+    record { leave = λ v. refl; standing = λ s m e. refl; hotel = λ a b. refl; ride = λ t a b e. refl; attend = λ s a b e. refl; conf = λ s a b e. refl; lunch = λ a b. refl }
+
+module _ (S : Settings) (X : Sets) (r : Request) (d : ℕ) where
+  -- no slot of the request is on the date
+  slot-out : (k : Kind) (i : ℕ) → reach S r k d ≡ false → dateOf S (row k .unit) i ≡ d → slot r i ≡ false
+  slot-out k i h e = never (slot r i) (λ t. true≢false (sym (rw e at (slot-reach S r k i t)) ∙ h))
+
+  change-out : (k : Kind) → reach S r k d ≡ false → Agree S (setsOf (change (state S X) r k)) X d
+  unfolding change
+  change-out addLeave h = agree-leave S _ X d (agree-refl S X d) _ _ (λ v. plus-off (X .leave d v) (slot r d && eqb v (r .b)) (rw (slot-out addLeave d h refl)))
+  change-out endLeave h = agree-leave S _ X d (agree-refl S X d) _ _ (λ v. minus-off (X .leave d v) (slot r d && eqb v (r .b)) (rw (slot-out endLeave d h refl)))
+  change-out removeVisitor h = agree-attend S _ X d (agree-ride S _ X d (agree-hotel S _ X d (agree-leave S _ X d (agree-refl S X d) _ _ (λ v. minus-off (X .leave d v) (slot r d && eqb v (r .b)) (rw (slot-out removeVisitor d h refl)))) _ _ (λ a v. minus-off (X .hotel d a v) (slot r d && eqb v (r .b)) (rw (slot-out removeVisitor d h refl)))) _ _ (λ t a v e. minus-off (X .ride t a v) (slot r (dateOfTime S t) && eqb v (r .b)) (rw (slot-out removeVisitor (dateOfTime S t) h e)))) _ _ (λ s a v e. minus-off (X .attend s a v) (slot r (dateOfSession S s) && eqb v (r .b)) (rw (slot-out removeVisitor (dateOfSession S s) h e)))
+  change-out addHotel h = agree-hotel S _ X d (agree-refl S X d) _ _ (λ a v. plus-off (X .hotel d a v) (slot r d && eqb a (r .a) && eqb v (r .b)) (rw (slot-out addHotel d h refl)))
+  change-out eraseHotel h = agree-hotel S _ X d (agree-refl S X d) _ _ (λ a v. minus-off (X .hotel d a v) (slot r d && eqb a (r .a) && eqb v (r .b)) (rw (slot-out eraseHotel d h refl)))
+  change-out addRide h = agree-ride S _ X d (agree-refl S X d) _ _ (λ t a v e. plus-off (X .ride t a v) (slot r t && eqb a (r .a) && eqb v (r .b)) (rw (slot-out addRide t h e)))
+  change-out eraseRide h = agree-ride S _ X d (agree-refl S X d) _ _ (λ t a v e. minus-off (X .ride t a v) (slot r t && eqb a (r .a) && eqb v (r .b)) (rw (slot-out eraseRide t h e)))
+  change-out addStanding h = agree-standing S _ X d (agree-refl S X d) _ _ (λ s m e. plus-off (X .standing s m) (slot r s && eqb m (r .a)) (rw (slot-out addStanding s h e)))
+  change-out endStanding h = agree-attend S _ X d (agree-standing S _ X d (agree-refl S X d) _ _ (λ s m e. minus-off (X .standing s m) (slot r s && eqb m (r .a)) (rw (slot-out endStanding s h e)))) _ _ (λ s m v e. minus-off (X .attend s m v) (slot r s && eqb m (r .a)) (rw (slot-out endStanding s h e)))
+  change-out addAttend h = agree-attend S _ X d (agree-refl S X d) _ _ (λ s m v e. plus-off (X .attend s m v) (slot r s && eqb m (r .a) && eqb v (r .b)) (rw (slot-out addAttend s h e)))
+  change-out eraseAttend h = agree-attend S _ X d (agree-refl S X d) _ _ (λ s m v e. minus-off (X .attend s m v) (slot r s && eqb m (r .a) && eqb v (r .b)) (rw (slot-out eraseAttend s h e)))
+  change-out addConf h = agree-conf S _ X d (agree-refl S X d) _ _ (λ s c m e. cond-off (slot r s && eqb c (r .a) && eqb m (r .b)) _ (X .conf s c m) (rw (slot-out addConf s h e)))
+  change-out eraseConf h = agree-conf S _ X d (agree-refl S X d) _ _ (λ s c m e. cond-off (slot r s && eqb m (r .b)) _ (X .conf s c m) (rw (slot-out eraseConf s h e)))
+  change-out addLunch h = agree-lunch S _ X d (agree-refl S X d) _ _ (λ a m. cond-off (slot r d && eqb a (r .a) && eqb m (r .b)) _ (X .lunch d a m) (rw (slot-out addLunch d h refl)))
+  change-out eraseLunch h = agree-lunch S _ X d (agree-refl S X d) _ _ (λ a m. cond-off (slot r d && eqb a (r .a) && eqb m (r .b)) _ (X .lunch d a m) (rw (slot-out eraseLunch d h refl)))
+  change-out eraseConfAndLunch h = agree-lunch S _ X d (agree-conf S _ X d (agree-refl S X d) _ _ (λ s c m e. cond-off (slot r s && eqb m (r .b)) _ (X .conf s c m) (rw (slot-out eraseConfAndLunch s h e)))) _ _ (λ a m. cond-off (reach S r eraseConfAndLunch d && eqb m (r .b)) _ (X .lunch d a m) (rw h))
+  change-out whichMeeting h = agree-refl S X d
+  change-out countLeave h = agree-refl S X d
+  change-out seatsLeft h = agree-refl S X d
+  change-out freeRoom h = agree-refl S X d
