@@ -1,36 +1,32 @@
 -- What a question, a value and a change look at: two states with the same settings and, on the dates of a request, the same entries
 -- give it the same answer; and a request changes no entry on another date.
 -- Assumes nothing.
-use Prim.Native.Nat.{ℕ, zero, suc, _+_, _-_, _*_, _/_, _≤_, _<_}
+use Prim.Native.Nat.{ℕ, suc, _+_, _-_, _/_, _≤_, _<_}
 use mathlib.Core.Path.{_≡_, refl, sym, _∙_, ap, ap₂, subst, fun-ext}
 use mathlib.Core.Logic.{_⊎_, inl, inr}
-use mathlib.Core.Bool.{Bool, true, false, not, _&&_, _||_, cond, true≢false, false≢true}
+use mathlib.Core.Bool.{Bool, true, false, not, _&&_, _||_, cond, true≢false}
 use mathlib.Core.Option.{Option, none, some}
-use mathlib.Core.List.{List, [], _∷_, _++_}
+use mathlib.Core.List.{_++_}
 use native.Mathlib.Nat.{le-div-iff-mul-le, le-trans, div-mul-le-self, div-zero, eq-zero-or-pos}
 use native.Mathlib.Omega.{arith}
-use lib.Dec.{leb, ltb, eqb}
-use borrow.Author.Tests.{eqb-true, leb-true, leb-false}
+use lib.Dec.{leb, eqb}
+use borrow.Author.Tests.{eqb-true}
 use Rattle.model.specs.declared.Settings.{Settings}
 use Rattle.model.specs.declared.Request.{Request}
-use Rattle.model.specs.declared.Answer.{Answer}
-use Rattle.model.specs.declared.Answer.the-variants.{Done, Refused}
-use Rattle.model.specs.Bounded.{lowest, isSome, any, within, failing, sum, count, count2, one, found}
+use Rattle.model.specs.Bounded.{isSome, any, within, failing, sum, count, count2, one, found}
 use Rattle.model.specs.Site.{capacity, allSessions, allTimes, dateOfSession, dateOfTime}
 use Rattle.model.specs.State.{State, Lunch, Pairs, hotels, rides, attends, confs, lunches, booked, reserved, seatsOf}
-use Rattle.model.specs.Kinds.{Kind, Unit, dates, sessions, times, row, kindOf, dateOf}
+use Rattle.model.specs.Kinds.{Kind, Unit, dates, sessions, times, row, dateOf}
 use Rattle.model.specs.Kinds.{Kind.addLeave, Kind.endLeave, Kind.removeVisitor, Kind.addHotel, Kind.eraseHotel, Kind.addRide, Kind.eraseRide}
 use Rattle.model.specs.Kinds.{Kind.addStanding, Kind.endStanding, Kind.addAttend, Kind.eraseAttend, Kind.addConf, Kind.eraseConf}
 use Rattle.model.specs.Kinds.{Kind.addLunch, Kind.eraseLunch, Kind.eraseConfAndLunch, Kind.whichMeeting, Kind.countLeave, Kind.seatsLeft, Kind.freeRoom}
-use Rattle.model.specs.Questions.{Question, scope, whole, eachSlot, eachDate, test, ask, number, always, further, judge, refusal, Refusal, confHeld, lunchHeld, bookings, standsOn, meetingOf, lowestFree, limitA, limitB}
-use Rattle.model.specs.Questions.{Question.unusedZero, Question.aBelow, Question.bBelow, Question.slotsFit, Question.seatsFit, Question.onLeave, Question.stands, Question.standsThatDate, Question.absent, Question.free, Question.elsewhere}
-use Rattle.model.specs.Questions.{Question.roomLeft, Question.present, Question.hasConf, Question.hasLunch, Question.noBookings, Question.notHeld, Question.attended, Question.attendsOne, Question.roomFree, Arg, inA, inB}
-use Rattle.model.specs.Machine.{Outcome, value, change, slot, plus, minus, step, finish, stepKind, withLeave, withStanding, withHotel, withRide, withAttend, withConf, withLunch}
+use Rattle.model.specs.Questions.{Question, scope, eachSlot, test, ask, always, further, judge, confHeld, lunchHeld, bookings, standsOn, meetingOf, lowestFree, limitA, limitB}
+use Rattle.model.specs.Questions.{Question.onLeave, Question.stands, Question.standsThatDate, Question.absent, Question.free, Question.elsewhere}
+use Rattle.model.specs.Questions.{Question.roomLeft, Question.present, Question.hasConf, Question.noBookings, Question.notHeld, Question.attended, Question.attendsOne, inA, inB}
+use Rattle.model.specs.Machine.{value, change, slot, plus, minus, withLeave, withStanding, withHotel, withRide, withAttend, withConf, withLunch}
 use Rattle.model.specs.Laws.{unitOf}
-use Rattle.model.proofs.Search.{lowest-same, within-true, true-within, and-left, and-right}
-use Rattle.model.proofs.Keeps.{Yes, judged, slots-fit}
+use Rattle.model.proofs.Search.{never, lowest-same, within-true, true-within}
 use Rattle.model.proofs.Done.{Alike, judge-same}
-use Rattle.model.proofs.Undo.{never}
 
 -- the seven sets without the settings
 pub record Sets : Type 0 where
@@ -228,7 +224,7 @@ module _ (S : Settings) (X Y : Sets) where
   further-same r freeRoom g = (ap (λ (o : Option ℕ). cond (isSome o) none (some 0)) (free-same (r .first) (r .last) (λ i e. at r freeRoom g i e)), tt)
 
   -- the value of a kind
-  value-same : (r : Request) (k : Kind) → slot r (r .first) ≡ true → ((d : ℕ) → reach S r k d ≡ true → Agree S X Y d) → value (state S X) r k ≡ value (state S Y) r k
+  pub value-same : (r : Request) (k : Kind) → slot r (r .first) ≡ true → ((d : ℕ) → reach S r k d ≡ true → Agree S X Y d) → value (state S X) r k ≡ value (state S Y) r k
   unfolding value
   value-same r addLeave e g = refl
   value-same r endLeave e g = refl
@@ -276,7 +272,7 @@ module _ (S : Settings) (X Y : Sets) (d : ℕ) (g : Agree S X Y d) where
 
 -- the change in two states
 module _ (S : Settings) (X Y : Sets) (r : Request) (d : ℕ) (g : Agree S X Y d) where
-  change-same : (k : Kind) → Agree S (setsOf (change (state S X) r k)) (setsOf (change (state S Y) r k)) d
+  pub change-same : (k : Kind) → Agree S (setsOf (change (state S X) r k)) (setsOf (change (state S Y) r k)) d
   unfolding change
   change-same addLeave = agree-leave S _ _ d g _ _ (λ v. ap (λ (o : Bool). plus o (slot r d && eqb v (r .b))) (g .leave v))
   change-same endLeave = agree-leave S _ _ d g _ _ (λ v. ap (λ (o : Bool). minus o (slot r d && eqb v (r .b))) (g .leave v))
@@ -311,7 +307,7 @@ minus-off false t e = refl
 cond-off : {A : Type 0} (t : Bool) (w o : Option A) → t ≡ false → cond t w o ≡ o
 cond-off t w o e = rw e
 
-agree-refl : (S : Settings) (X : Sets) (d : ℕ) → Agree S X X d
+pub agree-refl : (S : Settings) (X : Sets) (d : ℕ) → Agree S X X d
 agree-refl S X d =
     record { leave = λ v. refl; standing = λ s m e. refl; hotel = λ a b. refl; ride = λ t a b e. refl; attend = λ s a b e. refl; conf = λ s a b e. refl; lunch = λ a b. refl }
 
@@ -320,7 +316,7 @@ module _ (S : Settings) (X : Sets) (r : Request) (d : ℕ) where
   slot-out : (k : Kind) (i : ℕ) → reach S r k d ≡ false → dateOf S (row k .unit) i ≡ d → slot r i ≡ false
   slot-out k i h e = never (slot r i) (λ t. true≢false (sym (rw e at (slot-reach S r k i t)) ∙ h))
 
-  change-out : (k : Kind) → reach S r k d ≡ false → Agree S (setsOf (change (state S X) r k)) X d
+  pub change-out : (k : Kind) → reach S r k d ≡ false → Agree S (setsOf (change (state S X) r k)) X d
   unfolding change
   change-out addLeave h = agree-leave S _ X d (agree-refl S X d) _ _ (λ v. plus-off (X .leave d v) (slot r d && eqb v (r .b)) (rw (slot-out addLeave d h refl)))
   change-out endLeave h = agree-leave S _ X d (agree-refl S X d) _ _ (λ v. minus-off (X .leave d v) (slot r d && eqb v (r .b)) (rw (slot-out endLeave d h refl)))
@@ -342,3 +338,9 @@ module _ (S : Settings) (X : Sets) (r : Request) (d : ℕ) where
   change-out countLeave h = agree-refl S X d
   change-out seatsLeft h = agree-refl S X d
   change-out freeRoom h = agree-refl S X d
+
+-- all the questions of a request together
+pub judged-same : (S : Settings) (X Y : Sets) (r : Request) (k : Kind) → ((d : ℕ) → reach S r k d ≡ true → Agree S X Y d)
+    → judge (state S X) r k (always ++ further k) ≡ judge (state S Y) r k (always ++ further k)
+unfolding ask test
+judged-same S X Y r k g = judge-same (state S X) (state S Y) r k (always ++ further k) (refl, (refl, (refl, (refl, further-same S X Y r k g))))

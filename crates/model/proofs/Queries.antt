@@ -21,11 +21,10 @@ use Rattle.model.specs.Questions.{Question, test, ask, number, always, j
 use Rattle.model.specs.Questions.{Question.aBelow, Question.bBelow, Question.seatsFit, Question.stands, Question.standsThatDate, Question.absent, Question.free, Question.elsewhere}
 use Rattle.model.specs.Questions.{Question.roomLeft, Question.present, Question.attendsOne, Question.roomFree, inB}
 use Rattle.model.specs.Machine.{Outcome, value, slot, step}
-use Rattle.model.proofs.Search.{Lowest, lowest-is, lowest-by, any-false, true-any, within-true}
+use Rattle.model.proofs.Search.{never, Lowest, lowest-is, lowest-by, any-false, true-any, within-true}
 use Rattle.model.proofs.Laws.{Sound, Bounds}
 use Rattle.model.proofs.Keeps.{Yes, judged, yes, yes-slot, slots-fit}
 use Rattle.model.proofs.Done.{Accepted, accepted-step, refused-step, done-of, done-value, judge-yes, judge-no, judge-some, ask-whole, ask-slots, ask-first}
-use Rattle.model.proofs.Undo.{never}
 use Rattle.model.proofs.Again.{always-yes, further-yes, first-slot, accept, refuse, yes-both, fits-by}
 
 -- the answer of an accepted request

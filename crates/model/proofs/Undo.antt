@@ -20,7 +20,7 @@ use Rattle.model.specs.Questions.{Question, test, ask, always, further, 
 use Rattle.model.specs.Questions.{Question.aBelow, Question.onLeave, Question.stands, Question.absent, Question.free, Question.elsewhere}
 use Rattle.model.specs.Questions.{Question.present, Question.hasConf, Question.attended, inA}
 use Rattle.model.specs.Machine.{Outcome, value, change, slot, step, withHotel, withRide, withAttend, withConf, withLunch, request, run}
-use Rattle.model.proofs.Search.{false-any, true-any, any-false, and-left, and-right, and-true}
+use Rattle.model.proofs.Search.{never, false-any, true-any, any-false, and-left, and-right, and-true}
 use Rattle.model.proofs.Laws.{Sound, hasOneA, hasOneB}
 use Rattle.model.proofs.Keeps.{Yes, mine, yes, yes-slot}
 use Rattle.model.proofs.Done.{Accepted, accepted-step, ask-slots}
@@ -79,10 +79,6 @@ twice false c m w o = refl
 minus-gone : (old t : Bool) → t ≡ true → old && not t ≡ false
 minus-gone true t e = ap not e
 minus-gone false t e = refl
-
-pub never : (t : Bool) → (t ≡ true → ⊥) → t ≡ false
-never true h = absurd (h refl)
-never false h = refl
 
 plus-there : (old t : Bool) → t ≡ true → old || t ≡ true
 plus-there true t e = refl
