@@ -9,7 +9,18 @@ use second::gen::{
 use second::machine;
 use std::collections::BTreeMap;
 
-const SEED: u64 = 0xb00c;
+/// A number from the environment: SEED for another run, SCALE for a run so many times as long.
+fn number(name: &str, usual: u64) -> u64 {
+    std::env::var(name).ok().and_then(|word| word.parse().ok()).unwrap_or(usual)
+}
+
+fn seed(test: u64) -> u64 {
+    number("SEED", 0xb00c) + test
+}
+
+fn times(usual: u64) -> u64 {
+    usual * number("SCALE", 1)
+}
 
 fn count(counts: &mut BTreeMap<u32, u32>, number: u32) {
     *counts.entry(number).or_default() += 1;
@@ -22,9 +33,9 @@ fn asked(requests: &[machine::Request]) -> Vec<u32> {
 /// Whole lists from fresh, through `serve`: answers and every word.
 #[test]
 fn lists_from_fresh() {
-    let mut rng = Rng::new(SEED);
+    let mut rng = Rng::new(seed(0));
     let mut numbers = BTreeMap::new();
-    let lists = 2500;
+    let lists = times(2500);
     for _ in 0..lists {
         let settings = sites::site_within(&mut rng, Size::Any, 60_000);
         let requests = list_from_fresh(&mut rng, settings.clone(), 80, Mix::USUAL);
@@ -39,16 +50,16 @@ fn lists_from_fresh() {
         assert!(ours == theirs, "{settings:?}");
         our_answers[..240].chunks(3).for_each(|answer| count(&mut numbers, answer[0]));
     }
-    println!("seed {SEED}: {lists} lists of 80, by number {numbers:?}");
+    println!("seed {}: {lists} lists of 80, by number {numbers:?}", seed(0));
     assert!((3..=22).all(|number| numbers[&number] > 100));
 }
 
 /// One request on a lawful, damaged or junk book.
 #[test]
 fn requests_on_raw_books() {
-    let mut rng = Rng::new(SEED + 1);
+    let mut rng = Rng::new(seed(1));
     let mut numbers = BTreeMap::new();
-    for turn in 0..6000 {
+    for turn in 0..times(6000) {
         let settings = site(&mut rng, Size::Small);
         let mut state = deep_state(&mut rng, settings, 15);
         let mut ours = if turn % 2 == 0 { book::words(&state) } else { junk_book(&mut rng) };
@@ -59,16 +70,16 @@ fn requests_on_raw_books() {
         assert_eq!(ours, theirs);
         count(&mut numbers, answer.number);
     }
-    println!("seed {}: requests on raw books by number {numbers:?}", SEED + 1);
+    println!("seed {}: requests on raw books by number {numbers:?}", seed(1));
     assert!((0..=22).all(|number| numbers.contains_key(&number)));
 }
 
 /// Checking: each rule broken alone, lawful books, and lists on them.
 #[test]
 fn checks_of_damaged_books() {
-    let mut rng = Rng::new(SEED + 2);
+    let mut rng = Rng::new(seed(2));
     let mut numbers = BTreeMap::new();
-    for _ in 0..400 {
+    for _ in 0..times(400) {
         let settings = sites::site_within(&mut rng, Size::Any, 30_000);
         let state = deep_state(&mut rng, settings, 40);
         assert_eq!(plain::check(&book::words(&state)).number, 0);
@@ -82,14 +93,14 @@ fn checks_of_damaged_books() {
         assert_eq!(answer.words(), book::check(&junk).words());
         count(&mut numbers, answer.number);
     }
-    println!("seed {}: checks by number {numbers:?}", SEED + 2);
+    println!("seed {}: checks by number {numbers:?}", seed(2));
 }
 
 /// Byte streams, cut into random chunks.
 #[test]
 fn streams_in_chunks() {
-    let mut rng = Rng::new(SEED + 3);
-    let (mut lines, streams) = (0, 3000);
+    let mut rng = Rng::new(seed(3));
+    let (mut lines, streams) = (0, times(3000));
     for turn in 0..streams {
         let stream = if turn % 2 == 0 { clean_stream(&mut rng, 30) } else { damaged_stream(&mut rng, 30) };
         let expected = second::frames::frames(&stream);
@@ -104,15 +115,15 @@ fn streams_in_chunks() {
         assert_eq!(out, expected);
         lines += expected.len() / 25;
     }
-    println!("seed {}: {streams} streams, {lines} answer lines", SEED + 3);
+    println!("seed {}: {streams} streams, {lines} answer lines", seed(3));
 }
 
 /// Books about half full, straight in words, with the trial load on them.
 #[test]
 fn traffic_on_full_books() {
-    let mut rng = Rng::new(SEED + 4);
+    let mut rng = Rng::new(seed(4));
     let mut numbers = BTreeMap::new();
-    for _ in 0..60 {
+    for _ in 0..times(60) {
         let settings = sites::site_within(&mut rng, Size::Any, 60_000);
         let mut ours = full_book(&mut rng, &settings, 50);
         let mut theirs = ours.clone();
@@ -126,6 +137,6 @@ fn traffic_on_full_books() {
         assert!(ours == theirs);
         our_answers.chunks(3).for_each(|answer| count(&mut numbers, answer[0]));
     }
-    println!("seed {}: traffic by number {numbers:?}", SEED + 4);
+    println!("seed {}: traffic by number {numbers:?}", seed(4));
     assert!((1..=7).all(|number| !numbers.contains_key(&number)), "the trial load passes 3 to 7");
 }

@@ -10,9 +10,10 @@ use super::Rng;
 use crate::book::{self, length, words, Rule};
 use crate::frames::{frames, words_line};
 use crate::machine::{Answer, Request, State};
+use std::collections::BTreeMap;
 
-/// How many of each sort there are; checks of broken rules come once for each rule on each site.
-const SITES: usize = 2;
+/// How many of each sort there are: books for each rule that a book can break, then the others.
+const BOOKS_A_RULE: usize = 2;
 const JUNK: usize = 20;
 const CALLS: usize = 30;
 const LAYINGS: usize = 12;
@@ -31,14 +32,8 @@ pub enum Case {
 
 pub fn cases(seed: u64) -> Vec<Case> {
     let mut rng = Rng::new(seed ^ 0xca5e);
-    let mut all = Vec::new();
-    for _ in 0..SITES {
-        all.extend(broken_rules(&mut rng));
-    }
-    for _ in 0..JUNK {
-        let book = short_junk(&mut rng);
-        all.push(checked(book));
-    }
+    let mut all = broken_rules(&mut rng);
+    all.extend((0..JUNK).map(|_| checked(short_junk(&mut rng))));
     all.extend((0..CALLS).map(|turn| called(&mut rng, turn % 3 == 0)));
     all.extend((0..LAYINGS).map(|turn| laid(&mut rng, turn % 3)));
     all.extend((0..STREAMS).map(|turn| input(&mut rng, turn)));
@@ -68,11 +63,21 @@ fn checked(book: Vec<u32>) -> Case {
     Case::Check { book, answer }
 }
 
-/// A lawful book, and the same with each rule that the site can break.
+/// Lawful books, and books of the same states with one rule broken, until every rule has its number.
 fn broken_rules(rng: &mut Rng) -> Vec<Case> {
-    let state = small_state(rng);
-    let mut all = vec![checked(words(&state))];
-    all.extend(Rule::breakable().filter_map(|rule| damaged(rng, &state, rule)).map(checked));
+    let mut all = Vec::new();
+    let mut wanted: BTreeMap<Rule, usize> = Rule::breakable().map(|rule| (rule, BOOKS_A_RULE)).collect();
+    while !wanted.is_empty() {
+        let state = small_state(rng);
+        all.push(checked(words(&state)));
+        for (rule, left) in &mut wanted {
+            if let Some(book) = damaged(rng, &state, *rule) {
+                all.push(checked(book));
+                *left -= 1;
+            }
+        }
+        wanted.retain(|_, left| *left > 0);
+    }
     all
 }
 
