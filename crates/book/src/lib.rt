@@ -1,4 +1,6 @@
 // The words of a book: units, grids, rows, settings and laying.
 pub mod found;
-pub mod units;
 pub mod grid;
+pub mod rows;
+pub mod settings;
+pub mod units;
