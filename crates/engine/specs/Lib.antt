@@ -1,0 +1,2 @@
+pub mod Stub
+pub mod Lists
