@@ -61,15 +61,15 @@ add-i-2 : tie.Need-add-i-2 Inv-loop μ-loop Inv-loop2 μ-loop2
 add-i-2 c = omega arith
 
 loop2-less : tie.Need-loop2-less Inv-loop μ-loop Inv-loop2 μ-loop2
-loop2-less c = let r = c .before .loop2 in omega (arith, length-set (r .book) (r .i) 0)
+loop2-less c = simp length-set (omega arith)
 
 loop2-again : tie.Need-loop2-again Inv-loop μ-loop Inv-loop2 μ-loop2
 loop2-again c =
     let r = c .before .loop2 in
     let w = c .before .before .before .before .args .words .now in (
       omega arith,
-      omega (arith, length-set (r .book) (r .i) 0),
-      filled-more w _ (r .book) (r .i) 0 (r .inv .2) (omega arith) (sym (List·getD-eq-default w 0 {n = r .i} (omega arith))),
+      simp length-set (omega arith),
+      filled-more w _ (r .book) (r .i) _ (r .inv .2) (omega arith) (sym (List·getD-eq-default w 0 {n = r .i} (omega arith))),
     )
 
 same-length : tie.Need-same-length Inv-loop μ-loop Inv-loop2 μ-loop2
