@@ -10,7 +10,7 @@ use native.Mathlib.Numerals.{add-one}
 use native.Mathlib.Omega.{arith}
 use lib.Dec.{eqb}
 use lib.ListN.{getD, set, replicate, length-set}
-use lib.Bits.{bitAnd, and-mask, bitOr, or-shr, or-mod}
+use lib.Bits.{bitOr, or-shr, or-mod}
 use lib.Seq.{getD-set-same, getD-set-other}
 use borrow.Author.Tests.{not-false}
 use borrow.Author.Count.{below-more}

@@ -9,7 +9,7 @@ use Rattle.model.specs.declared.Settings.{Settings}
 use Rattle.model.specs.Bounded.{any, sum, bit}
 use Rattle.model.specs.Words.{groups, base, Region, leaves, hotelCells, standings, attendCells, confPairs, lunchTriples, rideCells}
 use Rattle.checking.specs.declared.dates.Shares.{Shares}
-use Rattle.checking.specs.Rows.{Padded, rowAt, seatsIn}
+use Rattle.checking.specs.Rows.{Blank, Padded, rowAt, seatsIn}
 use Rattle.pool.specs.Pool.{member}
 
 -- a row of visitors: within the limit, each with leave, each once
@@ -49,6 +49,14 @@ pub record Day (S : Settings) (caps leave hotel stand attend conf lunch ride : L
       → Eaten (S .dining) caps (standsIn stand (S .sessions) (groups (S .meetings)) j) (getD lunch (j * 3) 0) (getD lunch (j * 3 + 1) 0) (getD lunch (j * 3 + 2) 0)
   pub sums : (g : ℕ) → g < 17 → sum (seatsIn lunch g) (S .meetings) ≤ getD caps g 0
   pub ridden : (q : ℕ) → q < S .times → Guested (rowAt (S .transports) q ride) leave (S .visitors)
+
+-- a date without entries
+pub record Empty (hotel attend conf lunch ride : List ℕ) : Type 0 where
+  pub hotels : Blank hotel
+  pub attends : Blank attend
+  pub confs : Blank conf
+  pub lunches : Blank lunch
+  pub rides : Blank ride
 
 -- the lengths of a date's parts
 pub record Long (S : Settings) (leave hotel stand attend conf lunch ride : List ℕ) : Type 0 where
