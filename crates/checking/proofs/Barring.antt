@@ -10,33 +10,26 @@ use native.Mathlib.Numerals.{add-one}
 use native.Mathlib.Omega.{arith}
 use lib.Dec.{eqb}
 use lib.ListN.{getD, set, replicate, length-set}
-use lib.Bits.{bitAnd, and-mask, bitOr, or-shr, or-mod}
+use lib.Bits.{bitOr, or-shr, or-mod}
 use lib.Seq.{getD-set-same, getD-set-other}
 use borrow.Author.Tests.{not-false}
 use borrow.Author.Count.{below-more}
 use lib.Pow.{pow-pos}
 use Rattle.model.specs.Bounded.{bit, any}
 use Rattle.model.proofs.Search.{bool-eq, any-true, true-any}
-use Rattle.checking.specs.Rows.{Barred, Most, ors, Columns, has}
+use Rattle.checking.specs.Rows.{Barred, Most, ors, Columns}
+use Rattle.pool.specs.Pool.{member}
 use Rattle.checking.proofs.Zeros.{none-zero}
 
 -- the bits of a table
-pub table-more : (row : List ℕ) (v : ℕ) (t : List Bool) (here : Bool) → v < 512 → Barred row v t → here ≡ not (bit (getD row (v / 32) 0) (v % 32)) → Barred row (v + 1) (set t (v + 1) here)
+pub table-more : (row : List ℕ) (v : ℕ) (t : List Bool) (here : Bool) → v < 512 → Barred row v t → here ≡ not (member row v) → Barred row (v + 1) (set t (v + 1) here)
 table-more row v t here h b e = record {
   size = length-set t (v + 1) here ∙ b .size;
   none = getD-set-other t (v + 1) 0 here false (λ q. omega (arith, q)) ∙ b .none;
-  each = below-more (λ u. getD (set t (v + 1) here) (suc u) false ≡ not (bit (getD row (u / 32) 0) (u % 32))) v
+  each = below-more (λ u. getD (set t (v + 1) here) (suc u) false ≡ not (member row u)) v
       (λ u l. getD-set-other t (v + 1) (suc u) here false (λ q. omega (arith, q)) ∙ b .each u l)
       (ap (λ (k : ℕ). getD (set t (v + 1) here) k false) (sym (add-one v)) ∙ getD-set-same t (v + 1) here false (omega (arith, b .size)) ∙ e);
 }
-
-pub bit-clear : (w k : ℕ) → eqb (bitAnd (w / 2 ^ k) 1) 0 ≡ not (bit w k)
-bit-clear w k = ap (λ (x : ℕ). eqb x 0) (and-mask (w / 2 ^ k) 1) ∙ go (w / 2 ^ k % 2) (omega arith)
-  where
-    go : (d : ℕ) → d < 2 → eqb d 0 ≡ not (eqb d 1)
-    go zero h = refl
-    go (suc zero) h = refl
-    go (suc (suc d)) h = absurd (omega arith)
 
 pub most-more : (t : List Bool) (v limit : ℕ) (m : List ℕ) (here : ℕ) → v < 512 → Most t v limit m → here ≡ cond (getD t (suc v) false) 0 limit → Most t (v + 1) limit (set m v here)
 most-more t v limit m here h b e = record {
@@ -120,21 +113,20 @@ column-more rows n width k r here h b e = record {
 pub table-less : (row : List ℕ) (n m : ℕ) (t : List Bool) → m ≤ n → Barred row n t → Barred row m t
 table-less row n m t h b = record { size = b .size; none = b .none; each = λ v l. b .each v (omega arith) }
 
-pub table-bit : (row : List ℕ) (i k : ℕ) (t : List Bool) → i < 16 → k < 32 → Barred row (i * 32 + k) t
-    → Barred row (i * 32 + (k + 1)) (set t (i * 32 + k + 1) (eqb (bitAnd (getD row i 0 / 2 ^ k) 1) 0))
-table-bit row i k t h l b =
+pub table-bit : (row : List ℕ) (i k : ℕ) (t : List Bool) (here : Bool) → i < 16 → k < 32 → here ≡ not (bit (getD row i 0) k) → Barred row (i * 32 + k) t
+    → Barred row (i * 32 + (k + 1)) (set t (i * 32 + k + 1) here)
+table-bit row i k t here h l q b =
     let e : (i * 32 + k) / 32 ≡ i = omega arith in
     let f : (i * 32 + k) % 32 ≡ k = omega arith in
     let g : i * 32 + k + 1 ≡ i * 32 + (k + 1) = omega arith in
-    subst (λ (n : ℕ). Barred row n (set t (i * 32 + k + 1) (eqb (bitAnd (getD row i 0 / 2 ^ k) 1) 0))) g
-    (table-more row (i * 32 + k) t _ (omega arith) b
-    (bit-clear (getD row i 0) k ∙ ap₂ (λ (x y : ℕ). not (bit (getD row x 0) y)) (sym e) (sym f)))
+    subst (λ (n : ℕ). Barred row n (set t (i * 32 + k + 1) here)) g
+    (table-more row (i * 32 + k) t here (omega arith) b (q ∙ ap₂ (λ (x y : ℕ). not (bit (getD row x 0) y)) (sym e) (sym f)))
 
 -- a table and its bits
 module _ (row : List ℕ) (n : ℕ) (t : List Bool) (b : Barred row n t) where
-  pub cell-has : (w : ℕ) → w ≤ n → getD t w false ≡ false → (m : ℕ) → w ≡ suc m → has row m ≡ true
-  cell-has w h e m q = not-false (has row m) (sym (b .each m (omega arith)) ∙ ap (λ (k : ℕ). getD t k false) (sym q) ∙ e)
+  pub cell-member : (w : ℕ) → w ≤ n → getD t w false ≡ false → (m : ℕ) → w ≡ suc m → member row m ≡ true
+  cell-member w h e m q = not-false (member row m) (sym (b .each m (omega arith)) ∙ ap (λ (k : ℕ). getD t k false) (sym q) ∙ e)
 
-  pub has-cell : (w : ℕ) → w ≤ n → ((m : ℕ) → w ≡ suc m → has row m ≡ true) → getD t w false ≡ false
-  has-cell zero h f = b .none
-  has-cell (suc m) h f = b .each m (omega arith) ∙ ap not (f m refl)
+  pub member-cell : (w : ℕ) → w ≤ n → ((m : ℕ) → w ≡ suc m → member row m ≡ true) → getD t w false ≡ false
+  member-cell zero h f = b .none
+  member-cell (suc m) h f = b .each m (omega arith) ∙ ap not (f m refl)

@@ -9,30 +9,31 @@ use native.Mathlib.Numerals.{add-one}
 use native.Mathlib.Omega.{arith}
 use lib.ListN.{length, getD}
 use borrow.Author.Tests.{not-false}
-use Rattle.checking.specs.Rows.{Barred, BarredDate, Most, Guests, Session, Triple, Lunches, has}
+use Rattle.checking.specs.Rows.{Barred, BarredDate, Most, Guests, Session, Triple, Lunches}
+use Rattle.pool.specs.Pool.{member}
 use Rattle.checking.specs.Days.{Guested, Met, Eaten, standsIn}
-use Rattle.checking.proofs.Barring.{cell-has, has-cell}
+use Rattle.checking.proofs.Barring.{cell-member, member-cell}
 
 module _ (leave : List ℕ) (limit : ℕ) (t : List Bool) (b : Barred leave limit t) where
   pub guested : (row : List ℕ) → Guests row limit t → Guested row leave limit
-  guested row g = record { range = g .range; onLeave = λ i v h e. cell-has leave limit t b (getD row i 0) (g .range i h) (g .free i h) v e; once = g .once }
+  guested row g = record { range = g .range; onLeave = λ i v h e. cell-member leave limit t b (getD row i 0) (g .range i h) (g .free i h) v e; once = g .once }
 
   pub guests : (row : List ℕ) → Guested row leave limit → Guests row limit t
-  guests row g = record { range = g .range; free = λ i h. has-cell leave limit t b (getD row i 0) (g .range i h) (λ v e. g .onLeave i v h e); once = g .once }
+  guests row g = record { range = g .range; free = λ i h. member-cell leave limit t b (getD row i 0) (g .range i h) (λ v e. g .onLeave i v h e); once = g .once }
 
   -- a column's bound, and leave
   module _ (meetings : ℕ) (bounds : List ℕ) (m : Most t limit meetings bounds) where
-    bound : (i : ℕ) → i < limit → getD bounds i 0 ≡ cond (not (has leave i)) 0 meetings
+    bound : (i : ℕ) → i < limit → getD bounds i 0 ≡ cond (not (member leave i)) 0 meetings
     bound i h = m .each i h ∙ ap (λ (x : Bool). cond {A = ℕ} x 0 meetings) (b .each i h)
 
-    bound-leave : (i w : ℕ) → i < limit → w ≤ getD bounds i 0 → (w ≡ 0 → ⊥) → has leave i ≡ true
-    bound-leave i w h l n = go (has leave i) refl
+    bound-leave : (i w : ℕ) → i < limit → w ≤ getD bounds i 0 → (w ≡ 0 → ⊥) → member leave i ≡ true
+    bound-leave i w h l n = go (member leave i) refl
       where
-        go : (x : Bool) → has leave i ≡ x → has leave i ≡ true
+        go : (x : Bool) → member leave i ≡ x → member leave i ≡ true
         go true e = e
         go false e = absurd (n (omega (arith, bound i h ∙ ap (λ (x : Bool). cond {A = ℕ} (not x) 0 meetings) e)))
 
-    leave-bound : (i w : ℕ) → i < limit → w ≤ meetings → ((w ≡ 0 → ⊥) → has leave i ≡ true) → w ≤ getD bounds i 0
+    leave-bound : (i w : ℕ) → i < limit → w ≤ meetings → ((w ≡ 0 → ⊥) → member leave i ≡ true) → w ≤ getD bounds i 0
     leave-bound i w h l f = go (ℕ-discrete w 0)
       where
         go : Dec (w ≡ 0) → w ≤ getD bounds i 0

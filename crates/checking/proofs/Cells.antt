@@ -13,7 +13,7 @@ use lib.Pow.{pow-pos}
 use Rattle.checking.specs.Rows.{Decides, Barred, Pair, Triple, Attended, Paired, Padded, Session, Blanks}
 use Rattle.model.specs.Words.{groups}
 use Rattle.checking.proofs.Answers.{decide}
-use Rattle.checking.proofs.Barring.{cell-has, has-cell}
+use Rattle.checking.proofs.Barring.{cell-member, member-cell}
 
 -- a pair that is within the limit
 pub pair-said : (limit : ℕ) (t : List Bool) (w info : ℕ) → w ≤ limit → Decides (not (getD t w false || (eqb w 0 && not (eqb info 0)))) (Pair limit t w info)
@@ -91,19 +91,19 @@ module _ (stand attend conf bounds : List ℕ) (rooms meetings : ℕ) (t : List 
   session-by p a c = record {
     pad = p;
     attends = λ i h. a i h .0;
-    attended = λ i m h e. cell-has stand meetings t b (getD attend i 0) (omega (arith, a i h .0, low i)) (a i h .1) m e;
+    attended = λ i m h e. cell-member stand meetings t b (getD attend i 0) (omega (arith, a i h .0, low i)) (a i h .1) m e;
     within = λ j h. c j h .range;
-    stands = λ j m h e. cell-has stand meetings t b (getD conf (j * 2) 0) (c j h .range) (c j h .stands) m e;
+    stands = λ j m h e. cell-member stand meetings t b (getD conf (j * 2) 0) (c j h .range) (c j h .stands) m e;
     beside = λ j h. c j h .beside;
   }
 
   pub session-attended : Session stand attend conf bounds rooms meetings → Attended attend bounds t
-  session-attended s i h = (s .attends i h, has-cell stand meetings t b (getD attend i 0) (omega (arith, s .attends i h, low i)) (λ m e. s .attended i m h e))
+  session-attended s i h = (s .attends i h, member-cell stand meetings t b (getD attend i 0) (omega (arith, s .attends i h, low i)) (λ m e. s .attended i m h e))
 
   pub session-paired : Session stand attend conf bounds rooms meetings → Paired conf rooms meetings t
   session-paired s j h = record {
     range = s .within j h;
-    stands = has-cell stand meetings t b (getD conf (j * 2) 0) (s .within j h) (λ m e. s .stands j m h e);
+    stands = member-cell stand meetings t b (getD conf (j * 2) 0) (s .within j h) (λ m e. s .stands j m h e);
     beside = s .beside j h;
   }
 

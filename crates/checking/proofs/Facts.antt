@@ -17,7 +17,8 @@ use Rattle.model.specs.Questions.{standsOn}
 use Rattle.model.specs.Words.{bookLength, Region, leaves, hotelCells, standings, attendCells, confPairs, lunchTriples, rideCells, groups}
 use Rattle.model.specs.Reading.{at, bitAt, readState}
 use Rattle.model.proofs.Search.{and-left, and-right, and-true, bool-eq, any-true, true-any}
-use Rattle.checking.specs.Rows.{has, rowAt, seatsIn}
+use Rattle.checking.specs.Rows.{rowAt, seatsIn}
+use Rattle.pool.specs.Pool.{member}
 use Rattle.checking.specs.Days.{Met, Eaten, DayAt, standsIn, shareOf, dateAt}
 use Rattle.checking.proofs.Addresses.{leave-at, hotel-at, lunch-at, stand-word, stand-at, attend-at, ride-at, conf-at}
 use Rattle.checking.proofs.Slots.{Split, split, within-slots, Slot, slot-by, by-slot, bit-is, inside-by, date-long, row-long-is}
@@ -49,11 +50,11 @@ sum-same f g i zero h = refl
 sum-same f g i (suc n) h = omega (arith, h i (omega arith) (omega arith), sum-same f g (suc i) n (λ j l k. h j (omega arith) (omega arith)))
 
 module _ (S : Settings) (caps b : List ℕ) (r : Ranges S) (laid : length b ≡ bookLength S) where
-  leave-bit : (d v : ℕ) → d < S .dates → v < S .visitors → bitAt S b leaves d v ≡ has (dateAt S b leaves d) v
+  leave-bit : (d v : ℕ) → d < S .dates → v < S .visitors → bitAt S b leaves d v ≡ member (dateAt S b leaves d) v
   leave-bit d v h l = bit-is S b leaves d v (dateAt S b leaves d) h (omega arith) (leave-at S b d (v / 32) (omega arith))
 
   stand-bit : (d p m : ℕ) → d < S .dates → p < S .sessions → m < S .meetings
-      → bitAt S b standings (d * S .sessions + p) m ≡ has (rowAt (groups (S .meetings)) p (dateAt S b standings d)) m
+      → bitAt S b standings (d * S .sessions + p) m ≡ member (rowAt (groups (S .meetings)) p (dateAt S b standings d)) m
   stand-bit d p m h k l =
       bit-is S b standings (d * S .sessions + p) m (rowAt (groups (S .meetings)) p (dateAt S b standings d)) (within-slots (S .dates) (S .sessions) d p h k) (omega arith)
       (stand-at S b d p (m / 32) k (omega arith))

@@ -8,6 +8,7 @@ pub mod Seating
 pub mod ByTables
 pub mod Sizes
 pub mod Addresses
+pub mod Empties
 pub mod Slots
 pub mod Facts
 pub mod Link

@@ -11,7 +11,7 @@ use lib.Dec.{leb, ltb, eqb}
 use lib.ListN.{getD}
 use borrow.Author.Tests.{ltb-true, ltb-false, lt-ltb, leb-true, le-leb, eqb-true, eq-eqb, ne-eqb}
 use Rattle.model.specs.declared.Settings.{Settings}
-use Rattle.model.specs.Bounded.{sum, sumFrom, within, isSome}
+use Rattle.model.specs.Bounded.{sum, within, isSome}
 use Rattle.book.specs.Ranges.{Ranges}
 use Rattle.book.specs.Grids.{Laid}
 use Rattle.model.specs.Site.{allSessions, capacity}
@@ -30,6 +30,7 @@ use Rattle.model.specs.Reading.{settingsOf, stateOf}
 use Rattle.model.specs.Laws.{wellLaid, lawful}
 use Rattle.checking.specs.Rows.{Decides}
 use Rattle.checking.specs.Days.{Eaten, Caps, DayAt}
+use Rattle.checking.proofs.Seating.{sum-none}
 use Rattle.checking.proofs.Slots.{split, within-slots, held, holds-by, inside-by, within-by, Slot, one-a-cell, one-a-row}
 use Rattle.checking.proofs.Facts.{Facts, Session, seatsAt, sum-same, facts-by, by-facts}
 
@@ -40,10 +41,6 @@ held-some false w e = e
 some-held : {A : Type 0} (t : Bool) (w : A) → t ≡ true → isSome (cond t (some w) none) ≡ true
 some-held true w e = refl
 some-held false w e = e
-
-sum-none : (f : ℕ → ℕ) (i n : ℕ) → ((j : ℕ) → i ≤ j → j < i + n → f j ≡ 0) → sumFrom f i n ≡ 0
-sum-none f i zero h = refl
-sum-none f i (suc n) h = omega (arith, h i (omega arith) (omega arith), sum-none f (suc i) n (λ j l k. h j (omega arith) (omega arith)))
 
 module _ (S : Settings) (caps b : List ℕ) (r : Ranges S) (cs : Caps S caps) where
   -- the seats of a lunch in the state, and in the words

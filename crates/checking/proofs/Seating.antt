@@ -19,6 +19,11 @@ use Rattle.checking.specs.Days.{Caps}
 use Rattle.checking.specs.Rows.{Triple, seatsIn}
 use Rattle.checking.proofs.Zeros.{none-zero}
 
+-- a sum of zeros
+pub sum-none : (f : ℕ → ℕ) (i n : ℕ) → ((j : ℕ) → i ≤ j → j < i + n → f j ≡ 0) → sumFrom f i n ≡ 0
+sum-none f i zero h = refl
+sum-none f i (suc n) h = omega (arith, h i (omega arith) (omega arith), sum-none f (suc i) n (λ j l k. h j (omega arith) (omega arith)))
+
 -- one more term of a sum
 sum-from : (f : ℕ → ℕ) (i n : ℕ) → sumFrom f i (suc n) ≡ sumFrom f i n + f (i + n)
 sum-from f i zero = omega (arith, ap f (add-zero i))

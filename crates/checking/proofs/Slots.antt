@@ -18,7 +18,8 @@ use Rattle.model.proofs.Search.{and-left, and-right, and-true, true-all}
 use Rattle.book.proofs.Regions.{end-le}
 use Rattle.checking.proofs.Addresses.{size-is}
 use Rattle.book.specs.Grids.{Laid}
-use Rattle.checking.specs.Rows.{has, rowAt, Part}
+use Rattle.checking.specs.Rows.{rowAt, Part}
+use Rattle.pool.specs.Pool.{member}
 use Rattle.checking.specs.Days.{Guested, shareOf, dateAt}
 use Rattle.checking.proofs.Parts.{row-inside}
 
@@ -54,7 +55,7 @@ module _ (S : Settings) (b : List ℕ) where
   pub holds-by : (g : Region) (i j v : ℕ) → i < slots S g → j < items S g → at S b g i j 0 ≡ suc v → holds S b g i j v ≡ true
   holds-by g i j v h k e = and-true (inside-by g i j h k) (eq-eqb _ _ e)
 
-  pub bit-is : (g : Region) (i v : ℕ) (row : List ℕ) → i < slots S g → v / 32 < items S g → at S b g i (v / 32) 0 ≡ getD row (v / 32) 0 → bitAt S b g i v ≡ has row v
+  pub bit-is : (g : Region) (i v : ℕ) (row : List ℕ) → i < slots S g → v / 32 < items S g → at S b g i (v / 32) 0 ≡ getD row (v / 32) 0 → bitAt S b g i v ≡ member row v
   bit-is g i v row h k e = rw (inside-by g i (v / 32) h k, e)
 
   pub within-by : (g : Region) (n : ℕ) → ((i j : ℕ) → i < slots S g → j < items S g → at S b g i j 0 ≤ n) → cellsWithin S b g n ≡ true
@@ -67,7 +68,7 @@ module _ (S : Settings) (b : List ℕ) where
     pub once : (j k : ℕ) → j < k → k < items S g → at S b g i j 0 ≡ at S b g i k 0 → at S b g i j 0 ≡ 0
 
   module _ (g : Region) (limit i d : ℕ) (row leave : List ℕ) (long : length row ≡ items S g)
-      (same : (j : ℕ) → j < items S g → at S b g i j 0 ≡ getD row j 0) (bits : (v : ℕ) → v < limit → bitAt S b leaves d v ≡ has leave v) where
+      (same : (j : ℕ) → j < items S g → at S b g i j 0 ≡ getD row j 0) (bits : (v : ℕ) → v < limit → bitAt S b leaves d v ≡ member leave v) where
     pub slot-by : Guested row leave limit → Slot g limit i d
     slot-by r = record {
       range = λ j h. rw (same j h) (r .range j (omega (arith, long)));

@@ -9,22 +9,23 @@ use Rattle.model.specs.declared.Settings.{Settings}
 use Rattle.model.specs.Bounded.{any, sum, bit}
 use Rattle.model.specs.Words.{groups, base, Region, leaves, hotelCells, standings, attendCells, confPairs, lunchTriples, rideCells}
 use Rattle.checking.specs.declared.dates.Shares.{Shares}
-use Rattle.checking.specs.Rows.{Padded, has, rowAt, seatsIn}
+use Rattle.checking.specs.Rows.{Blank, Padded, rowAt, seatsIn}
+use Rattle.pool.specs.Pool.{member}
 
 -- a row of visitors: within the limit, each with leave, each once
 pub record Guested (row leave : List ℕ) (limit : ℕ) : Type 0 where
   pub range : (i : ℕ) → i < length row → getD row i 0 ≤ limit
-  pub onLeave : (i v : ℕ) → i < length row → getD row i 0 ≡ suc v → has leave v ≡ true
+  pub onLeave : (i v : ℕ) → i < length row → getD row i 0 ≡ suc v → member leave v ≡ true
   pub once : (i j : ℕ) → i < j → j < length row → getD row i 0 ≡ getD row j 0 → getD row i 0 ≡ 0
 
 -- a session: standing words, attend cells, conf pairs
 pub record Met (stand attend conf leave : List ℕ) (rooms meetings : ℕ) : Type 0 where
   pub pad : Padded stand meetings
   pub range : (i : ℕ) → i < length attend → getD attend i 0 ≤ meetings
-  pub onLeave : (i : ℕ) → i < length attend → (getD attend i 0 ≡ 0 → ⊥) → has leave i ≡ true
-  pub attended : (i m : ℕ) → i < length attend → getD attend i 0 ≡ suc m → has stand m ≡ true
+  pub onLeave : (i : ℕ) → i < length attend → (getD attend i 0 ≡ 0 → ⊥) → member leave i ≡ true
+  pub attended : (i m : ℕ) → i < length attend → getD attend i 0 ≡ suc m → member stand m ≡ true
   pub within : (j : ℕ) → j < rooms → getD conf (j * 2) 0 ≤ meetings
-  pub stands : (j m : ℕ) → j < rooms → getD conf (j * 2) 0 ≡ suc m → has stand m ≡ true
+  pub stands : (j m : ℕ) → j < rooms → getD conf (j * 2) 0 ≡ suc m → member stand m ≡ true
   pub beside : (j : ℕ) → j < rooms → getD conf (j * 2) 0 ≡ 0 → getD conf (j * 2 + 1) 0 ≡ 0
 
 -- a lunch; caps is 0 for none, then the capacities
@@ -48,6 +49,14 @@ pub record Day (S : Settings) (caps leave hotel stand attend conf lunch ride : L
       → Eaten (S .dining) caps (standsIn stand (S .sessions) (groups (S .meetings)) j) (getD lunch (j * 3) 0) (getD lunch (j * 3 + 1) 0) (getD lunch (j * 3 + 2) 0)
   pub sums : (g : ℕ) → g < 17 → sum (seatsIn lunch g) (S .meetings) ≤ getD caps g 0
   pub ridden : (q : ℕ) → q < S .times → Guested (rowAt (S .transports) q ride) leave (S .visitors)
+
+-- a date without entries
+pub record Empty (hotel attend conf lunch ride : List ℕ) : Type 0 where
+  pub hotels : Blank hotel
+  pub attends : Blank attend
+  pub confs : Blank conf
+  pub lunches : Blank lunch
+  pub rides : Blank ride
 
 -- the lengths of a date's parts
 pub record Long (S : Settings) (leave hotel stand attend conf lunch ride : List ℕ) : Type 0 where

@@ -1,4 +1,4 @@
--- What a row of a book has to keep, over the row's words and tables of what is barred.
+-- What a row of a book member to keep, over the row's words and tables of what is barred.
 -- Assumes nothing.
 use Prim.Native.Nat.{ℕ, zero, suc, _+_, _*_, _/_, _%_, _^_, _-_, _≤_, _<_, min}
 use mathlib.Core.Path.{_≡_}
@@ -8,6 +8,7 @@ use lib.ListN.{length, getD, take, drop}
 use lib.Dec.{eqb}
 use lib.Bits.{bitOr}
 use Rattle.model.specs.Bounded.{bit, sum, any}
+use Rattle.pool.specs.Pool.{member}
 
 -- the answer to a question: true where P holds, false where it does not
 abbrev pub Decides : Bool → Type 0 → Type 0
@@ -18,7 +19,7 @@ Decides false P = P → ⊥
 pub record Barred (row : List ℕ) (n : ℕ) (t : List Bool) : Type 0 where
   pub size : length t ≡ 513
   pub none : getD t 0 false ≡ false
-  pub each : (v : ℕ) → v < n → getD t (suc v) false ≡ not (bit (getD row (v / 32) 0) (v % 32))
+  pub each : (v : ℕ) → v < n → getD t (suc v) false ≡ not (member row v)
 
 -- the most that column v may hold
 pub record Most (t : List Bool) (n limit : ℕ) (m : List ℕ) : Type 0 where
@@ -50,16 +51,13 @@ rowAt width i cells = take width (drop (i * width) cells)
 abbrev pub Padded : List ℕ → ℕ → Type 0
 Padded row n = (j : ℕ) → j < length row → getD row j 0 < 2 ^ min 32 (n - j * 32)
 
--- bit v of a row of bits, and one session of a date
-abbrev pub has : List ℕ → ℕ → Bool
-has row v = bit (getD row (v / 32) 0) (v % 32)
-
+-- one session of a date
 pub record Session (stand attend conf bounds : List ℕ) (rooms meetings : ℕ) : Type 0 where
   pub pad : Padded stand meetings
   pub attends : (i : ℕ) → i < length attend → getD attend i 0 ≤ getD bounds i 0
-  pub attended : (i m : ℕ) → i < length attend → getD attend i 0 ≡ suc m → has stand m ≡ true
+  pub attended : (i m : ℕ) → i < length attend → getD attend i 0 ≡ suc m → member stand m ≡ true
   pub within : (j : ℕ) → j < rooms → getD conf (j * 2) 0 ≤ meetings
-  pub stands : (j m : ℕ) → j < rooms → getD conf (j * 2) 0 ≡ suc m → has stand m ≡ true
+  pub stands : (j m : ℕ) → j < rooms → getD conf (j * 2) 0 ≡ suc m → member stand m ≡ true
   pub beside : (j : ℕ) → j < rooms → getD conf (j * 2) 0 ≡ 0 → getD conf (j * 2 + 1) 0 ≡ 0
 
 -- a part of a slice: what it is, and its length

@@ -10,8 +10,8 @@ ghost use lib.ListN.{length, getD, take, drop};
 ghost use Rattle.model.specs.Words.{groups};
 ghost use Rattle.book.specs.Ranges.{Ranges};
 ghost use Rattle.book.specs.Grids.{gridsOf, Laid};
-ghost use Rattle.checking.specs.Rows.{Decides, Blanks, Session, rowAt, Part};
-ghost use Rattle.checking.specs.Days.{Day, Long, Caps, DayAt, sharesOf};
+ghost use Rattle.checking.specs.Rows.{Decides, Blanks, Padded, Session, rowAt, Part};
+ghost use Rattle.checking.specs.Days.{Day, Long, Empty, Caps, DayAt, sharesOf};
 
 // The words of one date in each region.
 pub struct Shares {
@@ -119,7 +119,79 @@ fn sessions(
     true
 }
 
-// One date: its leave words, hotel cells, standing words, attend cells, conf pairs, lunch triples and ride cells.
+// Has the date no entry at all? A date with one mostly shows it in the first words.
+fn empty(hotel: &[u32], attend: &[u32], conf: &[u32], lunch: &[u32], ride: &[u32]) -> bool
+    ensures { λ r. ⌜ (r ≡ true → Empty (now (hotel .entry)) (now (attend .entry)) (now (conf .entry)) (now (lunch .entry)) (now (ride .entry))) ⌝ }
+{
+    if !blanks(hotel, lunch) {
+        return false;
+    }
+    if !blanks(attend, conf) {
+        return false;
+    }
+    rows::blank(ride)
+}
+
+// The unused bits of each session's standing words are 0.
+fn pads(stand: &[u32], n: usize, meetings: usize) -> bool
+    requires { ⌜ (1 ≤ meetings) × (meetings ≤ 128) × (length (now stand) ≡ n * groups meetings) ⌝ }
+    ensures { λ r. ⌜ Decides r ((p : ℕ) → p < n → Padded (rowAt (groups meetings) p (now (stand .entry))) meetings) ⌝ }
+{
+    let words = (meetings + 31) / 32;
+    let mut p: usize = 0;
+    while p < n {
+        let row = rows::row_of(stand, p, words, n);
+        if !rows::padded(row, meetings) {
+            return false;
+        }
+        p += 1;
+    }
+    true
+}
+
+// One date by its tables: its leave words, hotel cells, standing words, attend cells, conf pairs, lunch triples and ride cells.
+fn entries(
+    leave: &[u32],
+    hotel: &[u32],
+    stand: &[u32],
+    attend: &[u32],
+    conf: &[u32],
+    lunch: &[u32],
+    ride: &[u32],
+    s: Settings,
+    caps: &[u32; 17],
+) -> bool
+    requires { ⌜ Ranges s ⌝ }
+    requires { ⌜ Long s (now leave) (now hotel) (now stand) (now attend) (now conf) (now lunch) (now ride) ⌝ }
+    requires { ⌜ Caps s (now caps) ⌝ }
+    requires { ⌜ Padded (now leave) (s .visitors) ⌝ }
+    ensures { λ r. ⌜ Decides r (Day s (now (caps .entry)) (now (leave .entry)) (now (hotel .entry)) (now (stand .entry)) (now (attend .entry)) (now (conf .entry)) (now (lunch .entry)) (now (ride .entry))) ⌝ }
+{
+    let visitors = s.visitors;
+    let meetings = s.meetings;
+    let v = visitors as usize;
+    let m = meetings as usize;
+    let p = s.sessions as usize;
+    let q = s.times as usize;
+    let c = s.rooms as usize;
+    let k = s.transports as usize;
+    let table = tables::barred(leave, v);
+    if !rows::guest_row(hotel, &table, visitors) {
+        return false;
+    }
+    let bounds = tables::most(&table, v, meetings);
+    if !sessions(stand, attend, conf, &bounds, p, v, c, meetings) {
+        return false;
+    }
+    let words = (m + 31) / 32;
+    let some = tables::barred_date(stand, p, words, m);
+    if !rows::triples(lunch, m, &some, caps, s.dining) {
+        return false;
+    }
+    rows::guest_rows(ride, q, k, &table, visitors)
+}
+
+// One date: no tables are made for one without entries.
 fn date(
     leave: &[u32],
     hotel: &[u32],
@@ -136,32 +208,13 @@ fn date(
     requires { ⌜ Caps s (now caps) ⌝ }
     ensures { λ r. ⌜ Decides r (Day s (now (caps .entry)) (now (leave .entry)) (now (hotel .entry)) (now (stand .entry)) (now (attend .entry)) (now (conf .entry)) (now (lunch .entry)) (now (ride .entry))) ⌝ }
 {
-    let visitors = s.visitors;
-    let meetings = s.meetings;
-    let dining = s.dining;
-    let v = visitors as usize;
-    let m = meetings as usize;
-    let p = s.sessions as usize;
-    let q = s.times as usize;
-    let c = s.rooms as usize;
-    let k = s.transports as usize;
-    if !rows::padded(leave, v) {
+    if !rows::padded(leave, s.visitors as usize) {
         return false;
     }
-    let table = tables::barred(leave, v);
-    if !rows::guest_row(hotel, &table, visitors) {
-        return false;
+    if empty(hotel, attend, conf, lunch, ride) {
+        return pads(stand, s.sessions as usize, s.meetings as usize);
     }
-    let bounds = tables::most(&table, v, meetings);
-    if !sessions(stand, attend, conf, &bounds, p, v, c, meetings) {
-        return false;
-    }
-    let words = (m + 31) / 32;
-    let some = tables::barred_date(stand, p, words, m);
-    if !rows::triples(lunch, m, &some, caps, dining) {
-        return false;
-    }
-    rows::guest_rows(ride, q, k, &table, visitors)
+    entries(leave, hotel, stand, attend, conf, lunch, ride, s, caps)
 }
 
 // Date d of a well-laid book.

@@ -20,7 +20,7 @@ pub fn barred(row: &[u32], n: usize) -> [bool; 513]
         let w = row[i];
         let mut k: usize = 0;
         while k < 32 {
-            table[i * 32 + k + 1] = w >> (k as u32) & 1 == 0;
+            table[i * 32 + k + 1] = !pool::has(w, k as u32);
             k += 1;
         }
         i += 1;

@@ -36,13 +36,17 @@ row-of-requires-3 c κs = (omega arith, omega arith)
 
 session-requires : tie.Need-session-requires Inv-loop μ-loop
 session-requires c κs =
-    ((omega arith, omega arith, omega arith), ((omega arith, omega arith, omega arith), c .before .before .before .before .before .before .before .before .pre .1 .1))
+    let c8 = c .before .before .before .before .before .before .before .before in
+    ((omega arith, omega arith, omega arith), ((omega arith, omega arith, omega arith), c8 .pre .1 .1))
 
 returns : tie.Need-returns Inv-loop μ-loop
 returns c =
+    let c3 = c .before .before .before in
+    let c4 = c3 .before in
+    let c6 = c4 .before .before in
     λ all. said-false (c .before .session .result) (not-true _ (c .if1 .taken))
-    (rw (c .before .before .before .before .row-of .ensures .is, c .before .before .before .row-of2 .ensures .is, c .before .before .row-of3 .ensures .is) at (c .before .session .ensures))
-    (all (c .before .before .before .before .before .before .loop .p) (omega arith))
+    (rw (c4 .row-of .ensures .is, c3 .row-of2 .ensures .is, c .before .before .row-of3 .ensures .is) at (c .before .session .ensures))
+    (all (c6 .loop .p) (omega arith))
 
 add-p : tie.Need-add-p Inv-loop μ-loop
 add-p c = omega arith
@@ -51,11 +55,14 @@ loop-less : tie.Need-loop-less Inv-loop μ-loop
 loop-less c = omega arith
 
 loop-again : tie.Need-loop-again Inv-loop μ-loop
-loop-again c = (
-  omega arith,
-  below-more _ _ (c .before .before .before .before .before .before .loop .inv .1) (said-true (c .before .session .result) (not-false _ (c .if1 .left))
-      (rw (c .before .before .before .before .row-of .ensures .is, c .before .before .before .row-of2 .ensures .is, c .before .before .row-of3 .ensures .is) at (c .before .session .ensures))),
-)
+loop-again c =
+    let c3 = c .before .before .before in
+    let c4 = c3 .before in
+    let c6 = c4 .before .before in (
+      omega arith,
+      below-more _ _ (c6 .loop .inv .1) (said-true (c .before .session .result) (not-false _ (c .if1 .left))
+          (rw (c4 .row-of .ensures .is, c3 .row-of2 .ensures .is, c .before .before .row-of3 .ensures .is) at (c .before .session .ensures))),
+    )
 
 returns-2 : tie.Need-returns-2 Inv-loop μ-loop
 returns-2 c = λ i h. c .before .loop .inv .1 i (omega arith)

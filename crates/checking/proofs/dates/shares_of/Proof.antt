@@ -25,13 +25,17 @@ add-t8 : tie.Need-add-t8
 add-t8 c = search needs
 
 mul-t10 : tie.Need-mul-t10
-mul-t10 c = omega (arith, few (c .before .before .before .before .args .s) (c .before .before .before .before .pre) .stands)
+mul-t10 c =
+    let c4 = c .before .before .before .before in
+    omega (arith, few (c4 .args .s) (c4 .pre) .stands)
 
 cast-t11 : tie.Need-cast-t11
 cast-t11 c = search needs
 
 mul-t12 : tie.Need-mul-t12
-mul-t12 c = omega (arith, few (c .before .before .before .before .before .args .s) (c .before .before .before .before .before .pre) .attends)
+mul-t12 c =
+    let c5 = c .before .before .before .before .before in
+    omega (arith, few (c5 .args .s) (c5 .pre) .attends)
 
 cast-t13 : tie.Need-cast-t13
 cast-t13 c = search needs
@@ -40,7 +44,9 @@ mul-t14 : tie.Need-mul-t14
 mul-t14 c = search needs
 
 mul-t15 : tie.Need-mul-t15
-mul-t15 c = omega (arith, few (c .before .before .before .before .before .before .args .s) (c .before .before .before .before .before .before .pre) .confs)
+mul-t15 c =
+    let c6 = c .before .before .before .before .before .before in
+    omega (arith, few (c6 .args .s) (c6 .pre) .confs)
 
 cast-t16 : tie.Need-cast-t16
 cast-t16 c = search needs
@@ -55,7 +61,9 @@ cast-t19 : tie.Need-cast-t19
 cast-t19 c = search needs
 
 mul-t20 : tie.Need-mul-t20
-mul-t20 c = omega (arith, few (c .before .before .before .before .before .before .before .before .before .args .s) (c .before .before .before .before .before .before .before .before .before .pre) .rides)
+mul-t20 c =
+    let c9 = c .before .before .before .before .before .before .before .before .before in
+    omega (arith, few (c9 .args .s) (c9 .pre) .rides)
 
 returns : tie.Need-returns
 returns c = search needs

@@ -35,10 +35,16 @@ returns : tie.Need-returns Inv-loop μ-loop
 returns c = λ f. omega (arith, f (c .before .before .before .before .loop .i) (omega arith) .0)
 
 cast-k : tie.Need-cast-k Inv-loop μ-loop
-cast-k c = omega (arith, c .before .before .before .before .before .pre .1 (c .before .before .before .before .loop .i))
+cast-k c =
+    let c4 = c .before .before .before .before in
+    let c5 = c4 .before in
+    omega (arith, c5 .pre .1 (c4 .loop .i))
 
 element-copy-out-if2 : tie.Need-element-copy-out-if2 Inv-loop μ-loop
-element-copy-out-if2 c = omega (arith, c .before .before .before .before .before .pre .1 (c .before .before .before .before .loop .i))
+element-copy-out-if2 c =
+    let c4 = c .before .before .before .before in
+    let c5 = c4 .before in
+    omega (arith, c5 .pre .1 (c4 .loop .i))
 
 returns-2 : tie.Need-returns-2 Inv-loop μ-loop
 returns-2 c = λ f. either _ (c .if2 .taken) (f (c .before .before .before .before .before .before .loop .i) (omega arith) .1)

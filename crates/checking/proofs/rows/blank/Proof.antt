@@ -42,8 +42,10 @@ loop-less c = omega arith
 
 loop-again : tie.Need-loop-again Inv-loop μ-loop Inv-loop2 μ-loop2
 loop-again c =
-    let r = c .before .before .before .loop in
-    (omega arith, zeros-more (c .before .before .before .before .before .args .row .now) (r .i) 32 (r .inv .1) (sym (c .before .joined .ensures) ∙ c .if1 .left))
+    let c3 = c .before .before .before in
+    let c5 = c3 .before .before in
+    let r = c3 .loop in
+    (omega arith, zeros-more (c5 .args .row .now) (r .i) 32 (r .inv .1) (sym (c .before .joined .ensures) ∙ c .if1 .left))
 
 loop2-holds : tie.Need-loop2-holds Inv-loop μ-loop Inv-loop2 μ-loop2
 loop2-holds c = c .before .loop .inv

@@ -27,7 +27,8 @@ guest-row-requires c κs = search needs
 
 returns : tie.Need-returns Inv-loop μ-loop
 returns c =
-    λ all. said-false (c .before .guest-row .result) (not-true _ (c .if1 .taken)) (rw (c .before .before .row-of .ensures .is) at (c .before .guest-row .ensures)) (all (c .before .before .before .before .loop .i) (omega arith))
+    let c4 = c .before .before .before .before in
+    λ all. said-false (c .before .guest-row .result) (not-true _ (c .if1 .taken)) (rw (c .before .before .row-of .ensures .is) at (c .before .guest-row .ensures)) (all (c4 .loop .i) (omega arith))
 
 add-i : tie.Need-add-i Inv-loop μ-loop
 add-i c = omega arith
@@ -37,7 +38,8 @@ loop-less c = omega arith
 
 loop-again : tie.Need-loop-again Inv-loop μ-loop
 loop-again c =
-    (omega arith, below-more _ _ (c .before .before .before .before .loop .inv .1) (said-true (c .before .guest-row .result) (not-false _ (c .if1 .left)) (rw (c .before .before .row-of .ensures .is) at (c .before .guest-row .ensures))))
+    let c4 = c .before .before .before .before in
+    (omega arith, below-more _ _ (c4 .loop .inv .1) (said-true (c .before .guest-row .result) (not-false _ (c .if1 .left)) (rw (c .before .before .row-of .ensures .is) at (c .before .guest-row .ensures))))
 
 returns-2 : tie.Need-returns-2 Inv-loop μ-loop
 returns-2 c = λ i h. c .before .loop .inv .1 i (omega arith)

@@ -47,8 +47,10 @@ loop-less c = omega arith
 
 loop-again : tie.Need-loop-again Inv-loop μ-loop
 loop-again c =
-    let r = c .before .before .before .loop in
-    let a = c .before .before .before .before .before .args in (
+    let c3 = c .before .before .before in
+    let c5 = c3 .before .before in
+    let r = c3 .loop in
+    let a = c5 .args in (
       omega arith,
       length-set (r .seen) (getD (a .row .now) (r .i) 0) (not (eqb (getD (a .row .now) (r .i) 0) 0)) ∙ r .inv .1,
       sym (pass-more (a .limit) (a .row .now) (r .seen) (r .bad) (r .i) (omega arith) (omega arith)) ∙ r .inv .2,

@@ -60,8 +60,10 @@ loop-less c = omega arith
 
 loop-again : tie.Need-loop-again Inv-loop μ-loop
 loop-again c =
-    let r = c .before .before .before .before .before .loop in
-    let a = c .before .before .before .before .before .before .args in (
+    let c5 = c .before .before .before .before .before in
+    let c6 = c5 .before in
+    let r = c5 .loop in
+    let a = c6 .args in (
       omega arith,
       more (λ k. Pair (a .limit) (a .stands .now) (getD (a .row .now) (k * 2) 0) (getD (a .row .now) (k * 2 + 1) 0)) (r .j) (r .bad) _ (r .inv .1)
           (pair-said (a .limit) (a .stands .now) (getD (a .row .now) (r .j * 2) 0) (getD (a .row .now) (r .j * 2 + 1) 0) (omega arith)),

@@ -80,7 +80,8 @@ element-copy-out-bad c = omega arith
 
 returns-3 : tie.Need-returns-3 Inv-loop μ-loop
 returns-3 c =
-    let r = c .before .before .before .before .before .before .before .before .before .loop in
+    let c9 = c .before .before .before .before .before .before .before .before .before in
+    let r = c9 .loop in
     λ l. either _ (c .if3 .taken) (triple-is _ _ _ _ _ _ (l .each (r .j) (omega arith)))
 
 mul-sums : tie.Need-mul-sums Inv-loop μ-loop
@@ -91,9 +92,11 @@ array-read-sums c = omega arith
 
 add-sums : tie.Need-add-sums Inv-loop μ-loop
 add-sums c =
-    let r = c .before .before .before .before .before .before .before .before .before .loop in
-    let a = c .before .before .before .before .before .before .before .before .before .before .before .args in
-    omega (arith, r .inv .1 .low (getD (a .row .now) (r .j * 3) 0), c .before .before .before .before .before .before .before .before .before .before .before .pre .1 (getD (a .row .now) (r .j * 3) 0))
+    let c9 = c .before .before .before .before .before .before .before .before .before in
+    let c11 = c9 .before .before in
+    let r = c9 .loop in
+    let a = c11 .args in
+    omega (arith, r .inv .1 .low (getD (a .row .now) (r .j * 3) 0), c11 .pre .1 (getD (a .row .now) (r .j * 3) 0))
 
 mul-sums-2 : tie.Need-mul-sums-2 Inv-loop μ-loop
 mul-sums-2 c = omega arith
@@ -109,12 +112,14 @@ loop-less c = omega arith
 
 loop-again : tie.Need-loop-again Inv-loop μ-loop
 loop-again c =
-    let r = c .before .before .before .before .before .before .before .before .before .loop in
-    let a = c .before .before .before .before .before .before .before .before .before .before .before .args in
+    let c9 = c .before .before .before .before .before .before .before .before .before in
+    let c11 = c9 .before .before in
+    let r = c9 .loop in
+    let a = c11 .args in
     let w = getD (a .row .now) (r .j * 3) 0 in (
       omega arith,
       sofar-more (a .row .now) (a .dining) (a .caps .now) (a .table .now) (r .sums) (r .j) (r .inv .1) (omega arith)
-          (omega (arith, c .before .before .before .before .before .before .before .before .before .before .before .pre .1 w))
+          (omega (arith, c11 .pre .1 w))
           (triple-by (a .dining) (a .caps .now) (getD (a .table .now) (r .j + 1) false) w (getD (a .row .now) (r .j * 3 + 1) 0) (getD (a .row .now) (r .j * 3 + 2) 0) (omega arith) (omega arith) (c .if3 .left)),
     )
 
@@ -123,8 +128,10 @@ within-requires c κs = tt
 
 returns-4 : tie.Need-returns-4 Inv-loop μ-loop
 returns-4 c =
-    let r = c .before .before .before .loop in
-    let a = c .before .before .before .before .before .args in
+    let c3 = c .before .before .before in
+    let c5 = c3 .before .before in
+    let r = c3 .loop in
+    let a = c5 .args in
     let e : r .j ≡ a .n = omega arith in
     relay (c .within .result)
     (λ f. record { each = λ j h. r .inv .1 .each j (omega arith); sums = λ g h. omega (arith, f g h, r .inv .1 .sums g h, ap (sum (seatsIn (a .row .now) g)) e) })

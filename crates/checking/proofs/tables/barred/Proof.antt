@@ -1,7 +1,8 @@
--- `tables::barred` meets its contract.
+-- `tables::barred` meets its contract: the entries passed are in place.
 -- Assumes nothing.
 use Prim.Native.Nat.{ℕ, _+_, _*_, _-_, _≤_}
-use mathlib.Core.Path.{_≡_, subst}
+use mathlib.Core.Path.{_≡_, ap, subst}
+use mathlib.Core.Bool.{not}
 use native.Mathlib.Omega.{arith}
 use lib.ListN.{length}
 use Rattle.checking.specs.Rows.{Barred}
@@ -22,7 +23,7 @@ abbrev μ-loop : tie.MeasureT-loop
 μ-loop row n table₀ i₀ table i = length row - i
 
 loop-holds : tie.Need-loop-holds Inv-loop2 μ-loop2 Inv-loop μ-loop
-loop-holds c = (omega arith, table-none (c .args .row .now))
+loop-holds c = (omega arith, table-none (c .before .args .row .now))
 
 mul-w : tie.Need-mul-w Inv-loop2 μ-loop2 Inv-loop μ-loop
 mul-w c = omega arith
@@ -34,13 +35,13 @@ loop2-holds : tie.Need-loop2-holds Inv-loop2 μ-loop2 Inv-loop μ-loop
 loop2-holds c =
     let r = c .before .before .loop in
     let e : r .i * 32 ≡ r .i * 32 + 0 = omega arith in
-    (omega arith, subst (λ (n : ℕ). Barred (c .before .before .before .args .row .now) n (r .table)) e (r .inv .1))
+    (omega arith, subst (λ (n : ℕ). Barred (c .before .before .before .before .args .row .now) n (r .table)) e (r .inv .1))
 
-cast-table : tie.Need-cast-table Inv-loop2 μ-loop2 Inv-loop μ-loop
-cast-table c = omega arith
+cast-has : tie.Need-cast-has Inv-loop2 μ-loop2 Inv-loop μ-loop
+cast-has c = omega arith
 
-shr-table : tie.Need-shr-table Inv-loop2 μ-loop2 Inv-loop μ-loop
-shr-table c = omega arith
+has-requires : tie.Need-has-requires Inv-loop2 μ-loop2 Inv-loop μ-loop
+has-requires c κs = omega arith
 
 mul-table : tie.Need-mul-table Inv-loop2 μ-loop2 Inv-loop μ-loop
 mul-table c = omega arith
@@ -62,9 +63,9 @@ loop2-less c = omega arith
 
 loop2-again : tie.Need-loop2-again Inv-loop2 μ-loop2 Inv-loop μ-loop
 loop2-again c =
-    let r = c .before .loop2 in
-    let i = c .before .before .before .before .loop .i in
-    (omega arith, table-bit (c .before .before .before .before .before .args .row .now) i (r .k) (r .table) (omega arith) (omega arith) (r .inv .1))
+    let r = c .before .before .loop2 in
+    let l = c .before .before .before .before .before in
+    (omega arith, table-bit (l .before .before .args .row .now) (l .loop .i) (r .k) (r .table) _ (omega arith) (omega arith) (ap not (c .has .ensures)) (r .inv .1))
 
 add-i : tie.Need-add-i Inv-loop2 μ-loop2 Inv-loop μ-loop
 add-i c = omega arith
@@ -75,13 +76,12 @@ loop-less c = omega arith
 loop-again : tie.Need-loop-again Inv-loop2 μ-loop2 Inv-loop μ-loop
 loop-again c =
     let r = c .before .loop2 in
-    let i = c .before .before .before .before .loop .i in
-    let e : i * 32 + r .k ≡ (i + 1) * 32 = omega arith in
-    (omega arith, subst (λ (n : ℕ). Barred (c .before .before .before .before .before .args .row .now) n (r .table)) e (r .inv .1))
+    let l = c .before .before .before .before in
+    let e : l .loop .i * 32 + r .k ≡ (l .loop .i + 1) * 32 = omega arith in
+    (omega arith, subst (λ (n : ℕ). Barred (l .before .before .args .row .now) n (r .table)) e (r .inv .1))
 
 returns : tie.Need-returns Inv-loop2 μ-loop2 Inv-loop μ-loop
-returns c =
-    table-less _ (c .before .loop .i * 32) _ _ (omega arith) (c .before .loop .inv .1)
+returns c = table-less _ (c .before .loop .i * 32) _ _ (omega arith) (c .before .loop .inv .1)
 
 pub barred-spec : {M : Type 1} → statement M
 barred-spec =
@@ -95,8 +95,8 @@ barred-spec =
     mul-w
     shared-slice-read-w
     loop2-holds
-    cast-table
-    shr-table
+    cast-has
+    has-requires
     mul-table
     add-table
     add-table-2

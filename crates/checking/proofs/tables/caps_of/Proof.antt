@@ -43,8 +43,9 @@ loop-again c =
 
 returns : tie.Need-returns Inv-loop μ-loop
 returns c =
+    let c3 = c .before .before .before in
     let e : c .before .loop .g ≡ 16 = omega arith in
-    caps-by (c .before .before .before .args .s) (c .before .loop .caps) (c .before .before .before .pre .1) (subst (λ (k : ℕ). CapsTo (c .before .before .before .args .s .capacities) k (c .before .loop .caps)) e (c .before .loop .inv .1))
+    caps-by (c3 .args .s) (c .before .loop .caps) (c3 .pre .1) (subst (λ (k : ℕ). CapsTo (c3 .args .s .capacities) k (c .before .loop .caps)) e (c .before .loop .inv .1))
 
 pub caps-of-spec : {M : Type 1} → statement M
 caps-of-spec =

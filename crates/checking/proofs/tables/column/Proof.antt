@@ -30,7 +30,9 @@ mul-all-2 : tie.Need-mul-all-2 Inv-loop μ-loop
 mul-all-2 c = omega (arith, row-inside (c .before .loop .p) (c .before .before .args .n) (c .before .before .args .width) (omega arith), c .before .before .good)
 
 shared-slice-read-all : tie.Need-shared-slice-read-all Inv-loop μ-loop
-shared-slice-read-all c = omega (arith, row-inside (c .before .before .loop .p) (c .before .before .before .args .n) (c .before .before .before .args .width) (omega arith))
+shared-slice-read-all c =
+    let c3 = c .before .before .before in
+    omega (arith, row-inside (c .before .before .loop .p) (c3 .args .n) (c3 .args .width) (omega arith))
 
 add-p : tie.Need-add-p Inv-loop μ-loop
 add-p c = omega arith
