@@ -48,7 +48,7 @@ pub fn cell(book: &[u32], g: Grid, slot: u32, item: u32) -> u32
 }
 
 // The word after a grid.
-fn past(g: Grid) -> usize
+pub fn past(g: Grid) -> usize
     requires { ⌜ Small g ⌝ }
     ensures { λ r. ⌜ r ≡ end g ⌝ }
 {
