@@ -47,7 +47,15 @@ fn holds(book: &[u32], g: Grid, q: Ask, item: u32, w: u32, slot: u32) -> bool
 }
 
 // The lowest slot of first..last that fails the question.
-pub fn first_failing(book: &[u32], g: Grid, q: Ask, item: u32, w: u32, first: u32, last: u32) -> Found
+pub fn first_failing(
+    book: &[u32],
+    g: Grid,
+    q: Ask,
+    item: u32,
+    w: u32,
+    first: u32,
+    last: u32,
+) -> Found
     requires { ⌜ Fits g (length (now book)) ⌝ }
     requires { ⌜ last < g .slots ⌝ }
     requires { ⌜ item < g .items ⌝ }

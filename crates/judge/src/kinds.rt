@@ -1,7 +1,7 @@
 // The table of kinds, and questions 4 to 7, which are asked of the words of a request alone.
+use book::units::Slot;
 use model::Request;
 use model::Settings;
-use book::units::Slot;
 ghost use mathlib.Core.Path.{_≡_};
 ghost use Prim.Native.Nat.{_≤_};
 ghost use Rattle.model.specs.Kinds.{used, limit, slotsOf};
@@ -35,13 +35,27 @@ pub struct Row {
 fn plain(a: Field, b: Field, unit: Slot) -> Row
     ensures { λ r. ⌜ r ≡ plainRow a b unit ⌝ }
 {
-    Row { a, b, unit, n: false, info: false, one: false }
+    Row {
+        a,
+        b,
+        unit,
+        n: false,
+        info: false,
+        one: false,
+    }
 }
 
 fn single(a: Field, b: Field, unit: Slot) -> Row
     ensures { λ r. ⌜ r ≡ singleRow a b unit ⌝ }
 {
-    Row { a, b, unit, n: false, info: false, one: true }
+    Row {
+        a,
+        b,
+        unit,
+        n: false,
+        info: false,
+        one: true,
+    }
 }
 
 // The row of a kind; the last kind is 20.
@@ -62,9 +76,23 @@ pub fn row_of(kind: u32) -> Row
         9 => plain(Field::Meeting, Field::Unused, Slot::Sessions),
         10 => plain(Field::Meeting, Field::Visitor, Slot::Sessions),
         11 => plain(Field::Meeting, Field::Visitor, Slot::Sessions),
-        12 => Row { a: Field::Room, b: Field::Meeting, unit: Slot::Sessions, n: false, info: true, one: false },
+        12 => Row {
+            a: Field::Room,
+            b: Field::Meeting,
+            unit: Slot::Sessions,
+            n: false,
+            info: true,
+            one: false,
+        },
         13 => plain(Field::Unused, Field::Meeting, Slot::Sessions),
-        14 => Row { a: Field::DiningRoom, b: Field::Meeting, unit: Slot::Dates, n: true, info: true, one: false },
+        14 => Row {
+            a: Field::DiningRoom,
+            b: Field::Meeting,
+            unit: Slot::Dates,
+            n: true,
+            info: true,
+            one: false,
+        },
         15 => plain(Field::DiningRoom, Field::Meeting, Slot::Dates),
         16 => plain(Field::Unused, Field::Meeting, Slot::Sessions),
         17 => single(Field::Unused, Field::Visitor, Slot::Sessions),

@@ -1,8 +1,8 @@
 // The answer of a request on a book that passes questions 1 and 2: reads only.
-pub mod kinds;
-pub mod cells;
-pub mod slots;
 pub mod answers;
+pub mod cells;
+pub mod kinds;
+pub mod slots;
 
 use book::grid::Grids;
 use model::Answer;
@@ -25,14 +25,23 @@ pub fn judge(book: &[u32], s: Settings, g: Grids, r: Request) -> Answer
 {
     let kind = r.kind;
     if kind == 0 {
-        return Answer::Refused { number: 3, place: 0 };
+        return Answer::Refused {
+            number: 3,
+            place: 0,
+        };
     }
     if LAST_KIND < kind {
-        return Answer::Refused { number: 3, place: 0 };
+        return Answer::Refused {
+            number: 3,
+            place: 0,
+        };
     }
     let no = kinds::fields(s, kinds::row_of(kind), r);
     if no != 0 {
-        return Answer::Refused { number: no, place: 0 };
+        return Answer::Refused {
+            number: no,
+            place: 0,
+        };
     }
     answers::answer(book, s, g, r)
 }

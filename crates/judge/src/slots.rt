@@ -1,18 +1,18 @@
 // The questions of a visitor, a meeting or a dining room in each slot: 9, 10, 14 and 16 to 20.
-use queries::entries::attended;
-use queries::bookings::bookings;
-use queries::entries::conf_held;
-use queries::entries::lunch_held;
-use queries::entries::on_leave;
-use queries::rooms::reserved;
-use queries::entries::stands;
-use queries::dates::stands_on;
 use book::found::Found;
 use book::grid::Grids;
 use book::units::Slot;
 use book::units::date_of_session;
 use model::Session;
 use model::Settings;
+use queries::bookings::bookings;
+use queries::dates::stands_on;
+use queries::entries::attended;
+use queries::entries::conf_held;
+use queries::entries::lunch_held;
+use queries::entries::on_leave;
+use queries::entries::stands;
+use queries::rooms::reserved;
 ghost use mathlib.Core.Path.{_≡_};
 ghost use Prim.Native.Nat.{_≤_, _<_};
 ghost use Rattle.model.specs.Bounded.{failing};
@@ -108,7 +108,16 @@ fn holds(book: &[u32], s: Settings, g: Grids, t: Test, who: u32, n: u32, slot: u
 }
 
 // The lowest slot of first..last that fails the test.
-pub fn first_without(book: &[u32], s: Settings, g: Grids, t: Test, who: u32, n: u32, first: u32, last: u32) -> Found
+pub fn first_without(
+    book: &[u32],
+    s: Settings,
+    g: Grids,
+    t: Test,
+    who: u32,
+    n: u32,
+    first: u32,
+    last: u32,
+) -> Found
     requires { ⌜ Good s (now book) ⌝ }
     requires { ⌜ g ≡ gridsOf s ⌝ }
     requires { ⌜ last < slotsOf s (unitOf (unitFor t)) ⌝ }
