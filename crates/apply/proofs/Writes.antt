@@ -52,7 +52,7 @@ region-is confPairs = refl
 region-is lunchTriples = refl
 region-is rideCells = refl
 
-index-inj : (g h : Region) → index g ≡ index h → g ≡ h
+pub index-inj : (g h : Region) → index g ≡ index h → g ≡ h
 index-inj g h e = sym (region-is g) ∙ ap region e ∙ region-is h
 
 -- the cell (i, j) of region h is one of region g's with the test d
@@ -76,7 +76,7 @@ among-less g d e h i j l q = go (eqb (index h) (index g)) (d i j) refl q
     go true true p q = absurd (true≢false (sym (l p) ∙ q))
 
 -- the first word of a cell
-first-of : {S : Settings} {g : Region} {i j k : ℕ} → Cell S g i j k → Cell S g i j 0
+pub first-of : {S : Settings} {g : Region} {i j k : ℕ} → Cell S g i j k → Cell S g i j 0
 first-of c = record { slot = c .slot; item = c .item; word = omega (arith, c .word) }
 
 -- a test that agrees on the cells of the region
