@@ -27,6 +27,9 @@ wordIn c (suc (suc k)) = c .third
 abbrev pub empty : Content
 empty = record { entry = 0; second = 0; third = 0 }
 
+abbrev pub holding : ℕ → Content
+holding w = record { entry = w; second = 0; third = 0 }
+
 -- the first m words of c, from place n on
 abbrev pub puts : Content → ℕ → ℕ → List ℕ → List ℕ
 puts c n zero b = b
