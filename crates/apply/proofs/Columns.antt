@@ -25,6 +25,7 @@ use Rattle.model.proofs.Laws.{Sound}
 use Rattle.model.proofs.Places.{Cell}
 use Rattle.model.proofs.Keeps.{Yes, yes, yes-slot, slots-fit, is-free, not-elsewhere}
 use Rattle.book.specs.Grids.{gridOf}
+use Rattle.apply.specs.declared.cells.Content.{Content}
 use Rattle.apply.specs.Stores.{wordIn, empty, holding, filled, swept, flipped, markedAll}
 use Rattle.apply.proofs.Stages.{Frame, Carries, column, rows, bits, up-to}
 use Rattle.apply.proofs.Contents.{added, emptied, swept-of, some-or, some-less, less-same, turned-bits, and-one, and-none}
@@ -193,3 +194,95 @@ module _ (x : State) (s : Sound x) (r : Request) (b : List ℕ) (a : Carries (x 
           pair-added r (λ i j m. isSome (x .conf i j m)) (λ i j m. isSome (C i j m)) (S .meetings) (λ i j m. infoOf (x .conf i j m)) (λ i j m. infoOf (C i j m)) (r .a) (r .b)
           (λ i j e u. ap infoOf (off i j e u)) (λ i j u. some-or _ (r .info) (x .conf i j u)) hb (r .info) (λ i e. ap infoOf (new i e)) free i j
       here i j (suc (suc k)) c = absurd (omega (arith, c .word))
+
+  -- kind 14 and 15: a triple, the item b, holding a with its seats and information
+  module _ (k : Kind) (y : Yes x r k (always ++ further k)) (unit : S .dates ≡ slotsOf S (row k .unit)) (hb : r .b < S .meetings) (new : Option Lunch) where
+    abbrev U : ℕ → ℕ → ℕ → Option Lunch
+    U d g m = cond (slot r d && eqb g (r .a) && eqb m (r .b)) new (x .lunch d g m)
+
+    U-off : (i j : ℕ) → slot r i && eqb j (r .b) ≡ false → (g : ℕ) → U i g j ≡ x .lunch i g j
+    U-off i j e g = rw (swap (slot r i) (eqb g (r .a)) (eqb j (r .b)), e)
+
+    U-new : (i : ℕ) → slot r i ≡ true → U i (r .a) (r .b) ≡ new
+    U-new i e = rw (e, eq-eqb (r .a) (r .a) refl, eq-eqb (r .b) (r .b) refl)
+
+    -- the column, if each word of its cells is as c says
+    lunch-column : (c : Content)
+        → ((i j : ℕ) → cell (λ g. isSome (U i g j)) (S .dining) ≡ cond (slot r i && eqb j (r .b)) (c .entry) (cell (λ g. isSome (x .lunch i g j)) (S .dining)))
+        → ((i j : ℕ) → found (lowest (λ g. isSome (U i g j)) 0 (S .dining)) (λ g. seatsOf (U i g j))
+        ≡ cond (slot r i && eqb j (r .b)) (c .second) (found (lowest (λ g. isSome (x .lunch i g j)) 0 (S .dining)) (λ g. seatsOf (x .lunch i g j))))
+        → ((i j : ℕ) → found (lowest (λ g. isSome (U i g j)) 0 (S .dining)) (λ g. lunchInfo (U i g j))
+        ≡ cond (slot r i && eqb j (r .b)) (c .third) (found (lowest (λ g. isSome (x .lunch i g j)) 0 (S .dining)) (λ g. lunchInfo (x .lunch i g j))))
+        → Carries S (withLunch x U) (filled (gridOf S lunchTriples) (r .b) c (r .first) (r .last + 1) b)
+    unfolding word
+    lunch-column c w0 w1 w2 =
+        column a lunchTriples (slot r) (r .first) (r .last + 1) (rw unit (most k y)) (λ i _. in-slots i) (withLunch x U) (lunch-frame x U) (r .b) c hb here
+      where
+        here : (i j m : ℕ) → Cell S lunchTriples i j m → word (withLunch x U) lunchTriples i j m ≡ cond (slot r i && eqb j (r .b)) (wordIn c m) (word x lunchTriples i j m)
+        here i j zero cell = w0 i j
+        here i j (suc zero) cell = w1 i j
+        here i j (suc (suc zero)) cell = w2 i j
+        here i j (suc (suc (suc m))) cell = absurd (omega (arith, cell .word))
+
+  pub write-addLunch : Yes x r addLunch (always ++ further addLunch)
+      → Carries S (change x r addLunch) (filled (gridOf S lunchTriples) (r .b) (record { entry = r .a + 1; second = r .n; third = r .info }) (r .first) (r .last + 1) b)
+  unfolding change test
+  write-addLunch y =
+      lunch-column addLunch y refl hb new _
+      (pair-added r p q (S .dining) (λ i j. suc) (λ i j. suc) (r .b) (r .a) (λ i j _ u. refl) is ha (r .a + 1) (λ i _. one-more (r .a)) free)
+      (beside seatsOf (r .n) refl) (beside lunchInfo (r .info) refl)
+    where
+      new : Option Lunch
+      new = some (record { seats = r .n; info = r .info })
+
+      hb : r .b < S .meetings
+      hb = ltb-true _ _ (yes x r addLunch bBelow refl (y .1 .1 .0))
+
+      ha : r .a < S .dining
+      ha = ltb-true _ _ (yes x r addLunch aBelow refl (y .1 .0))
+
+      p : ℕ → ℕ → ℕ → Bool
+      p i j g = isSome (x .lunch i g j)
+
+      q : ℕ → ℕ → ℕ → Bool
+      q i j g = isSome (U addLunch y refl hb new i g j)
+
+      is : (i j u : ℕ) → q i j u ≡ p i j u || (slot r i && eqb j (r .b) && eqb u (r .a))
+      is i j u = some-or _ (record { seats = r .n; info = r .info }) (x .lunch i u j) ∙ ap (λ (t : Bool). p i j u || t) (swap (slot r i) (eqb u (r .a)) (eqb j (r .b)))
+
+      free : (i u : ℕ) → slot r i ≡ true → p i (r .b) u ≡ true → ⊥
+      free i u h = alone addLunch lunches (y .1 .1 .1 .1 .1 .1 .0) (y .1 .1 .1 .1 .1 .1 .1 .0) i u h
+
+      beside : (f : Option Lunch → ℕ) (w : ℕ) → f new ≡ w → (i j : ℕ) → found (lowest (q i j) 0 (S .dining)) (λ g. f (U addLunch y refl hb new i g j))
+          ≡ cond (slot r i && eqb j (r .b)) w (found (lowest (p i j) 0 (S .dining)) (λ g. f (x .lunch i g j)))
+      beside f w e =
+          pair-added r p q (S .dining) (λ i j g. f (x .lunch i g j)) (λ i j g. f (U addLunch y refl hb new i g j)) (r .b) (r .a)
+          (λ i j e u. ap f (U-off addLunch y refl hb new i j e u)) is ha w (λ i h. ap f (U-new addLunch y refl hb new i h) ∙ e) free
+
+  pub write-eraseLunch : Yes x r eraseLunch (always ++ further eraseLunch)
+      → Carries S (change x r eraseLunch) (filled (gridOf S lunchTriples) (r .b) empty (r .first) (r .last + 1) b)
+  unfolding change test
+  write-eraseLunch y =
+      lunch-column eraseLunch y refl hb none _
+      (pair-erased r p q (S .dining) (λ i j. suc) (λ i j. suc) (r .b) (r .a) (λ i j _ u. refl) is only) (beside seatsOf) (beside lunchInfo)
+    where
+      hb : r .b < S .meetings
+      hb = ltb-true _ _ (yes x r eraseLunch bBelow refl (y .1 .1 .0))
+
+      p : ℕ → ℕ → ℕ → Bool
+      p i j g = isSome (x .lunch i g j)
+
+      q : ℕ → ℕ → ℕ → Bool
+      q i j g = isSome (U eraseLunch y refl hb none i g j)
+
+      is : (i j u : ℕ) → q i j u ≡ p i j u && not (slot r i && eqb j (r .b) && eqb u (r .a))
+      is i j u = some-less (slot r i && eqb u (r .a) && eqb j (r .b)) (x .lunch i u j) ∙ ap (λ (t : Bool). p i j u && not t) (swap (slot r i) (eqb u (r .a)) (eqb j (r .b)))
+
+      only : (i u : ℕ) → slot r i ≡ true → p i (r .b) u ≡ true → u ≡ r .a
+      only i u h e = s .oneA lunches refl i (r .b) u (r .a) e (there eraseLunch lunches (y .1 .1 .1 .1 .0) i h)
+
+      beside : (f : Option Lunch → ℕ) (i j : ℕ) → found (lowest (q i j) 0 (S .dining)) (λ g. f (U eraseLunch y refl hb none i g j))
+          ≡ cond (slot r i && eqb j (r .b)) 0 (found (lowest (p i j) 0 (S .dining)) (λ g. f (x .lunch i g j)))
+      beside f =
+          pair-erased r p q (S .dining) (λ i j g. f (x .lunch i g j)) (λ i j g. f (U eraseLunch y refl hb none i g j)) (r .b) (r .a)
+          (λ i j e u. ap f (U-off eraseLunch y refl hb none i j e u)) is only
