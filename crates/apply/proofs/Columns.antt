@@ -26,7 +26,7 @@ use Rattle.model.proofs.Places.{Cell}
 use Rattle.model.proofs.Keeps.{Yes, yes, yes-slot, slots-fit, is-free, not-elsewhere}
 use Rattle.book.specs.Grids.{gridOf}
 use Rattle.apply.specs.declared.cells.Content.{Content}
-use Rattle.apply.specs.Stores.{wordIn, empty, holding, filled, swept, flipped, markedAll}
+use Rattle.apply.specs.Stores.{wordIn, empty, full, filled, swept, flipped, markedAll}
 use Rattle.apply.proofs.Stages.{Frame, Carries, column, rows, bits, up-to}
 use Rattle.apply.proofs.Contents.{added, emptied, swept-of, some-or, some-less, less-same, turned-bits, and-one, and-none}
 use Rattle.apply.proofs.Frames.{leave-frame, standing-frame, hotel-frame, ride-frame, attend-frame, conf-frame, lunch-frame}
@@ -96,17 +96,17 @@ module _ (x : State) (s : Sound x) (r : Request) (b : List ℕ) (a : Carries (x 
   module _ (k : Kind) (y : Yes x r k (always ++ further k)) (g : Region) (one : width g ≡ 1) (unit : slots S g ≡ slotsOf S (row k .unit))
       (p q : ℕ → ℕ → ℕ → Bool) (n A B : ℕ) (z : State) (frame : Frame g x z) (item : A < items S g)
       (before : (i j m : ℕ) → word x g i j m ≡ cell (p i j) n) (after : (i j m : ℕ) → word z g i j m ≡ cell (q i j) n) where
-    only-word : (w m : ℕ) → m < width g → wordIn (holding w) m ≡ w
-    only-word w zero l = refl
-    only-word w (suc m) l = absurd (omega (arith, one))
+    only-word : (c : Content) (m : ℕ) → m < width g → wordIn c m ≡ c .entry
+    only-word c zero l = refl
+    only-word c (suc m) l = absurd (omega (arith, one))
 
     put-one : ((i j u : ℕ) → q i j u ≡ p i j u || (slot r i && eqb j A && eqb u B)) → B < n → ((i u : ℕ) → slot r i ≡ true → p i A u ≡ true → ⊥)
-        → Carries S z (filled (gridOf S g) A (holding (B + 1)) (r .first) (r .last + 1) b)
+        → Carries S z (filled (gridOf S g) A (full B 0 0) (r .first) (r .last + 1) b)
     put-one is hb free =
-        column a g (slot r) (r .first) (r .last + 1) (rw unit (most k y)) (λ i _. in-slots i) z frame A (holding (B + 1)) item
+        column a g (slot r) (r .first) (r .last + 1) (rw unit (most k y)) (λ i _. in-slots i) z frame A (full B 0 0) item
         (λ i j m c. after i j m
         ∙ pair-added r p q n (λ i j. suc) (λ i j. suc) A B (λ i j _ u. refl) is hb (B + 1) (λ i _. one-more B) free i j
-        ∙ ap₂ (cond (slot r i && eqb j A)) (sym (only-word (B + 1) m (c .word))) (sym (before i j m)))
+        ∙ ap₂ (cond (slot r i && eqb j A)) (sym (only-word (full B 0 0) m (c .word))) (sym (before i j m)))
 
     take-one : ((i j u : ℕ) → q i j u ≡ p i j u && not (slot r i && eqb j A && eqb u B)) → ((i u : ℕ) → slot r i ≡ true → p i A u ≡ true → u ≡ B)
         → Carries S z (filled (gridOf S g) A empty (r .first) (r .last + 1) b)
@@ -114,10 +114,10 @@ module _ (x : State) (s : Sound x) (r : Request) (b : List ℕ) (a : Carries (x 
         column a g (slot r) (r .first) (r .last + 1) (rw unit (most k y)) (λ i _. in-slots i) z frame A empty item
         (λ i j m c. after i j m
         ∙ pair-erased r p q n (λ i j. suc) (λ i j. suc) A B (λ i j _ u. refl) is only i j
-        ∙ ap₂ (cond (slot r i && eqb j A)) (sym (only-word 0 m (c .word))) (sym (before i j m)))
+        ∙ ap₂ (cond (slot r i && eqb j A)) (sym (only-word empty m (c .word))) (sym (before i j m)))
 
   -- kinds 4 and 5, 6 and 7: the item is a, and its cells hold b
-  pub write-addHotel : Yes x r addHotel (always ++ further addHotel) → Carries S (change x r addHotel) (filled (gridOf S hotelCells) (r .a) (holding (r .b + 1)) (r .first) (r .last + 1) b)
+  pub write-addHotel : Yes x r addHotel (always ++ further addHotel) → Carries S (change x r addHotel) (filled (gridOf S hotelCells) (r .a) (full (r .b) 0 0) (r .first) (r .last + 1) b)
   unfolding change test word
   write-addHotel y =
       put-one addHotel y hotelCells refl refl (x .hotel) _ (S .visitors) (r .a) (r .b) (change x r addHotel) (hotel-frame x _)
@@ -131,7 +131,7 @@ module _ (x : State) (s : Sound x) (r : Request) (b : List ℕ) (a : Carries (x 
       (ltb-true _ _ (yes x r eraseHotel aBelow refl (y .1 .0))) (λ i j m. refl) (λ i j m. refl) (λ i j u. refl)
       (λ i u h e. s .oneB hotels refl i (r .a) u (r .b) e (there eraseHotel hotels (y .1 .1 .1 .1 .0) i h))
 
-  pub write-addRide : Yes x r addRide (always ++ further addRide) → Carries S (change x r addRide) (filled (gridOf S rideCells) (r .a) (holding (r .b + 1)) (r .first) (r .last + 1) b)
+  pub write-addRide : Yes x r addRide (always ++ further addRide) → Carries S (change x r addRide) (filled (gridOf S rideCells) (r .a) (full (r .b) 0 0) (r .first) (r .last + 1) b)
   unfolding change test word
   write-addRide y =
       put-one addRide y rideCells refl refl (x .ride) _ (S .visitors) (r .a) (r .b) (change x r addRide) (ride-frame x _)
@@ -146,7 +146,7 @@ module _ (x : State) (s : Sound x) (r : Request) (b : List ℕ) (a : Carries (x 
       (λ i u h e. s .oneB rides refl i (r .a) u (r .b) e (there eraseRide rides (y .1 .1 .1 .1 .0) i h))
 
   -- kinds 10 and 11: the item is b, and its cells hold a
-  pub write-addAttend : Yes x r addAttend (always ++ further addAttend) → Carries S (change x r addAttend) (filled (gridOf S attendCells) (r .b) (holding (r .a + 1)) (r .first) (r .last + 1) b)
+  pub write-addAttend : Yes x r addAttend (always ++ further addAttend) → Carries S (change x r addAttend) (filled (gridOf S attendCells) (r .b) (full (r .a) 0 0) (r .first) (r .last + 1) b)
   unfolding change test word
   write-addAttend y =
       put-one addAttend y attendCells refl refl (λ i j m. x .attend i m j) _ (S .meetings) (r .b) (r .a) (change x r addAttend) (attend-frame x _)
@@ -164,7 +164,7 @@ module _ (x : State) (s : Sound x) (r : Request) (b : List ℕ) (a : Carries (x 
 
   -- kind 12: a pair, the item a, holding b with its information
   pub write-addConf : Yes x r addConf (always ++ further addConf)
-      → Carries S (change x r addConf) (filled (gridOf S confPairs) (r .a) (record { entry = r .b + 1; second = r .info; third = 0 }) (r .first) (r .last + 1) b)
+      → Carries S (change x r addConf) (filled (gridOf S confPairs) (r .a) (full (r .b) (r .info) 0) (r .first) (r .last + 1) b)
   unfolding change test word
   write-addConf y =
       column a confPairs (slot r) (r .first) (r .last + 1) (most addConf y) (λ i _. in-slots i) (change x r addConf) (conf-frame x _) (r .a) _
@@ -186,7 +186,7 @@ module _ (x : State) (s : Sound x) (r : Request) (b : List ℕ) (a : Carries (x 
       free i u h = is-free x r addConf s confs (y .1 .1 .1 .1 .1 .1 .0) i u h
 
       here : (i j k : ℕ) → Cell S confPairs i j k
-          → word (change x r addConf) confPairs i j k ≡ cond (slot r i && eqb j (r .a)) (wordIn (record { entry = r .b + 1; second = r .info; third = 0 }) k) (word x confPairs i j k)
+          → word (change x r addConf) confPairs i j k ≡ cond (slot r i && eqb j (r .a)) (wordIn (full (r .b) (r .info) 0) k) (word x confPairs i j k)
       here i j zero c =
           pair-added r (λ i j m. isSome (x .conf i j m)) (λ i j m. isSome (C i j m)) (S .meetings) (λ i j. suc) (λ i j. suc) (r .a) (r .b) (λ i j _ u. refl)
           (λ i j u. some-or _ (r .info) (x .conf i j u)) hb (r .b + 1) (λ i _. one-more (r .b)) free i j
@@ -225,7 +225,7 @@ module _ (x : State) (s : Sound x) (r : Request) (b : List ℕ) (a : Carries (x 
         here i j (suc (suc (suc m))) cell = absurd (omega (arith, cell .word))
 
   pub write-addLunch : Yes x r addLunch (always ++ further addLunch)
-      → Carries S (change x r addLunch) (filled (gridOf S lunchTriples) (r .b) (record { entry = r .a + 1; second = r .n; third = r .info }) (r .first) (r .last + 1) b)
+      → Carries S (change x r addLunch) (filled (gridOf S lunchTriples) (r .b) (full (r .a) (r .n) (r .info)) (r .first) (r .last + 1) b)
   unfolding change test
   write-addLunch y =
       lunch-column addLunch y refl hb new _

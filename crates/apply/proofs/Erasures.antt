@@ -23,13 +23,12 @@ use Rattle.model.proofs.Laws.{Sound}
 use Rattle.model.proofs.Places.{Cell}
 use Rattle.model.proofs.Keeps.{Yes, yes, slots-fit}
 use Rattle.book.specs.declared.units.Slot.the-variants.{Dates, Sessions, Times}
-use Rattle.book.specs.Units.{Cut}
 use Rattle.book.specs.Grids.{gridOf}
 use Rattle.book.specs.Ranges.{Ranges}
 use Rattle.book.proofs.Regions.{group-lt, date-lt}
 use Rattle.book.proofs.Cuts.{between-cuts}
 use Rattle.book.proofs.Goods.{ranges-by}
-use Rattle.apply.specs.Stores.{wordIn, empty, filled, swept, markedAll}
+use Rattle.apply.specs.Stores.{wordIn, empty, filled, swept, markedAll, OnDates}
 use Rattle.apply.proofs.Stages.{Frame, Carries, column, rows, bits, up-to}
 use Rattle.apply.proofs.Contents.{emptied, swept-of, some-less, less-same, turned, turned-bits, and-one, and-none}
 use Rattle.apply.proofs.Frames.{leave-frame, standing-frame, hotel-frame, ride-frame, attend-frame, conf-frame, lunch-frame}
@@ -41,7 +40,7 @@ empty-word (suc zero) = refl
 empty-word (suc (suc k)) = refl
 
 -- one write in the slots with the test t, those from `from` to before `to`
-module _ {S : Settings} (x : State) (is-S : x .settings ≡ S) {b : List ℕ} (a : Carries S x b) (t : ℕ → Bool) (from to : ℕ) where
+module _ {S : Settings} (x : State) {b : List ℕ} (a : Carries S x b) (t : ℕ → Bool) (from to : ℕ) where
   -- the bit of a member
   leave-bits : (on : Bool) (v : ℕ) → v < S .visitors → to ≤ S .dates → ((i : ℕ) → i < S .dates → t i ≡ leb from i && ltb i to)
       → Carries S (withLeave x (λ d u. turned on (x .leave d u) (t d && eqb u v))) (markedAll (gridOf S leaves) on v from to b)
@@ -158,29 +157,29 @@ module _ (x : State) (s : Sound x) (r : Request) (b : List ℕ) (a : Carries (x 
   -- kinds 1, 2 and 8
   pub write-addLeave : Yes x r addLeave (always ++ further addLeave) → Carries S (change x r addLeave) (markedAll (gridOf S leaves) true (r .b) (r .first) (r .last + 1) b)
   unfolding change test
-  write-addLeave y = leave-bits x refl a (slot r) (r .first) (r .last + 1) true (r .b) (ltb-true _ _ (yes x r addLeave bBelow refl (y .1 .1 .0))) (most addLeave y) (λ i _. in-slots i)
+  write-addLeave y = leave-bits x a (slot r) (r .first) (r .last + 1) true (r .b) (ltb-true _ _ (yes x r addLeave bBelow refl (y .1 .1 .0))) (most addLeave y) (λ i _. in-slots i)
 
   pub write-endLeave : Yes x r endLeave (always ++ further endLeave) → Carries S (change x r endLeave) (markedAll (gridOf S leaves) false (r .b) (r .first) (r .last + 1) b)
   unfolding change test
-  write-endLeave y = leave-bits x refl a (slot r) (r .first) (r .last + 1) false (r .b) (ltb-true _ _ (yes x r endLeave bBelow refl (y .1 .1 .0))) (most endLeave y) (λ i _. in-slots i)
+  write-endLeave y = leave-bits x a (slot r) (r .first) (r .last + 1) false (r .b) (ltb-true _ _ (yes x r endLeave bBelow refl (y .1 .1 .0))) (most endLeave y) (λ i _. in-slots i)
 
   pub write-addStanding : Yes x r addStanding (always ++ further addStanding) → Carries S (change x r addStanding) (markedAll (gridOf S standings) true (r .a) (r .first) (r .last + 1) b)
   unfolding change test
-  write-addStanding y = standing-bits x refl a (slot r) (r .first) (r .last + 1) true (r .a) (ltb-true _ _ (yes x r addStanding aBelow refl (y .1 .0))) (most addStanding y) (λ i _. in-slots i)
+  write-addStanding y = standing-bits x a (slot r) (r .first) (r .last + 1) true (r .a) (ltb-true _ _ (yes x r addStanding aBelow refl (y .1 .0))) (most addStanding y) (λ i _. in-slots i)
 
   -- kind 9: the standing, then the meeting's entries in the attend rows
   pub write-endStanding : Yes x r endStanding (always ++ further endStanding)
       → Carries S (change x r endStanding) (swept (gridOf S attendCells) (r .a + 1) (r .first) (r .last + 1) (markedAll (gridOf S standings) false (r .a) (r .first) (r .last + 1) b))
   unfolding change test
   write-endStanding y =
-      attend-rows (withStanding x _) refl
-      (standing-bits x refl a (slot r) (r .first) (r .last + 1) false (r .a) (ltb-true _ _ (yes x r endStanding aBelow refl (y .1 .0))) (most endStanding y) (λ i _. in-slots i))
+      attend-rows (withStanding x _)
+      (standing-bits x a (slot r) (r .first) (r .last + 1) false (r .a) (ltb-true _ _ (yes x r endStanding aBelow refl (y .1 .0))) (most endStanding y) (λ i _. in-slots i))
       (slot r) (r .first) (r .last + 1) (r .a) (most endStanding y) (λ i _. in-slots i) (s .oneA attends refl)
 
   -- kind 13
   pub write-eraseConf : Yes x r eraseConf (always ++ further eraseConf) → Carries S (change x r eraseConf) (swept (gridOf S confPairs) (r .b + 1) (r .first) (r .last + 1) b)
   unfolding change
-  write-eraseConf y = conf-rows x refl a (slot r) (r .first) (r .last + 1) (r .b) (most eraseConf y) (λ i _. in-slots i) (s .oneB confs refl)
+  write-eraseConf y = conf-rows x a (slot r) (r .first) (r .last + 1) (r .b) (most eraseConf y) (λ i _. in-slots i) (s .oneB confs refl)
 
   -- kind 16: the same, then the meeting's lunches on "dates from first's to last's"
   pub write-eraseConfAndLunch : Yes x r eraseConfAndLunch (always ++ further eraseConfAndLunch)
@@ -188,8 +187,8 @@ module _ (x : State) (s : Sound x) (r : Request) (b : List ℕ) (a : Carries (x 
       (filled (gridOf S lunchTriples) (r .b) empty (dateOfSession S (r .first)) (dateOfSession S (r .last) + 1) (swept (gridOf S confPairs) (r .b + 1) (r .first) (r .last + 1) b))
   unfolding change test
   write-eraseConfAndLunch y =
-      lunch-column (withConf x _) refl
-      (conf-rows x refl a (slot r) (r .first) (r .last + 1) (r .b) (most eraseConfAndLunch y) (λ i _. in-slots i) (s .oneB confs refl))
+      lunch-column (withConf x _)
+      (conf-rows x a (slot r) (r .first) (r .last + 1) (r .b) (most eraseConfAndLunch y) (λ i _. in-slots i) (s .oneB confs refl))
       (within (dateOfSession S (r .first)) (dateOfSession S (r .last))) (dateOfSession S (r .first)) (dateOfSession S (r .last) + 1) (r .b)
       (ltb-true _ _ (yes x r eraseConfAndLunch bBelow refl (y .1 .1 .0))) last-date (λ i _. up-to (dateOfSession S (r .first)) (dateOfSession S (r .last)) i)
     where
@@ -198,21 +197,21 @@ module _ (x : State) (s : Sound x) (r : Request) (b : List ℕ) (a : Carries (x 
 
   -- kind 3: leave, hotel rows of the dates, ride rows of the times and the attend column of the sessions on those dates
   pub write-removeVisitor : Yes x r removeVisitor (always ++ further removeVisitor)
-      → (lo hi from to : ℕ) → Cut S Times (r .first) lo → Cut S Times (r .last + 1) hi → Cut S Sessions (r .first) from → Cut S Sessions (r .last + 1) to
+      → (lo hi from to : ℕ) → OnDates S Times (r .first) (r .last) lo hi → OnDates S Sessions (r .first) (r .last) from to
       → Carries S (change x r removeVisitor)
       (filled (gridOf S attendCells) (r .b) empty from to
       (swept (gridOf S rideCells) (r .b + 1) lo hi
       (swept (gridOf S hotelCells) (r .b + 1) (r .first) (r .last + 1)
       (markedAll (gridOf S leaves) false (r .b) (r .first) (r .last + 1) b))))
   unfolding change test
-  write-removeVisitor y lo hi from to clo chi cfrom cto =
-      attend-column (withRide (withHotel (withLeave x _) _) _) refl
-      (ride-rows (withHotel (withLeave x _) _) refl
-      (hotel-rows (withLeave x _) refl
-      (leave-bits x refl a (slot r) (r .first) (r .last + 1) false (r .b) hb (most removeVisitor y) (λ i _. in-slots i))
+  write-removeVisitor y lo hi from to times sessions =
+      attend-column (withRide (withHotel (withLeave x _) _) _)
+      (ride-rows (withHotel (withLeave x _) _)
+      (hotel-rows (withLeave x _)
+      (leave-bits x a (slot r) (r .first) (r .last + 1) false (r .b) hb (most removeVisitor y) (λ i _. in-slots i))
       (slot r) (r .first) (r .last + 1) (r .b) (most removeVisitor y) (λ i _. in-slots i) (s .oneB hotels refl))
-      (λ i. slot r (dateOfTime S i)) lo hi (r .b) (chi .most) (between-cuts S Times (r .first) (r .last) lo hi clo chi) (s .oneB rides refl))
-      (λ i. slot r (dateOfSession S i)) from to (r .b) hb (cto .most) (between-cuts S Sessions (r .first) (r .last) from to cfrom cto)
+      (λ i. slot r (dateOfTime S i)) lo hi (r .b) (times .ends .most) (between-cuts S Times (r .first) (r .last) lo hi (times .begins) (times .ends)) (s .oneB rides refl))
+      (λ i. slot r (dateOfSession S i)) from to (r .b) hb (sessions .ends .most) (between-cuts S Sessions (r .first) (r .last) from to (sessions .begins) (sessions .ends))
     where
       hb : r .b < S .visitors
       hb = ltb-true _ _ (yes x r removeVisitor bBelow refl (y .1 .1 .0))
