@@ -32,6 +32,7 @@ use Rattle.book.specs.declared.grid.Grid.{Grid}
 use Rattle.book.specs.Grids.{Fits, gridOf, Laid}
 use Rattle.book.specs.Good.{Good}
 use Rattle.book.proofs.Regions.{fits, small}
+use Rattle.book.proofs.Goods.{good-laid}
 use Rattle.apply.specs.Accepted.{accepted}
 use Rattle.apply.specs.Stores.{Span}
 use Rattle.apply.proofs.Stages.{Carries, carries-all, carries-words}
@@ -111,15 +112,18 @@ module _ (S : Settings) (b : List ℕ) (good : Good S b) (r : Request) (acc : ac
       = subst (λ (S : Settings). below (limit S (row k .b)) (r .b) ≡ true) (sym (good .read)) (yes (stateOf b) r k bBelow refl (answers .1 .1 .0)) in
       ltb-true (r .b) n (subst (λ (o : Option ℕ). below o (r .b) ≡ true) q t)
 
+  pub span : (g : Region) → slots S g ≡ slotsOf S (row k .unit) → (h : Grid) → h ≡ gridOf S g → Span h (length b) (r .last)
+  span g u h q = span-of S b (good-laid good) g h q (length b) (r .last) refl (rw u slots-ok)
+
   -- writes that leave the words of the changed state
   pub arm : (W : Settings → List ℕ)
-      → ((x : State) → Sound x → Carries (x .settings) x b → Yes x r k (always ++ further k) → Carries (x .settings) (change x r k) (W (x .settings)))
+      → ((x : State) → x .settings ≡ S → Sound x → Carries (x .settings) x b → Yes x r k (always ++ further k) → Carries (x .settings) (change x r k) (W (x .settings)))
       → W S ≡ words (step (stateOf b) r .state)
   unfolding stateOf readState
   arm W write =
       ap W (good .read)
       ∙ carries-all (change (stateOf b) r k) (W (settingsOf b))
-      (subst (λ (T : Settings). Carries T (change (stateOf b) r k) (W (settingsOf b))) (sym (settings-kept (stateOf b) r k)) (write (stateOf b) (book-sound b (good .laid) (good .lawful)) shown answers))
+      (subst (λ (T : Settings). Carries T (change (stateOf b) r k) (W (settingsOf b))) (sym (settings-kept (stateOf b) r k)) (write (stateOf b) (sym (good .read)) (book-sound b (good .laid) (good .lawful)) shown answers))
       ∙ ap words (sym (ap (λ (o : Outcome). o .state) (accepted-step (stateOf b) r k done)))
     where
       shown : Carries (settingsOf b) (stateOf b) b
@@ -160,3 +164,9 @@ module _ (x : State) (r : Request) where
   quiet (suc (suc (suc (suc (suc (suc (suc (suc (suc (suc (suc (suc (suc (suc (suc (suc (suc (suc (suc zero))))))))))))))))))) n1 n2 n3 n4 n5 n6 n7 n8 n9 n10 n11 n12 n13 n14 n15 n16 = same seatsLeft refl
   quiet (suc (suc (suc (suc (suc (suc (suc (suc (suc (suc (suc (suc (suc (suc (suc (suc (suc (suc (suc (suc zero)))))))))))))))))))) n1 n2 n3 n4 n5 n6 n7 n8 n9 n10 n11 n12 n13 n14 n15 n16 = same freeRoom refl
   quiet (suc (suc (suc (suc (suc (suc (suc (suc (suc (suc (suc (suc (suc (suc (suc (suc (suc (suc (suc (suc (suc n))))))))))))))))))))) n1 n2 n3 n4 n5 n6 n7 n8 n9 n10 n11 n12 n13 n14 n15 n16 = refl
+
+pub unchanged : (S : Settings) (b : List ℕ) → Good S b → (r : Request) → (r .kind ≡ 1 → ⊥) → (r .kind ≡ 2 → ⊥) → (r .kind ≡ 3 → ⊥) → (r .kind ≡ 4 → ⊥) → (r .kind ≡ 5 → ⊥) → (r .kind ≡ 6 → ⊥) → (r .kind ≡ 7 → ⊥) → (r .kind ≡ 8 → ⊥) → (r .kind ≡ 9 → ⊥) → (r .kind ≡ 10 → ⊥) → (r .kind ≡ 11 → ⊥) → (r .kind ≡ 12 → ⊥) → (r .kind ≡ 13 → ⊥) → (r .kind ≡ 14 → ⊥) → (r .kind ≡ 15 → ⊥) → (r .kind ≡ 16 → ⊥)
+    → b ≡ words (step (stateOf b) r .state)
+unfolding step
+unchanged S b good r n1 n2 n3 n4 n5 n6 n7 n8 n9 n10 n11 n12 n13 n14 n15 n16 =
+    sym (words-stateOf b (good .laid) (good .lawful)) ∙ ap words (sym (quiet (stateOf b) r (r .kind) n1 n2 n3 n4 n5 n6 n7 n8 n9 n10 n11 n12 n13 n14 n15 n16))
