@@ -2,7 +2,7 @@
 -- and that the value is the kind's; refused means that no set changed.
 -- Assumes nothing.
 use Prim.Native.Nat.{ℕ, _≤_}
-use mathlib.Core.Path.{_≡_, refl, sym, _∙_, ap}
+use mathlib.Core.Path.{_≡_, refl, sym, _∙_, ap, ap₂}
 use mathlib.Core.Bool.{Bool, true, false, not, cond}
 use mathlib.Core.Option.{Option, none, some}
 use mathlib.Core.List.{List, [], _∷_, _++_}
@@ -88,6 +88,24 @@ pub judge-no : (x : State) (r : Request) (k : Kind) (qs : List Question) (q : Qu
     → judge x r k (qs ++ q ∷ later) ≡ some (record { number = number q; place = p })
 judge-no x r k [] q later p h e = rw e
 judge-no x r k (c ∷ qs) q later p h e = rw (h .0) (judge-no x r k qs q later p (h .1) e)
+
+-- a refusal by the first questions is one by all
+pub judge-some : (x : State) (r : Request) (k : Kind) (qs later : List Question) (f : Refusal) → judge x r k qs ≡ some f → judge x r k (qs ++ later) ≡ some f
+judge-some x r k [] later f e = absurd (let z : _≡_ {A = ℕ} 0 1 = cc in omega arith)
+judge-some x r k (q ∷ qs) later f e = go (ask x r k q) e (judge-some x r k qs later f)
+  where
+    go : (o : Option ℕ) → refusal q o (judge x r k qs) ≡ some f → (judge x r k qs ≡ some f → judge x r k (qs ++ later) ≡ some f) → refusal q o (judge x r k (qs ++ later)) ≡ some f
+    go none e rest = rest e
+    go (some p) e rest = e
+
+-- two states answer a question, and each question of a list, alike
+abbrev pub Alike : State → State → Request → Kind → List Question → Type 0
+Alike x y r k [] = Unit {0}
+Alike x y r k (q ∷ qs) = (ask x r k q ≡ ask y r k q) × Alike x y r k qs
+
+pub judge-same : (x y : State) (r : Request) (k : Kind) (qs : List Question) → Alike x y r k qs → judge x r k qs ≡ judge y r k qs
+judge-same x y r k [] h = refl
+judge-same x y r k (q ∷ qs) h = ap₂ (λ (o : Option ℕ) (l : Option Refusal). refusal q o l) (h .0) (judge-same x y r k qs (h .1))
 
 -- a question is answered yes, or no at a place, by its test
 module _ (x : State) (r : Request) (k : Kind) (q : Question) where
