@@ -1,12 +1,11 @@
 -- What an arm of the dispatch needs: the grids of its regions, the bounds that the questions give, and that its writes leave the
 -- words of the machine's state.
 -- Assumes nothing.
-use Prim.Native.Nat.{ℕ, zero, suc, _+_, _/_, _≤_, _<_}
+use Prim.Native.Nat.{ℕ, zero, suc, _≤_, _<_}
 use mathlib.Core.Path.{_≡_, refl, sym, _∙_, ap, subst}
-use mathlib.Core.Bool.{Bool, true, false, false≢true}
+use mathlib.Core.Bool.{true, false≢true}
 use mathlib.Core.Option.{Option, none, some}
-use mathlib.Core.List.{List, [], _∷_, _++_}
-use native.Mathlib.Omega.{arith}
+use mathlib.Core.List.{List, _++_}
 use lib.ListN.{length}
 use borrow.Author.Tests.{ltb-true}
 use Rattle.model.specs.declared.Settings.{Settings}

@@ -1,35 +1,34 @@
 -- The write of each kind: a book that has the words of a sound state then has those of the changed state.
 -- Assumes nothing.
-use Prim.Native.Nat.{ℕ, zero, suc, _+_, _*_, _-_, _/_, _%_, _≤_, _<_}
-use mathlib.Core.Path.{_≡_, refl, sym, _∙_, ap, ap₂, subst}
-use mathlib.Core.Bool.{Bool, true, false, not, _&&_, _||_, cond, true≢false, false≢true}
+use Prim.Native.Nat.{ℕ, zero, suc, _+_, _<_}
+use mathlib.Core.Path.{_≡_, refl, sym, _∙_, ap, ap₂}
+use mathlib.Core.Bool.{Bool, true, false, not, _&&_, _||_, cond, true≢false, and-true as and-one}
 use mathlib.Core.Option.{Option, none, some}
-use mathlib.Core.List.{List, [], _∷_, _++_}
+use mathlib.Core.List.{List, _++_}
 use native.Mathlib.Omega.{arith}
-use lib.Dec.{leb, ltb, eqb}
+use lib.Dec.{eqb}
 use borrow.Author.Tests.{ltb-true, eqb-true, eq-eqb, not-true}
 use Rattle.model.specs.declared.Settings.{Settings}
 use Rattle.model.specs.declared.Request.{Request}
-use Rattle.model.specs.Bounded.{lowest, found, isSome, within}
-use Rattle.model.specs.Site.{dateOfSession, dateOfTime}
+use Rattle.model.specs.Bounded.{lowest, found, isSome}
 use Rattle.model.specs.State.{State, Lunch, seatsOf, Pairs, hotels, rides, attends, confs, lunches, booked}
 use Rattle.model.specs.Kinds.{Kind, row, slotsOf}
-use Rattle.model.specs.Kinds.{Kind.addLeave, Kind.endLeave, Kind.removeVisitor, Kind.addHotel, Kind.eraseHotel, Kind.addRide, Kind.eraseRide}
-use Rattle.model.specs.Kinds.{Kind.addStanding, Kind.endStanding, Kind.addAttend, Kind.eraseAttend, Kind.addConf, Kind.eraseConf}
-use Rattle.model.specs.Kinds.{Kind.addLunch, Kind.eraseLunch, Kind.eraseConfAndLunch}
-use Rattle.model.specs.Questions.{ask, test, always, further, Question, Question.aBelow, Question.bBelow, Question.slotsFit, Question.absent, Question.present}
-use Rattle.model.specs.Machine.{change, slot, withLeave, withStanding, withHotel, withRide, withAttend, withConf, withLunch}
-use Rattle.model.specs.Words.{Region, leaves, hotelCells, standings, attendCells, confPairs, lunchTriples, rideCells, slots, items, width, word, cell, infoOf, lunchInfo}
-use Rattle.model.proofs.Search.{and-left, and-right, and-true, true-within}
+use Rattle.model.specs.Kinds.{Kind.addHotel, Kind.eraseHotel, Kind.addRide, Kind.eraseRide}
+use Rattle.model.specs.Kinds.{Kind.addAttend, Kind.eraseAttend, Kind.addConf}
+use Rattle.model.specs.Kinds.{Kind.addLunch, Kind.eraseLunch}
+use Rattle.model.specs.Questions.{ask, test, always, further, Question, Question.aBelow, Question.bBelow, Question.absent, Question.present}
+use Rattle.model.specs.Machine.{change, slot, withLunch}
+use Rattle.model.specs.Words.{Region, hotelCells, attendCells, confPairs, lunchTriples, rideCells, slots, items, width, word, cell, infoOf, lunchInfo}
+use Rattle.model.proofs.Search.{and-left, and-right}
 use Rattle.model.proofs.Laws.{Sound}
 use Rattle.model.proofs.Places.{Cell}
-use Rattle.model.proofs.Keeps.{Yes, yes, yes-slot, slots-fit, is-free, not-elsewhere}
+use Rattle.model.proofs.Keeps.{Yes, yes, yes-slot, is-free, not-elsewhere}
 use Rattle.book.specs.Grids.{gridOf}
 use Rattle.apply.specs.declared.cells.Content.{Content}
-use Rattle.apply.specs.Stores.{wordIn, empty, full, filled, swept, flipped, markedAll}
-use Rattle.apply.proofs.Stages.{Frame, Carries, column, rows, bits, up-to}
-use Rattle.apply.proofs.Contents.{added, emptied, swept-of, some-or, some-less, less-same, turned-bits, and-one, and-none}
-use Rattle.apply.proofs.Frames.{leave-frame, standing-frame, hotel-frame, ride-frame, attend-frame, conf-frame, lunch-frame}
+use Rattle.apply.specs.Stores.{wordIn, empty, full, filled}
+use Rattle.apply.proofs.Stages.{Frame, Carries, column, in-slots, last-slot}
+use Rattle.apply.proofs.Contents.{added, emptied, some-or, some-less}
+use Rattle.apply.proofs.Frames.{hotel-frame, ride-frame, attend-frame, conf-frame, lunch-frame}
 
 -- ---- one item's cell in the request's slots; p and f before, q and h after: cell (i, j) holds u, and its word is read by f i j
 
@@ -73,13 +72,6 @@ module _ (x : State) (s : Sound x) (r : Request) (b : List ℕ) (a : Carries (x 
   abbrev S : Settings
   S = x .settings
 
-  -- the slots of the request, of the unit of its kind
-  in-slots : (i : ℕ) → slot r i ≡ leb (r .first) i && ltb i (r .last + 1)
-  in-slots i = up-to (r .first) (r .last) i
-
-  most : (k : Kind) → Yes x r k (always ++ further k) → r .last + 1 ≤ slotsOf S (row k .unit)
-  most k y = omega (arith, slots-fit x r k (y .1 .1 .1 .0))
-
   -- the pair is in the set, and in it alone
   there : (k : Kind) (p : Pairs) → ask x r k (present p) ≡ none → (i : ℕ) → slot r i ≡ true → booked x p i (r .a) (r .b) ≡ true
   unfolding test
@@ -103,7 +95,7 @@ module _ (x : State) (s : Sound x) (r : Request) (b : List ℕ) (a : Carries (x 
     put-one : ((i j u : ℕ) → q i j u ≡ p i j u || (slot r i && eqb j A && eqb u B)) → B < n → ((i u : ℕ) → slot r i ≡ true → p i A u ≡ true → ⊥)
         → Carries S z (filled (gridOf S g) A (full B 0 0) (r .first) (r .last + 1) b)
     put-one is hb free =
-        column a g (slot r) (r .first) (r .last + 1) (rw unit (most k y)) (λ i _. in-slots i) z frame A (full B 0 0) item
+        column a g (slot r) (r .first) (r .last + 1) (rw unit (last-slot x r k y)) (λ i _. in-slots r i) z frame A (full B 0 0) item
         (λ i j m c. after i j m
         ∙ pair-added r p q n (λ i j. suc) (λ i j. suc) A B (λ i j _ u. refl) is hb (B + 1) (λ i _. one-more B) free i j
         ∙ ap₂ (cond (slot r i && eqb j A)) (sym (only-word (full B 0 0) m (c .word))) (sym (before i j m)))
@@ -111,7 +103,7 @@ module _ (x : State) (s : Sound x) (r : Request) (b : List ℕ) (a : Carries (x 
     take-one : ((i j u : ℕ) → q i j u ≡ p i j u && not (slot r i && eqb j A && eqb u B)) → ((i u : ℕ) → slot r i ≡ true → p i A u ≡ true → u ≡ B)
         → Carries S z (filled (gridOf S g) A empty (r .first) (r .last + 1) b)
     take-one is only =
-        column a g (slot r) (r .first) (r .last + 1) (rw unit (most k y)) (λ i _. in-slots i) z frame A empty item
+        column a g (slot r) (r .first) (r .last + 1) (rw unit (last-slot x r k y)) (λ i _. in-slots r i) z frame A empty item
         (λ i j m c. after i j m
         ∙ pair-erased r p q n (λ i j. suc) (λ i j. suc) A B (λ i j _ u. refl) is only i j
         ∙ ap₂ (cond (slot r i && eqb j A)) (sym (only-word empty m (c .word))) (sym (before i j m)))
@@ -167,7 +159,7 @@ module _ (x : State) (s : Sound x) (r : Request) (b : List ℕ) (a : Carries (x 
       → Carries S (change x r addConf) (filled (gridOf S confPairs) (r .a) (full (r .b) (r .info) 0) (r .first) (r .last + 1) b)
   unfolding change test word
   write-addConf y =
-      column a confPairs (slot r) (r .first) (r .last + 1) (most addConf y) (λ i _. in-slots i) (change x r addConf) (conf-frame x _) (r .a) _
+      column a confPairs (slot r) (r .first) (r .last + 1) (last-slot x r addConf y) (λ i _. in-slots r i) (change x r addConf) (conf-frame x _) (r .a) _
       (ltb-true _ _ (yes x r addConf aBelow refl (y .1 .0))) here
     where
       hb : r .b < S .meetings
@@ -216,7 +208,7 @@ module _ (x : State) (s : Sound x) (r : Request) (b : List ℕ) (a : Carries (x 
         → Carries S (withLunch x U) (filled (gridOf S lunchTriples) (r .b) c (r .first) (r .last + 1) b)
     unfolding word
     lunch-column c w0 w1 w2 =
-        column a lunchTriples (slot r) (r .first) (r .last + 1) (rw unit (most k y)) (λ i _. in-slots i) (withLunch x U) (lunch-frame x U) (r .b) c hb here
+        column a lunchTriples (slot r) (r .first) (r .last + 1) (rw unit (last-slot x r k y)) (λ i _. in-slots r i) (withLunch x U) (lunch-frame x U) (r .b) c hb here
       where
         here : (i j m : ℕ) → Cell S lunchTriples i j m → word (withLunch x U) lunchTriples i j m ≡ cond (slot r i && eqb j (r .b)) (wordIn c m) (word x lunchTriples i j m)
         here i j zero cell = w0 i j

@@ -1,9 +1,9 @@
 -- What a cell and a word of bits hold after an entry is added to a set, or entries are taken out. A cell's word is what is read at
 -- the lowest number of a test: `found (lowest p 0 n) f`.
 -- Assumes nothing.
-use Prim.Native.Nat.{ℕ, zero, suc, _+_, _*_, _-_, _/_, _%_, _≤_, _<_}
-use mathlib.Core.Path.{_≡_, refl, sym, _∙_, ap, ap₂}
-use mathlib.Core.Bool.{Bool, true, false, not, _&&_, _||_, cond, true≢false, false≢true}
+use Prim.Native.Nat.{ℕ, suc, _+_, _*_, _/_, _%_, _<_}
+use mathlib.Core.Path.{_≡_, refl, sym, _∙_, ap}
+use mathlib.Core.Bool.{Bool, true, false, not, _&&_, _||_, cond, true≢false, false≢true, or-false, or-true, and-false, and-true as and-one}
 use mathlib.Core.Option.{Option, none, some}
 use native.Mathlib.Omega.{arith}
 use lib.Dec.{eqb}
@@ -11,25 +11,9 @@ use borrow.Author.Tests.{eqb-true, eqb-false, eq-eqb, ne-eqb}
 use Rattle.model.specs.Bounded.{lowest, found, isSome, packFrom}
 use Rattle.model.specs.Words.{cell}
 use Rattle.model.specs.Machine.{plus, minus}
-use Rattle.model.proofs.Search.{Lowest, lowest-is, lowest-by, lowest-same, and-left, and-right, and-true, both}
+use Rattle.model.proofs.Search.{Lowest, lowest-is, lowest-by, lowest-same}
 use Rattle.pool.proofs.Masks.{pack-same, put-pack, clear-pack}
 use Rattle.apply.specs.Stores.{flipped}
-
-or-false : (a : Bool) → a || false ≡ a
-or-false true = refl
-or-false false = refl
-
-or-true : (a : Bool) → a || true ≡ true
-or-true true = refl
-or-true false = refl
-
-pub and-one : (a : Bool) → a && true ≡ a
-and-one true = refl
-and-one false = refl
-
-pub and-none : (a : Bool) → a && false ≡ false
-and-none true = refl
-and-none false = refl
 
 none-is : (a : Bool) → (a ≡ true → ⊥) → a ≡ false
 none-is true f = absurd (f refl)
@@ -114,7 +98,7 @@ some-or true w o = sym (or-true (isSome o))
 some-or false w o = sym (or-false (isSome o))
 
 pub some-less : {A : Type 0} (t : Bool) (o : Option A) → isSome (cond t none o) ≡ isSome o && not t
-some-less true o = sym (and-none (isSome o))
+some-less true o = sym (and-false (isSome o))
 some-less false o = sym (and-one (isSome o))
 
 pub less-same : {A : Type 0} (t : Bool) (o : Option A) → isSome (cond t none o) ≡ true → cond t none o ≡ o

@@ -1,11 +1,11 @@
 -- The kinds that set or clear a member's bit, and those that erase a word from rows of cells: after each write the book has the
 -- words of the state with one set replaced.
 -- Assumes nothing.
-use Prim.Native.Nat.{ℕ, zero, suc, _+_, _*_, _-_, _/_, _%_, _≤_, _<_}
-use mathlib.Core.Path.{_≡_, refl, sym, _∙_, ap, ap₂, subst}
-use mathlib.Core.Bool.{Bool, true, false, not, _&&_, _||_, cond, true≢false, false≢true}
-use mathlib.Core.Option.{Option, none, some}
-use mathlib.Core.List.{List, [], _∷_, _++_}
+use Prim.Native.Nat.{ℕ, zero, suc, _+_, _≤_, _<_}
+use mathlib.Core.Path.{_≡_, refl, sym, _∙_, ap, ap₂}
+use mathlib.Core.Bool.{Bool, true, false, not, _&&_, cond, and-false, and-true as and-one}
+use mathlib.Core.Option.{Option, none}
+use mathlib.Core.List.{List, _++_}
 use native.Mathlib.Omega.{arith}
 use lib.Dec.{leb, ltb, eqb}
 use borrow.Author.Tests.{ltb-true}
@@ -13,31 +13,24 @@ use Rattle.model.specs.declared.Settings.{Settings}
 use Rattle.model.specs.declared.Request.{Request}
 use Rattle.model.specs.Bounded.{lowest, found, isSome, within}
 use Rattle.model.specs.Site.{dateOfSession, dateOfTime}
-use Rattle.model.specs.State.{State, Lunch, seatsOf, Pairs, hotels, rides, attends, confs, lunches, booked}
-use Rattle.model.specs.Kinds.{Kind, row, slotsOf}
+use Rattle.model.specs.State.{State, Lunch, seatsOf, hotels, rides, attends, confs}
 use Rattle.model.specs.Kinds.{Kind.addLeave, Kind.endLeave, Kind.removeVisitor, Kind.addStanding, Kind.endStanding, Kind.eraseConf, Kind.eraseConfAndLunch}
-use Rattle.model.specs.Questions.{ask, test, always, further, Question.aBelow, Question.bBelow, Question.slotsFit}
+use Rattle.model.specs.Questions.{test, always, further, Question.aBelow, Question.bBelow}
 use Rattle.model.specs.Machine.{change, slot, minus, withLeave, withStanding, withHotel, withRide, withAttend, withConf, withLunch}
-use Rattle.model.specs.Words.{Region, leaves, hotelCells, standings, attendCells, confPairs, lunchTriples, rideCells, slots, items, width, word, cell, infoOf, lunchInfo}
+use Rattle.model.specs.Words.{Region, leaves, hotelCells, standings, attendCells, confPairs, lunchTriples, rideCells, slots, word, cell, infoOf, lunchInfo}
 use Rattle.model.proofs.Laws.{Sound}
 use Rattle.model.proofs.Places.{Cell}
 use Rattle.model.proofs.Keeps.{Yes, yes, slots-fit}
-use Rattle.book.specs.declared.units.Slot.the-variants.{Dates, Sessions, Times}
+use Rattle.book.specs.declared.units.Slot.the-variants.{Sessions, Times}
 use Rattle.book.specs.Grids.{gridOf}
-use Rattle.book.specs.Ranges.{Ranges}
 use Rattle.book.proofs.Regions.{group-lt, date-lt}
 use Rattle.book.proofs.Cuts.{between-cuts}
 use Rattle.book.proofs.Goods.{ranges-by}
 use Rattle.apply.specs.Stores.{wordIn, empty, filled, swept, markedAll, OnDates}
-use Rattle.apply.proofs.Stages.{Frame, Carries, column, rows, bits, up-to}
-use Rattle.apply.proofs.Contents.{emptied, swept-of, some-less, less-same, turned, turned-bits, and-one, and-none}
+use Rattle.apply.proofs.Writes.{empty-word}
+use Rattle.apply.proofs.Stages.{Frame, Carries, column, rows, bits, up-to, in-slots, last-slot}
+use Rattle.apply.proofs.Contents.{emptied, swept-of, some-less, less-same, turned, turned-bits}
 use Rattle.apply.proofs.Frames.{leave-frame, standing-frame, hotel-frame, ride-frame, attend-frame, conf-frame, lunch-frame}
-
--- no word of an empty cell is anything but 0
-empty-word : (k : ℕ) → wordIn empty k ≡ 0
-empty-word zero = refl
-empty-word (suc zero) = refl
-empty-word (suc (suc k)) = refl
 
 -- one write in the slots with the test t, those from `from` to before `to`
 module _ {S : Settings} (x : State) {b : List ℕ} (a : Carries S x b) (t : ℕ → Bool) (from to : ℕ) where
@@ -120,7 +113,7 @@ module _ {S : Settings} (x : State) {b : List ℕ} (a : Carries S x b) (t : ℕ 
       column a attendCells t from to most agree (withAttend x (λ i m u. minus (x .attend i m u) (t i && eqb u v))) (attend-frame x _) v empty h
       (λ i j k c.
       emptied (λ m. x .attend i m j) (λ m. minus (x .attend i m j) (t i && eqb j v)) (x .settings .meetings) suc suc (t i && eqb j v)
-      (λ e m. rw e (and-none (x .attend i m j))) (λ e m. rw e (and-one (x .attend i m j))) (λ _ m. refl)
+      (λ e m. rw e (and-false (x .attend i m j))) (λ e m. rw e (and-one (x .attend i m j))) (λ _ m. refl)
       ∙ ap (λ (w : ℕ). cond (t i && eqb j v) w (cell (λ m. x .attend i m j) (x .settings .meetings))) (sym (empty-word k)))
 
   lunch-column : (m : ℕ) → m < S .meetings → to ≤ S .dates → ((i : ℕ) → i < S .dates → t i ≡ leb from i && ltb i to)
@@ -148,24 +141,18 @@ module _ (x : State) (s : Sound x) (r : Request) (b : List ℕ) (a : Carries (x 
   abbrev S : Settings
   S = x .settings
 
-  in-slots : (i : ℕ) → slot r i ≡ leb (r .first) i && ltb i (r .last + 1)
-  in-slots i = up-to (r .first) (r .last) i
-
-  most : (k : Kind) → Yes x r k (always ++ further k) → r .last + 1 ≤ slotsOf S (row k .unit)
-  most k y = omega (arith, slots-fit x r k (y .1 .1 .1 .0))
-
   -- kinds 1, 2 and 8
   pub write-addLeave : Yes x r addLeave (always ++ further addLeave) → Carries S (change x r addLeave) (markedAll (gridOf S leaves) true (r .b) (r .first) (r .last + 1) b)
   unfolding change test
-  write-addLeave y = leave-bits x a (slot r) (r .first) (r .last + 1) true (r .b) (ltb-true _ _ (yes x r addLeave bBelow refl (y .1 .1 .0))) (most addLeave y) (λ i _. in-slots i)
+  write-addLeave y = leave-bits x a (slot r) (r .first) (r .last + 1) true (r .b) (ltb-true _ _ (yes x r addLeave bBelow refl (y .1 .1 .0))) (last-slot x r addLeave y) (λ i _. in-slots r i)
 
   pub write-endLeave : Yes x r endLeave (always ++ further endLeave) → Carries S (change x r endLeave) (markedAll (gridOf S leaves) false (r .b) (r .first) (r .last + 1) b)
   unfolding change test
-  write-endLeave y = leave-bits x a (slot r) (r .first) (r .last + 1) false (r .b) (ltb-true _ _ (yes x r endLeave bBelow refl (y .1 .1 .0))) (most endLeave y) (λ i _. in-slots i)
+  write-endLeave y = leave-bits x a (slot r) (r .first) (r .last + 1) false (r .b) (ltb-true _ _ (yes x r endLeave bBelow refl (y .1 .1 .0))) (last-slot x r endLeave y) (λ i _. in-slots r i)
 
   pub write-addStanding : Yes x r addStanding (always ++ further addStanding) → Carries S (change x r addStanding) (markedAll (gridOf S standings) true (r .a) (r .first) (r .last + 1) b)
   unfolding change test
-  write-addStanding y = standing-bits x a (slot r) (r .first) (r .last + 1) true (r .a) (ltb-true _ _ (yes x r addStanding aBelow refl (y .1 .0))) (most addStanding y) (λ i _. in-slots i)
+  write-addStanding y = standing-bits x a (slot r) (r .first) (r .last + 1) true (r .a) (ltb-true _ _ (yes x r addStanding aBelow refl (y .1 .0))) (last-slot x r addStanding y) (λ i _. in-slots r i)
 
   -- kind 9: the standing, then the meeting's entries in the attend rows
   pub write-endStanding : Yes x r endStanding (always ++ further endStanding)
@@ -173,13 +160,13 @@ module _ (x : State) (s : Sound x) (r : Request) (b : List ℕ) (a : Carries (x 
   unfolding change test
   write-endStanding y =
       attend-rows (withStanding x _)
-      (standing-bits x a (slot r) (r .first) (r .last + 1) false (r .a) (ltb-true _ _ (yes x r endStanding aBelow refl (y .1 .0))) (most endStanding y) (λ i _. in-slots i))
-      (slot r) (r .first) (r .last + 1) (r .a) (most endStanding y) (λ i _. in-slots i) (s .oneA attends refl)
+      (standing-bits x a (slot r) (r .first) (r .last + 1) false (r .a) (ltb-true _ _ (yes x r endStanding aBelow refl (y .1 .0))) (last-slot x r endStanding y) (λ i _. in-slots r i))
+      (slot r) (r .first) (r .last + 1) (r .a) (last-slot x r endStanding y) (λ i _. in-slots r i) (s .oneA attends refl)
 
   -- kind 13
   pub write-eraseConf : Yes x r eraseConf (always ++ further eraseConf) → Carries S (change x r eraseConf) (swept (gridOf S confPairs) (r .b + 1) (r .first) (r .last + 1) b)
   unfolding change
-  write-eraseConf y = conf-rows x a (slot r) (r .first) (r .last + 1) (r .b) (most eraseConf y) (λ i _. in-slots i) (s .oneB confs refl)
+  write-eraseConf y = conf-rows x a (slot r) (r .first) (r .last + 1) (r .b) (last-slot x r eraseConf y) (λ i _. in-slots r i) (s .oneB confs refl)
 
   -- kind 16: the same, then the meeting's lunches on "dates from first's to last's"
   pub write-eraseConfAndLunch : Yes x r eraseConfAndLunch (always ++ further eraseConfAndLunch)
@@ -188,7 +175,7 @@ module _ (x : State) (s : Sound x) (r : Request) (b : List ℕ) (a : Carries (x 
   unfolding change test
   write-eraseConfAndLunch y =
       lunch-column (withConf x _)
-      (conf-rows x a (slot r) (r .first) (r .last + 1) (r .b) (most eraseConfAndLunch y) (λ i _. in-slots i) (s .oneB confs refl))
+      (conf-rows x a (slot r) (r .first) (r .last + 1) (r .b) (last-slot x r eraseConfAndLunch y) (λ i _. in-slots r i) (s .oneB confs refl))
       (within (dateOfSession S (r .first)) (dateOfSession S (r .last))) (dateOfSession S (r .first)) (dateOfSession S (r .last) + 1) (r .b)
       (ltb-true _ _ (yes x r eraseConfAndLunch bBelow refl (y .1 .1 .0))) last-date (λ i _. up-to (dateOfSession S (r .first)) (dateOfSession S (r .last)) i)
     where
@@ -208,8 +195,8 @@ module _ (x : State) (s : Sound x) (r : Request) (b : List ℕ) (a : Carries (x 
       attend-column (withRide (withHotel (withLeave x _) _) _)
       (ride-rows (withHotel (withLeave x _) _)
       (hotel-rows (withLeave x _)
-      (leave-bits x a (slot r) (r .first) (r .last + 1) false (r .b) hb (most removeVisitor y) (λ i _. in-slots i))
-      (slot r) (r .first) (r .last + 1) (r .b) (most removeVisitor y) (λ i _. in-slots i) (s .oneB hotels refl))
+      (leave-bits x a (slot r) (r .first) (r .last + 1) false (r .b) hb (last-slot x r removeVisitor y) (λ i _. in-slots r i))
+      (slot r) (r .first) (r .last + 1) (r .b) (last-slot x r removeVisitor y) (λ i _. in-slots r i) (s .oneB hotels refl))
       (λ i. slot r (dateOfTime S i)) lo hi (r .b) (times .ends .most) (between-cuts S Times (r .first) (r .last) lo hi (times .begins) (times .ends)) (s .oneB rides refl))
       (λ i. slot r (dateOfSession S i)) from to (r .b) hb (sessions .ends .most) (between-cuts S Sessions (r .first) (r .last) from to (sessions .begins) (sessions .ends))
     where

@@ -1,12 +1,12 @@
 -- A state with one set replaced has the same words in every other region.
 -- Assumes nothing.
 use Prim.Native.Nat.{ℕ}
-use mathlib.Core.Path.{_≡_, refl}
+use mathlib.Core.Path.{refl}
 use mathlib.Core.Bool.{Bool, true≢false}
 use mathlib.Core.Option.{Option}
 use Rattle.model.specs.State.{State, Lunch}
 use Rattle.model.specs.Machine.{withLeave, withStanding, withHotel, withRide, withAttend, withConf, withLunch}
-use Rattle.model.specs.Words.{Region, leaves, hotelCells, standings, attendCells, confPairs, lunchTriples, rideCells, word}
+use Rattle.model.specs.Words.{leaves, hotelCells, standings, attendCells, confPairs, lunchTriples, rideCells, word}
 use Rattle.apply.proofs.Stages.{Frame}
 
 module _ (x : State) where

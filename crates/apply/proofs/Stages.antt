@@ -1,27 +1,30 @@
 -- A book that has the words of a state, and one write after which it has the words of another.
 -- Assumes nothing.
-use Prim.Native.Nat.{ℕ, zero, suc, _+_, _*_, _-_, _/_, _%_, _≤_, _<_}
+use Prim.Native.Nat.{ℕ, _+_, _/_, _%_, _≤_, _<_}
 use mathlib.Core.Path.{_≡_, refl, sym, _∙_, ap, ap₂, subst}
-use mathlib.Core.Bool.{Bool, true, false, not, _&&_, _||_, cond, true≢false, false≢true}
-use mathlib.Core.List.{List, [], _∷_, _++_}
+use mathlib.Core.Bool.{Bool, true, false, _&&_, cond, and-comm}
+use mathlib.Core.List.{List, _++_}
 use native.Mathlib.Omega.{arith}
 use lib.Dec.{leb, ltb, eqb}
-use lib.ListN.{length, getD, take}
+use lib.ListN.{length, take}
 use lib.Seq.{take-at}
 use borrow.Author.Tests.{eqb-true, eq-eqb, leb-true, le-leb, ltb-true, lt-ltb}
 use Rattle.model.specs.declared.Settings.{Settings}
 use Rattle.model.specs.declared.Request.{Request}
 use Rattle.model.specs.Site.{settingsLength, settingsWords}
 use Rattle.model.specs.State.{State}
+use Rattle.model.specs.Kinds.{Kind, row, slotsOf}
+use Rattle.model.specs.Questions.{always, further}
 use Rattle.model.specs.Machine.{slot}
 use Rattle.model.specs.Words.{Region, slots, items, width, order, bookLength, word, words, blocks}
 use Rattle.model.specs.Reading.{at}
-use Rattle.model.proofs.Search.{and-left, and-right, and-true, bool-eq}
+use Rattle.model.proofs.Search.{bool-eq}
 use Rattle.model.proofs.Places.{Seated, Cell, words-at, words-ext, length-words, length-settings}
+use Rattle.model.proofs.Keeps.{Yes, slots-fit}
 use Rattle.book.specs.Grids.{gridOf}
 use Rattle.apply.specs.declared.cells.Content.{Content}
 use Rattle.apply.specs.Stores.{wordIn, filled, swept, flipped, markedAll}
-use Rattle.apply.proofs.Writes.{index, index-inj, among, Writes, writes-as, first-of, filled-writes, swept-writes, markedAll-writes}
+use Rattle.apply.proofs.Writes.{index, index-inj, Writes, writes-as, first-of, filled-writes, swept-writes, markedAll-writes}
 
 -- the book b, laid out by S, has the words of x
 pub record Carries (S : Settings) (x : State) (b : List ℕ) : Type 0 where
@@ -66,12 +69,6 @@ module _ {S : Settings} {x : State} {b : List ℕ} (a : Carries S x b) (g : Regi
         same = λ h i j k c. at-h h i j k c (eqb (index h) (index g)) refl;
       }
 
-and-comm : (s t : Bool) → s && t ≡ t && s
-and-comm true true = refl
-and-comm true false = refl
-and-comm false true = refl
-and-comm false false = refl
-
 -- the three writes, in the slots of a test that holds from `from` to before `to`
 module _ {S : Settings} {x : State} {b : List ℕ} (a : Carries S x b) (g : Region) (t : ℕ → Bool) (from to : ℕ) (most : to ≤ slots S g)
     (agree : (i : ℕ) → i < slots S g → t i ≡ leb from i && ltb i to) (y : State) (frame : Frame g x y) where
@@ -106,3 +103,10 @@ up-to from last i =
     (bool-eq (leb i last) (ltb i (last + 1))
     (λ e. let l : i ≤ last = leb-true i last e in lt-ltb i (last + 1) (omega arith))
     (λ e. let l : i < last + 1 = ltb-true i (last + 1) e in le-leb i last (omega arith)))
+
+-- the slots of a request
+pub in-slots : (r : Request) (i : ℕ) → slot r i ≡ leb (r .first) i && ltb i (r .last + 1)
+in-slots r i = up-to (r .first) (r .last) i
+
+pub last-slot : (x : State) (r : Request) (k : Kind) → Yes x r k (always ++ further k) → r .last + 1 ≤ slotsOf (x .settings) (row k .unit)
+last-slot x r k y = omega (arith, slots-fit x r k (y .1 .1 .1 .0))

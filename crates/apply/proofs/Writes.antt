@@ -1,25 +1,23 @@
 -- What a write changes, cell by cell: one statement, `Writes`, for a store, and its repetition over slots and items.
 -- Assumes nothing.
-use Prim.Native.Nat.{ℕ, zero, suc, _+_, _*_, _-_, _/_, _%_, _≤_, _<_}
+use Prim.Native.Nat.{ℕ, zero, suc, _+_, _-_, _/_, _%_, _≤_, _<_}
 use mathlib.Core.Path.{_≡_, refl, sym, _∙_, ap, ap₂, subst}
 use mathlib.Core.Logic.{_⊎_, inl, inr}
-use mathlib.Core.Bool.{Bool, true, false, not, _&&_, _||_, cond, true≢false, false≢true}
-use mathlib.Core.List.{List, [], _∷_, _++_}
+use mathlib.Core.Bool.{Bool, true, false, _&&_, cond, true≢false, and-false, and-true as and-one}
+use mathlib.Core.List.{List}
 use native.Mathlib.Nat.{eq-or-lt-of-le}
 use native.Mathlib.Omega.{arith}
 use lib.Dec.{leb, ltb, eqb}
-use lib.ListN.{length, getD, take, set, length-set}
-use lib.Seq.{getD-set-same, getD-set-other, take-set-le, take-at}
-use borrow.Author.Tests.{eqb-true, eqb-false, eq-eqb, ne-eqb, leb-true, le-leb, ltb-true, lt-ltb}
+use lib.ListN.{length, getD, take, length-set}
+use lib.Seq.{getD-set-same, getD-set-other, take-set-le}
+use borrow.Author.Tests.{eqb-true, eqb-false, eq-eqb, leb-true, le-leb, ltb-true, lt-ltb}
 use Rattle.model.specs.declared.Settings.{Settings}
-use Rattle.model.specs.Site.{settingsLength, settingsWords}
-use Rattle.model.specs.State.{State}
+use Rattle.model.specs.Site.{settingsLength}
 use Rattle.model.specs.Words.{Region, leaves, hotelCells, standings, attendCells, confPairs, lunchTriples, rideCells}
-use Rattle.model.specs.Words.{slots, items, width, address, base, order, bookLength, word, words, blocks}
+use Rattle.model.specs.Words.{slots, items, width, address, base, bookLength, word}
 use Rattle.model.specs.Reading.{at}
 use Rattle.model.proofs.Search.{and-left, and-right, and-true, bool-eq}
-use Rattle.model.proofs.Places.{Seated, Cell, Same, words-at, words-ext, address-inj, address-lt, length-words, length-settings}
-use Rattle.book.specs.declared.grid.Grid.{Grid}
+use Rattle.model.proofs.Places.{Cell, Same, address-inj, address-lt}
 use Rattle.book.specs.Grids.{place, cellAt, gridOf}
 use Rattle.apply.specs.declared.cells.Content.{Content}
 use Rattle.apply.specs.Stores.{times, over, wordIn, empty, puts, stored, filled, cleared, sweptRow, swept, flipped, marked, markedAll}
@@ -133,11 +131,7 @@ module _ (S : Settings) (g : Region) (d : ℕ → ℕ → Bool) (key : ℕ → �
         go true q = absurd (omega (arith, e, turns-true (suc lo) n i j q))
 
     not-now : (i j : ℕ) → eqb (key i j) lo ≡ false → turn lo i j ≡ false
-    not-now i j e = off (d i j) _ e
-      where
-        off : (a b : Bool) → b ≡ false → a && b ≡ false
-        off true b e = e
-        off false b e = refl
+    not-now i j e = rw e (and-false (d i j))
 
     in-region : {t : Bool} → t ≡ false → eqb (index g) (index g) && t ≡ false
     in-region e = rw (eq-eqb (index g) (index g) refl) e
@@ -198,6 +192,11 @@ module _ (S : Settings) (g : Region) (d : ℕ → ℕ → Bool) (key : ℕ → �
           and-true (le-leb lo m l) (lt-ltb m hi (omega arith)))
 
 -- ---- the words of one cell
+
+pub empty-word : (k : ℕ) → wordIn empty k ≡ 0
+empty-word zero = refl
+empty-word (suc zero) = refl
+empty-word (suc (suc k)) = refl
 
 module _ (c : Content) (n : ℕ) where
   length-puts : (m : ℕ) (b : List ℕ) → length (puts c n m b) ≡ length b
@@ -260,11 +259,6 @@ module _ (S : Settings) (g : Region) where
               rw (only i' j' q .0, only i' j' q .1, place-is i j k)
               (puts-in c (place (gridOf S g) i j 0) (width g) b k (cell .word) (room (record { slot = hi; item = hj; word = cell .word }) b l));
         }
-
-    empty-word : (k : ℕ) → wordIn empty k ≡ 0
-    empty-word zero = refl
-    empty-word (suc zero) = refl
-    empty-word (suc (suc k)) = refl
 
     -- the first word of the cell, as the grid reads it
     cell-is : (b : List ℕ) → cellAt (gridOf S g) b i j ≡ at S b g i j 0
@@ -340,10 +334,6 @@ module _ (S : Settings) (g : Region) where
       over-writes S g (λ i' j'. true) (λ i' j'. i') (λ k a o. cond (eqb a w) 0 o) (λ i. sweptRow (gridOf S g) w i) from to
       (λ m _ l. row m (omega arith))
     where
-      and-one : (t : Bool) → t && true ≡ t
-      and-one true = refl
-      and-one false = refl
-
       row : (i : ℕ) → i < slots S g → Writes S g (λ i' j'. eqb i' i) (λ k a o. cond (eqb a w) 0 o) (sweptRow (gridOf S g) w i)
       row i hi =
           writes-as (λ i' j'. eqb i' i)

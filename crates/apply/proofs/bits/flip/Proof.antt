@@ -1,6 +1,3 @@
-use mathlib.Core.Path.{_≡_, refl, sym, _∙_, ap}
-use mathlib.Core.Bool.{Bool}
-use Rattle.apply.specs.Stores.{flipped}
 use borrow.Author.Needs.{needs}
 use Rattle.apply.proofs.bits.flip.Statement.{statement}
 use Rattle.apply.proofs.bits.flip.Tie as tie

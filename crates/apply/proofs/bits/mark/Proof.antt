@@ -1,8 +1,7 @@
-use mathlib.Core.Path.{_≡_, refl, sym, _∙_, ap}
-use mathlib.Core.List.{List}
-use Prim.Native.Nat.{ℕ, _/_, _%_}
+use mathlib.Core.Path.{_∙_, ap}
+use Prim.Native.Nat.{ℕ, _%_}
 use lib.ListN.{set, getD}
-use Rattle.book.specs.Grids.{place, cellAt}
+use Rattle.book.specs.Grids.{cellAt}
 use Rattle.apply.specs.Stores.{flipped, marked}
 use borrow.Author.Needs.{needs}
 use Rattle.apply.proofs.bits.mark.Statement.{statement}

@@ -1,5 +1,4 @@
-use mathlib.Core.Path.{_≡_, refl, sym, _∙_, ap}
-use mathlib.Core.List.{List}
+use mathlib.Core.Path.{sym, _∙_, ap}
 use Prim.Native.Nat.{ℕ}
 use mathlib.Core.Bool.{Bool, cond}
 use lib.ListN.{getD}

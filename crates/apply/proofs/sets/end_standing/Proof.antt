@@ -1,4 +1,3 @@
-use mathlib.Core.Path.{_≡_, refl, sym, _∙_, ap}
 use borrow.Author.Needs.{needs}
 use Rattle.apply.proofs.sets.end_standing.Statement.{statement}
 use Rattle.apply.proofs.sets.end_standing.Tie as tie

@@ -1,6 +1,5 @@
-use mathlib.Core.Path.{_≡_, refl, sym, _∙_, ap, subst}
-use mathlib.Core.List.{List}
-use Prim.Native.Nat.{ℕ, _+_, _≤_, _<_}
+use mathlib.Core.Path.{_≡_, refl, _∙_, ap, subst}
+use Prim.Native.Nat.{ℕ, _+_, _<_}
 use native.Mathlib.Omega.{arith}
 use lib.ListN.{length}
 use Rattle.model.specs.declared.Settings.{Settings}
@@ -11,7 +10,7 @@ use Rattle.model.specs.Words.{confPairs, lunchTriples, slots}
 use Rattle.book.specs.declared.units.Slot.the-variants.{Sessions}
 use Rattle.book.specs.Grids.{gridOf}
 use Rattle.book.proofs.Regions.{date-lt}
-use Rattle.apply.specs.Stores.{empty, filled, swept}
+use Rattle.apply.specs.Stores.{empty, filled}
 use Rattle.apply.proofs.Arms.{span-of, item-of}
 use borrow.Author.Needs.{needs}
 use Rattle.apply.proofs.sets.erase_conf_and_lunch.Statement.{statement}

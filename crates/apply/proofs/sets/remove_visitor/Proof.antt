@@ -1,15 +1,11 @@
 use mathlib.Core.Bool.{false}
-use mathlib.Core.Path.{_≡_, refl, sym, _∙_, ap}
+use mathlib.Core.Path.{refl, _∙_, ap}
 use mathlib.Core.List.{List}
-use Prim.Native.Nat.{ℕ, _+_, _≤_, _<_}
+use Prim.Native.Nat.{ℕ, _+_}
 use native.Mathlib.Omega.{arith}
 use lib.ListN.{length}
-use Rattle.model.specs.declared.Settings.{Settings}
-use Rattle.model.specs.Site.{dateOfSession}
-use Rattle.book.specs.declared.grid.Grid.{Grid}
 use Rattle.book.specs.declared.grid.Grids.{Grids}
 use Rattle.model.specs.Words.{leaves, hotelCells, rideCells, attendCells}
-use Rattle.book.specs.Grids.{gridsOf}
 use Rattle.book.proofs.Regions.{group-lt}
 use Rattle.apply.specs.Stores.{empty, filled, swept, markedAll}
 use Rattle.apply.proofs.Arms.{span-of, item-of, Reach, reach-of}
