@@ -1,8 +1,11 @@
 // Writes to the cells of a grid: a column filled, and rows swept of a word.
 use book::grid::Grid;
 use book::grid::at;
+use book::rows::row_has;
 ghost use mathlib.Core.Path.{_≡_};
 ghost use Prim.Native.Nat.{_+_, _≤_, _<_};
+ghost use mathlib.Core.Bool.{cond};
+ghost use lib.Dec.{eqb};
 ghost use lib.ListN.{length};
 ghost use Rattle.book.specs.Grids.{Fits};
 ghost use Rattle.apply.specs.Stores.{puts, filled, cleared, sweptRow, swept};
@@ -73,8 +76,8 @@ fn clear(book: &mut [u32], g: Grid, slot: u32, item: u32, w: u32)
     );
 }
 
-// Every cell of a slot that holds w.
-fn sweep_row(book: &mut [u32], g: Grid, slot: u32, w: u32)
+// The cells of a slot, of any number of words.
+fn sweep_cells(book: &mut [u32], g: Grid, slot: u32, w: u32)
     requires { ⌜ Fits g (length (now book)) ⌝ }
     requires { ⌜ g .width ≤ 3 ⌝ }
     requires { ⌜ slot < g .slots ⌝ }
@@ -86,6 +89,61 @@ fn sweep_row(book: &mut [u32], g: Grid, slot: u32, w: u32)
         clear(book, g, slot, j, w);
         j += 1;
     }
+}
+
+// x, or 0 where x is w.
+fn unless(x: u32, w: u32) -> u32
+    ensures { λ r. ⌜ r ≡ cond (eqb x w) 0 x ⌝ }
+{
+    if x == w {
+        return 0;
+    }
+    x
+}
+
+// The same of a cell of one word, without a branch.
+fn clear_word(book: &mut [u32], g: Grid, slot: u32, item: u32, w: u32)
+    requires { ⌜ Fits g (length (now book)) ⌝ }
+    requires { ⌜ g .width ≡ 1 ⌝ }
+    requires { ⌜ slot < g .slots ⌝ }
+    requires { ⌜ item < g .items ⌝ }
+    ensures { λ _. ⌜ now (book .exit) ≡ cleared g w slot item (now (book .entry)) ⌝ }
+{
+    let n = at(g, slot, item);
+    let x = book[n];
+    book[n] = unless(x, w);
+}
+
+// The cells of a slot, of one word each: the compiler takes several at once.
+fn sweep_words(book: &mut [u32], g: Grid, slot: u32, w: u32)
+    requires { ⌜ Fits g (length (now book)) ⌝ }
+    requires { ⌜ g .width ≡ 1 ⌝ }
+    requires { ⌜ slot < g .slots ⌝ }
+    ensures { λ _. ⌜ now (book .exit) ≡ sweptRow g w slot (now (book .entry)) ⌝ }
+{
+    let items = g.items;
+    let mut j: u32 = 0;
+    while j < items {
+        clear_word(book, g, slot, j, w);
+        j += 1;
+    }
+}
+
+// Every cell of a slot that holds w. A row of words without w is only read.
+fn sweep_row(book: &mut [u32], g: Grid, slot: u32, w: u32)
+    requires { ⌜ Fits g (length (now book)) ⌝ }
+    requires { ⌜ g .width ≤ 3 ⌝ }
+    requires { ⌜ slot < g .slots ⌝ }
+    ensures { λ _. ⌜ now (book .exit) ≡ sweptRow g w slot (now (book .entry)) ⌝ }
+{
+    if g.width != 1 {
+        sweep_cells(book, g, slot, w);
+        return;
+    }
+    if !row_has(book, g, slot, w) {
+        return;
+    }
+    sweep_words(book, g, slot, w);
 }
 
 // Every cell that holds w in the slots from `from` to before `to`.

@@ -1,7 +1,8 @@
 // The writes of an accepted request. Nothing is asked here: every question has been answered yes.
-pub mod cells;
 pub mod bits;
+pub mod cells;
 pub mod sets;
+
 use book::grid::Grids;
 use model::Request;
 use model::Settings;

@@ -1,13 +1,13 @@
 // What the kinds write, in the slots first..last, both included.
+use crate::bits::mark_all;
+use crate::cells::Content;
+use crate::cells::fill;
+use crate::cells::sweep;
 use book::grid::Grid;
 use book::grid::Grids;
 use book::units::Slot;
 use book::units::date_of_session;
 use book::units::first_on;
-use crate::bits::mark_all;
-use crate::cells::Content;
-use crate::cells::fill;
-use crate::cells::sweep;
 use model::Session;
 use model::Settings;
 ghost use mathlib.Core.Path.{_≡_};
@@ -22,13 +22,33 @@ ghost use Rattle.book.specs.Grids.{gridsOf, Laid};
 ghost use Rattle.apply.specs.Stores.{Span, full, empty, filled, swept, markedAll, OnDates, Removed};
 
 // One entry into the cells of an item, with the words beside it.
-pub fn add(book: &mut [u32], g: Grid, item: u32, who: u32, second: u32, third: u32, first: u32, last: u32)
+pub fn add(
+    book: &mut [u32],
+    g: Grid,
+    item: u32,
+    who: u32,
+    second: u32,
+    third: u32,
+    first: u32,
+    last: u32,
+)
     requires { ⌜ Span g (length (now book)) last ⌝ }
     requires { ⌜ item < g .items ⌝ }
     requires { ⌜ who < 1000 ⌝ }
     ensures { λ _. ⌜ now (book .exit) ≡ filled g item (full who second third) first (last + 1) (now (book .entry)) ⌝ }
 {
-    fill(book, g, item, Content { entry: who + 1, second, third }, first, last + 1);
+    fill(
+        book,
+        g,
+        item,
+        Content {
+            entry: who + 1,
+            second,
+            third,
+        },
+        first,
+        last + 1,
+    );
 }
 
 // The cells of an item emptied.
@@ -37,7 +57,18 @@ pub fn take(book: &mut [u32], g: Grid, item: u32, first: u32, last: u32)
     requires { ⌜ item < g .items ⌝ }
     ensures { λ _. ⌜ now (book .exit) ≡ filled g item empty first (last + 1) (now (book .entry)) ⌝ }
 {
-    fill(book, g, item, Content { entry: 0, second: 0, third: 0 }, first, last + 1);
+    fill(
+        book,
+        g,
+        item,
+        Content {
+            entry: 0,
+            second: 0,
+            third: 0,
+        },
+        first,
+        last + 1,
+    );
 }
 
 // One entry erased from every cell that holds it.
@@ -116,5 +147,16 @@ pub fn remove_visitor(book: &mut [u32], s: Settings, g: Grids, v: u32, first: u3
     let times = slots_on(s, Slot::Times, g.ride.slots, first, last);
     sweep(book, g.ride, v + 1, times.from, times.to);
     let sessions = slots_on(s, Slot::Sessions, g.attend.slots, first, last);
-    fill(book, g.attend, v, Content { entry: 0, second: 0, third: 0 }, sessions.from, sessions.to);
+    fill(
+        book,
+        g.attend,
+        v,
+        Content {
+            entry: 0,
+            second: 0,
+            third: 0,
+        },
+        sessions.from,
+        sessions.to,
+    );
 }

@@ -1,58 +1,48 @@
+use mathlib.Core.Path.{sym, _∙_}
+use borrow.Author.Tests.{not-true}
+use Rattle.apply.proofs.Loops.{row-kept}
 use borrow.Author.Needs.{needs}
-use mathlib.Core.Path.{_≡_, refl, sym, _∙_, ap}
-use Prim.Native.Nat.{_+_, _-_}
-use native.Mathlib.Omega.{arith}
-use lib.ListN.{length}
-use Rattle.apply.specs.Stores.{over, cleared, sweptRow}
-use Rattle.apply.proofs.Loops.{over-turn, over-end}
 use Rattle.apply.proofs.cells.sweep_row.Statement.{statement}
 use Rattle.apply.proofs.cells.sweep_row.Tie as tie
 
-abbrev Inv-loop : tie.InvT-loop
-Inv-loop book₀ g slot w items j₀ book j = (length book ≡ length book₀) × (over (λ j. cleared g w slot j) j items book ≡ over (λ j. cleared g w slot j) 0 items book₀)
+sweep-cells-requires : tie.Need-sweep-cells-requires
+sweep-cells-requires c κs = search needs
 
-abbrev μ-loop : tie.MeasureT-loop
-μ-loop book₀ g slot w items j₀ book j = items - j
-
-loop-holds : tie.Need-loop-holds Inv-loop μ-loop
-loop-holds c = (refl, refl)
-
-clear-requires : tie.Need-clear-requires Inv-loop μ-loop
-clear-requires c κs = search needs
-
-add-j : tie.Need-add-j Inv-loop μ-loop
-add-j c = search needs
-
-loop-less : tie.Need-loop-less Inv-loop μ-loop
-loop-less c = search needs
-
-loop-again : tie.Need-loop-again Inv-loop μ-loop
-loop-again c = let s = c .before .before .before .before .before in
-    let a = s .before .before .args in (
-      c .before .before .clear .kept .0 ∙ s .loop .inv .0,
-      ap (over (λ j. cleared (a .g) (a .w) (a .slot) j) (s .loop .j + 1) (a .g .items)) (c .before .before .clear .ensures)
-          ∙ sym (over-turn (λ j. cleared (a .g) (a .w) (a .slot) j) (s .loop .j) (a .g .items) (s .loop .book) (omega arith))
-          ∙ s .loop .inv .1,
-    )
-
-same-length : tie.Need-same-length Inv-loop μ-loop
+same-length : tie.Need-same-length
 same-length c = search needs
 
-returns : tie.Need-returns Inv-loop μ-loop
-unfolding sweptRow
-returns c = let a = c .before .before .before .args in
-    sym (over-end (λ j. cleared (a .g) (a .w) (a .slot) j) (c .before .loop .j) (a .g .items) (c .before .loop .book) (omega arith)) ∙ c .before .loop .inv .1
+returns : tie.Need-returns
+returns c = search needs
+
+row-has-requires : tie.Need-row-has-requires
+row-has-requires c κs = search needs
+
+same-length-2 : tie.Need-same-length-2
+same-length-2 c = search needs
+
+returns-2 : tie.Need-returns-2
+returns-2 c = let s = c .before .before .before .before .before .before in
+    row-kept (s .args .g) (s .args .w) (s .args .slot) (s .args .book .now) (sym (c .before .row-has .ensures) ∙ not-true _ (c .if2 .taken))
+
+sweep-words-requires : tie.Need-sweep-words-requires
+sweep-words-requires c κs = search needs
+
+same-length-3 : tie.Need-same-length-3
+same-length-3 c = search needs
+
+returns-3 : tie.Need-returns-3
+returns-3 c = search needs
 
 pub sweep-row-spec : {M : Type 1} → statement M
 sweep-row-spec =
     tie.close
     (tie.spec
-    Inv-loop
-    μ-loop
-    loop-holds
-    clear-requires
-    add-j
-    loop-less
-    loop-again
+    sweep-cells-requires
     same-length
-    returns)
+    returns
+    row-has-requires
+    same-length-2
+    returns-2
+    sweep-words-requires
+    same-length-3
+    returns-3)
