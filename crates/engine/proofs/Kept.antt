@@ -58,7 +58,7 @@ module _ {S : Settings} {b : List ℕ} (good : Good S b) where
   good-calls r cs = ap (λ (c : Called). record { answers = c .answer ∷ calls (c .book) cs .answers; book = calls (c .book) cs .book }) (good-call r)
 
 -- a book that checking accepts, and a freshly laid book
-refused-done : {n p v : ℕ} {A : Type 0} → Refused n p ≡ Done v → A
+pub refused-done : {n p v : ℕ} {A : Type 0} → Refused n p ≡ Done v → A
 refused-done e = absurd (let z : _≡_ {A = ℕ} 0 1 = cc in omega arith)
 
 pub check-good : (b : List ℕ) (v : ℕ) → check b ≡ Done v → Good (settingsOf b) b

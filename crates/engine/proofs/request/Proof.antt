@@ -1,51 +1,51 @@
+-- `request` meets its contract: checked, then one step.
+-- Assumes nothing.
+use Prim.Native.Nat.{_-_}
+use mathlib.Core.Path.{sym, _∙_}
 use borrow.Author.Needs.{needs}
+use Rattle.book.proofs.Goods.{good-laid}
+use Rattle.engine.proofs.Kept.{good-call, check-good}
+use Rattle.engine.proofs.Whole.{request-refused}
 use Rattle.engine.proofs.request.Statement.{statement}
 use Rattle.engine.proofs.request.Tie as tie
-use Rattle.engine.proofs.request.Reads as reads
-use Rattle.engine.proofs.request.Lts as lts
-use Rattle.book.proofs.grid.grids_of.Reads as grids-of-reads
-use Rattle.book.proofs.settings.settings.Reads as settings-reads
-use Rattle.checking.proofs.check.Reads as check-reads
-use Rattle.engine.proofs.step.step.Reads as step-reads
 
--- src/lib.rt:18:9
 check-requires : tie.Need-check-requires
 check-requires c κs = search needs
 
--- src/lib.rt:19:30
 enum-known-checked : tie.Need-enum-known-checked
 enum-known-checked c = search needs
 
--- src/lib.rt:20:9
 same-length : tie.Need-same-length
 same-length c = search needs
 
--- src/lib.rt:20:9
 returns : tie.Need-returns
-returns c = ?
+returns c =
+    let a = c .before .before .before .before .before .before .args in
+    request-refused (a .book .now) (a .r) (sym (c .before .before .before .check .ensures) ∙ c .before .checked .given .1)
 
 enum-told : tie.Need-enum-told
 enum-told c = search needs
 
--- src/lib.rt:22:9
 settings-requires : tie.Need-settings-requires
 settings-requires c κs = search needs
 
--- src/lib.rt:23:19
 grids-of-requires : tie.Need-grids-of-requires
-grids-of-requires c κs = ?
+grids-of-requires c κs =
+    let a = c .before .before .before .before .before .before .before .before .args in
+    rw (c .before .settings .ensures) (good-laid (check-good (a .book .now) _ (sym (c .before .before .before .before .before .check .ensures) ∙ c .before .before .before .enum-told .given .1)) .ranges)
 
--- src/lib.rt:23:5
 step-requires : tie.Need-step-requires
-step-requires c κs = ?
+step-requires c κs =
+    let a = c .before .before .before .before .before .before .before .before .before .args in
+    (rw (c .before .before .settings .ensures) (check-good (a .book .now) _ (sym (c .before .before .before .before .before .before .check .ensures) ∙ c .before .before .before .before .enum-told .given .1)), c .grids-of .ensures)
 
--- src/lib.rt:15:1
 same-length-2 : tie.Need-same-length-2
 same-length-2 c = search needs
 
--- src/lib.rt:15:1
 returns-2 : tie.Need-returns-2
-returns-2 c = ?
+returns-2 c =
+    let a = c .before .before .before .before .before .before .before .before .before .before .before .before .args in
+    c .before .before .step .ensures ∙ sym (good-call (check-good (a .book .now) _ (sym (c .before .before .before .before .before .before .before .before .before .check .ensures) ∙ c .before .before .before .before .before .before .before .enum-told .given .1)) (a .r))
 
 pub request-spec : {M : Type 1} → statement M
 request-spec =

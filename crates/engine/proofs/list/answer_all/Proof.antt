@@ -1,10 +1,15 @@
 -- `list::answer_all` meets its contract: what is left of the list gives the rest.
 -- Assumes nothing.
-use Prim.Native.Nat.{_-_}
+use Prim.Native.Nat.{_*_, _-_}
+use mathlib.Core.Path.{sym, _∙_, subst}
 use native.Mathlib.Omega.{arith}
+use lib.ListN.{drop}
 use borrow.Author.Needs.{needs}
+use Rattle.model.specs.Machine.{requestOf}
 use Rattle.book.specs.Good.{Good}
-use Rattle.engine.proofs.Splices.{Left, left-start}
+use Rattle.book.proofs.Goods.{good-laid}
+use Rattle.engine.proofs.Kept.{good-step}
+use Rattle.engine.proofs.Splices.{Left, left-start, left-turn, left-end}
 use Rattle.engine.proofs.list.answer_all.Statement.{statement}
 use Rattle.engine.proofs.list.answer_all.Tie as tie
 
@@ -30,16 +35,23 @@ loop-less : tie.Need-loop-less Inv-loop μ-loop
 loop-less c = omega arith
 
 loop-again : tie.Need-loop-again Inv-loop μ-loop
-loop-again c = ?
+loop-again c =
+    let s = c .before .before .before .before .before .before .before .before .before .before .before .before in
+    let a = s .args in
+    let l = c .before .before .before .before .before .before .before .before .loop in
+    let e = c .before .before .before .before .answer-at .ensures in (
+      subst (Good (a .s)) (sym (e .book)) (good-step (l .inv .0) (requestOf (drop (l .i * 7) (a .list .now)))),
+      left-turn (a .s) (a .list .now) (a .n) _ _ (l .i) _ _ _ _ (l .inv .0) (c .before .before .before .before .before .before .before .loop-test .taken) (s .pre .1 .1 .1) (l .inv .1) e,
+    )
 
 same-length : tie.Need-same-length Inv-loop μ-loop
-same-length c = ?
+same-length c = good-laid (c .before .loop .inv .0) .long ∙ sym (good-laid (c .before .before .before .before .before .pre .0) .long)
 
 same-length-2 : tie.Need-same-length-2 Inv-loop μ-loop
-same-length-2 c = ?
+same-length-2 c = c .before .loop .inv .1 .long
 
 returns : tie.Need-returns Inv-loop μ-loop
-returns c = ?
+returns c = left-end _ _ _ _ (c .before .loop .i) _ _ (omega arith) (c .before .loop .inv .1)
 
 pub answer-all-spec : {M : Type 1} → statement M
 answer-all-spec =

@@ -1,16 +1,11 @@
 -- `step::step` meets its contract: judged, and written where it is done.
 -- Assumes nothing.
-use Prim.Native.Nat.{ℕ, _-_}
+use Prim.Native.Nat.{_-_}
 use mathlib.Core.Path.{sym, _∙_, ap, ap₂}
-use mathlib.Core.List.{List}
 use borrow.Author.Needs.{needs}
-use Rattle.model.specs.declared.Answer.the-variants.{Refused}
-use Rattle.model.specs.Reading.{stateOf}
-use Rattle.model.specs.Calls.{called}
 use Rattle.book.specs.Good.{answered}
-use Rattle.engine.specs.Stub.{accepted}
-use Rattle.engine.proofs.Kept.{good-book}
-use Rattle.engine.proofs.Outcomes.{refused-state}
+use Rattle.apply.specs.Accepted.{accepted}
+use Rattle.engine.proofs.Outcomes.{refused-book}
 use Rattle.engine.proofs.step.step.Statement.{statement}
 use Rattle.engine.proofs.step.step.Tie as tie
 
@@ -26,9 +21,7 @@ same-length c = search needs
 returns : tie.Need-returns
 returns c =
     let s = c .before .before .before .before .before .before in
-    let a = s .args in
-    let e = sym (c .before .before .before .judge .ensures) ∙ c .before .answer .given .1 in
-    sym (ap called (refused-state (stateOf (a .book .now)) (a .r) e) ∙ ap (λ (l : List ℕ). record { answer = Refused _ _; book = l }) (good-book (s .pre .0)))
+    refused-book (s .pre .0) (s .args .r) (sym (c .before .before .before .judge .ensures) ∙ c .before .answer .given .1)
 
 enum-told : tie.Need-enum-told
 enum-told c = search needs
