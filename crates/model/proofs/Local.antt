@@ -82,7 +82,7 @@ and-same : (t a b : Bool) → (t ≡ true → a ≡ b) → t && a ≡ t && b
 and-same true a b h = h refl
 and-same false a b h = refl
 
-any-same : (p q : ℕ → Bool) (n : ℕ) → ((j : ℕ) → p j ≡ q j) → any p n ≡ any q n
+pub any-same : (p q : ℕ → Bool) (n : ℕ) → ((j : ℕ) → p j ≡ q j) → any p n ≡ any q n
 any-same p q n h = ap isSome (lowest-same p q 0 n (λ j _ _. h j))
 
 failing-same : (p q : ℕ → Bool) (from to : ℕ) → ((j : ℕ) → within from to j ≡ true → p j ≡ q j) → failing p from to ≡ failing q from to
@@ -296,15 +296,15 @@ module _ (S : Settings) (X Y : Sets) (r : Request) (d : ℕ) (g : Agree S X Y d)
   change-same freeRoom = g
 
 -- the change on a date that is not one of the request's
-plus-off : (old t : Bool) → t ≡ false → old || t ≡ old
+pub plus-off : (old t : Bool) → t ≡ false → old || t ≡ old
 plus-off true t e = refl
 plus-off false t e = e
 
-minus-off : (old t : Bool) → t ≡ false → old && not t ≡ old
+pub minus-off : (old t : Bool) → t ≡ false → old && not t ≡ old
 minus-off true t e = ap not e
 minus-off false t e = refl
 
-cond-off : {A : Type 0} (t : Bool) (w o : Option A) → t ≡ false → cond t w o ≡ o
+pub cond-off : {A : Type 0} (t : Bool) (w o : Option A) → t ≡ false → cond t w o ≡ o
 cond-off t w o e = rw e
 
 pub agree-refl : (S : Settings) (X : Sets) (d : ℕ) → Agree S X X d

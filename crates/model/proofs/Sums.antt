@@ -105,3 +105,10 @@ sum-out old w v n m l h =
     sum-same (λ i. count2 (old i) m l) (λ i. count2 (λ a u. old i a u && not (w i && eqb u v)) m l + count (λ a. w i && old i a v) m) 0 n
     (λ i. count2-out (old i) (w i) v m l h)
     ∙ sum-add (λ i. count2 (λ a u. old i a u && not (w i && eqb u v)) m l) (λ i. count (λ a. w i && old i a v) m) 0 n
+
+-- a count in two parts
+pub count2-add : (p q s : ℕ → ℕ → Bool) (n m : ℕ) → ((i j : ℕ) → one (s i j) ≡ one (p i j) + one (q i j)) → count2 s n m ≡ count2 p n m + count2 q n m
+count2-add p q s n m h =
+    sum-same (λ i. count (s i) m) (λ i. count (p i) m + count (q i) m) 0 n
+    (λ i. sum-same (λ j. one (s i j)) (λ j. one (p i j) + one (q i j)) 0 m (h i) ∙ sum-add (λ j. one (p i j)) (λ j. one (q i j)) 0 m)
+    ∙ sum-add (λ i. count (p i) m) (λ i. count (q i) m) 0 n
