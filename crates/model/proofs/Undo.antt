@@ -30,8 +30,8 @@ use Rattle.model.proofs.Again.{always-yes, further-yes, own, performs}
 abbrev pub ofKind : ℕ → Request → Request
 ofKind k r = record { kind = k; a = r .a; b = r .b; first = r .first; last = r .last; n = 0; info = 0 }
 
-abbrev pub ofMeeting : ℕ → Request → Request
-ofMeeting k r = record { kind = k; a = 0; b = r .b; first = r .first; last = r .last; n = 0; info = 0 }
+abbrev pub onlyB : ℕ → Request → Request
+onlyB k r = record { kind = k; a = 0; b = r .b; first = r .first; last = r .last; n = 0; info = 0 }
 
 -- a kind that adds pairs, the kind that erases them, and its number
 pub data Undoes : Kind → Kind → ℕ → Type 0 where
@@ -124,12 +124,12 @@ module _ (x : State) (r : Request) where
       (λ j. withLunch x (λ i a b. some-none (slot r i && eqb a (r .a) && eqb b (r .b)) (record { seats = r .n; info = r .info }) (x .lunch i a b) (was-absent addLunch lunches (further-yes x r addLunch h .1 .1 .0) i a b) j))
 
   -- 12 then 13: all the meeting's conference rooms in those sessions are gone
-  conf-after : Accepted x r addConf → step (change x r addConf) (ofMeeting 13 r) ≡ record { answer = Done 0; state = withConf x (λ s c m. cond (slot r s && eqb m (r .b)) none (x .conf s c m)) }
+  conf-after : Accepted x r addConf → step (change x r addConf) (onlyB 13 r) ≡ record { answer = Done 0; state = withConf x (λ s c m. cond (slot r s && eqb m (r .b)) none (x .conf s c m)) }
   unfolding ask test change value kindOf confHeld
   conf-after h =
       let a : Yes x r addConf always = always-yes x r addConf h in
-      performs (change x r addConf) (ofMeeting 13 r) eraseConf refl (refl, (refl, (a .1 .1 .0, (a .1 .1 .1 .0, tt)))) (
-        ask-slots (change x r addConf) (ofMeeting 13 r) eraseConf hasConf refl
+      performs (change x r addConf) (onlyB 13 r) eraseConf refl (refl, (refl, (a .1 .1 .0, (a .1 .1 .1 .0, tt)))) (
+        ask-slots (change x r addConf) (onlyB 13 r) eraseConf hasConf refl
             (λ i e. true-any (λ c. isSome (change x r addConf .conf i c (r .b))) (x .settings .rooms) (r .a)
             (ltb-true (r .a) (x .settings .rooms) (yes x r addConf aBelow refl (a .1 .0)))
             (some-there _ (r .info) (x .conf i (r .a) (r .b)) (own r i e))),
@@ -140,18 +140,18 @@ module _ (x : State) (r : Request) where
 
   -- "Give a meeting a conference room and then erase its rooms in those sessions: both are done, and every word is as before exactly
   -- when it held no room there before."
-  pub undo-conf-done : Accepted x r addConf → step (change x r addConf) (ofMeeting 13 r) .answer ≡ Done 0
+  pub undo-conf-done : Accepted x r addConf → step (change x r addConf) (onlyB 13 r) .answer ≡ Done 0
   undo-conf-done h = ap (λ (o : Outcome). o .answer) (conf-after h)
 
   pub undo-conf : Sound x → Accepted x r addConf
-      → (step (change x r addConf) (ofMeeting 13 r) .state ≡ x) ↔ ((i : ℕ) → slot r i ≡ true → confHeld x i (r .b) ≡ false)
+      → (step (change x r addConf) (onlyB 13 r) .state ≡ x) ↔ ((i : ℕ) → slot r i ≡ true → confHeld x i (r .b) ≡ false)
   unfolding confHeld
   undo-conf s h = (was, is)
     where
-      after : step (change x r addConf) (ofMeeting 13 r) .state ≡ withConf x (λ s c m. cond (slot r s && eqb m (r .b)) none (x .conf s c m))
+      after : step (change x r addConf) (onlyB 13 r) .state ≡ withConf x (λ s c m. cond (slot r s && eqb m (r .b)) none (x .conf s c m))
       after = ap (λ (o : Outcome). o .state) (conf-after h)
 
-      was : step (change x r addConf) (ofMeeting 13 r) .state ≡ x → (i : ℕ) → slot r i ≡ true → confHeld x i (r .b) ≡ false
+      was : step (change x r addConf) (onlyB 13 r) .state ≡ x → (i : ℕ) → slot r i ≡ true → confHeld x i (r .b) ≡ false
       was e i t =
           false-any (λ c. isSome (x .conf i c (r .b))) (x .settings .rooms)
           (λ c _. ap (λ (z : State). isSome (z .conf i c (r .b))) (sym (sym after ∙ e)) ∙ gone (slot r i && eqb (r .b) (r .b)) (x .conf i c (r .b)) (and-true t (eq-eqb (r .b) (r .b) refl)))
@@ -163,7 +163,7 @@ module _ (x : State) (r : Request) where
           = any-false (λ c. isSome (x .conf i c (r .b))) (x .settings .rooms) (f i (and-left (slot r i) _ t)) c (s .pairs confs i c m e .first) in
           true≢false (sym (rw b at e) ∙ g)
 
-      is : ((i : ℕ) → slot r i ≡ true → confHeld x i (r .b) ≡ false) → step (change x r addConf) (ofMeeting 13 r) .state ≡ x
+      is : ((i : ℕ) → slot r i ≡ true → confHeld x i (r .b) ≡ false) → step (change x r addConf) (onlyB 13 r) .state ≡ x
       is f = after ∙ (λ j. withConf x (λ i c m. unless (slot r i && eqb m (r .b)) (x .conf i c m) (empty i c m f) j))
 
 -- a state y that lost the request's own pairs of the set p, which x holds in every slot, and holds no other pair: they can be added
