@@ -3,15 +3,14 @@
 -- Assumes nothing.
 use Prim.Native.Nat.{ℕ, zero, suc, _+_, _<_}
 use mathlib.Core.Path.{_≡_, refl, sym, _∙_, ap, ap₂, subst, fun-ext}
-use mathlib.Core.Logic.{_⊎_, inl, inr}
 use mathlib.Core.Bool.{Bool, true, false, not, _&&_, _||_, cond, true≢false}
 use mathlib.Core.Option.{Option, none, some}
 use mathlib.Core.List.{List, [], _∷_, _++_}
 use native.Mathlib.Nat.{le-refl}
 use native.Mathlib.Omega.{arith}
 use lib.Dec.{ltb, eqb}
-use lib.ListN.{length, replicate}
-use borrow.Author.Tests.{eqb-true, eq-eqb, ltb-true, ltb-false, lt-ltb}
+use lib.ListN.{length}
+use borrow.Author.Tests.{eqb-true, eq-eqb, ltb-true, lt-ltb}
 use Rattle.model.specs.declared.Settings.{Settings}
 use Rattle.model.specs.declared.Request.{Request}
 use Rattle.model.specs.declared.Answer.{Answer}
@@ -23,14 +22,15 @@ use Rattle.model.specs.Kinds.{Kind, kindOf, slotsOf, dateOf}
 use Rattle.model.specs.Kinds.{Kind.endLeave, Kind.removeVisitor, Kind.eraseHotel, Kind.eraseRide, Kind.eraseAttend}
 use Rattle.model.specs.Questions.{test, ask, always, bookings, limitA}
 use Rattle.model.specs.Questions.{Question.aBelow, Question.bBelow, Question.present, Question.noBookings}
-use Rattle.model.specs.Machine.{Outcome, value, change, slot, step, Call, request, perform, Run, run, withHotel, withRide, withAttend}
+use Rattle.model.specs.Machine.{Outcome, value, change, slot, step, Call, request, run, withHotel, withRide, withAttend}
 use Rattle.model.specs.Laws.{unitOf}
-use Rattle.model.proofs.Search.{Lowest, lowest-is, within-true, true-within, never, bool-eq, and-true, and-left, and-right}
+use Rattle.model.proofs.Search.{one-more, Lowest, lowest-is, within-true, never, bool-eq, and-true, and-left, and-right}
 use Rattle.model.proofs.Sums.{sum-same, sum-delta, sum-nothing, count2-nothing}
 use Rattle.model.proofs.Laws.{Sound, Bounds, hasOneA}
-use Rattle.model.proofs.Keeps.{or-cases, Yes}
+use Rattle.model.proofs.Keeps.{Yes}
 use Rattle.model.proofs.Done.{Accepted, ask-whole, ask-slots}
 use Rattle.model.proofs.Undo.{onlyB}
+use Rattle.model.proofs.Runs.{AllZero, zero-append}
 use Rattle.model.proofs.Again.{always-yes, fits-by, performs}
 
 -- the three sets of bookings: the kind that erases an entry, its number, and a state with the set replaced
@@ -138,11 +138,6 @@ erase-step y ofAttend i a v b t =
     (ask-slots y (eraseOne ofAttend i a v) eraseAttend (present (setOf ofAttend)) refl (λ m e. only y (setOf ofAttend) i a v m e t), tt)
     0 _ refl refl
 
--- runs of requests that are all done with 0: how many, and the state they lead to
-pub record AllZero (l : Run) (n : ℕ) (y : State) : Type 0 where
-  pub answers : l .answers ≡ replicate n (Done 0)
-  pub state : l .state ≡ y
-
 -- a set loses first g and then e: together the entries of g′, where an entry is there
 both-gone : (o g e g′ : Bool) → (o ≡ true → g || e ≡ g′) → (o && not g) && not e ≡ o && not g′
 both-gone true true e g′ h = ap not (h refl)
@@ -152,24 +147,6 @@ both-gone false g e g′ h = refl
 same-gone : (o g g′ : Bool) → (o ≡ true → g ≡ g′) → o && not g ≡ o && not g′
 same-gone true g g′ h = ap not (h refl)
 same-gone false g g′ h = refl
-
--- one slot more
-more : (m i : ℕ) → ltb m (suc i) ≡ ltb m i || within i i m
-more m i = bool-eq _ _ to from
-  where
-    to : ltb m (suc i) ≡ true → ltb m i || within i i m ≡ true
-    to e = go (ltb m i) refl
-      where
-        go : (t : Bool) → ltb m i ≡ t → t || within i i m ≡ true
-        go true q = refl
-        go false q = true-within i i m (ltb-false m i q) (omega (arith, ltb-true m (suc i) e))
-
-    from : ltb m i || within i i m ≡ true → ltb m (suc i) ≡ true
-    from e = go (or-cases (ltb m i) (within i i m) e)
-      where
-        go : (ltb m i ≡ true) ⊎ (within i i m ≡ true) → ltb m (suc i) ≡ true
-        go (inl f) = lt-ltb m (suc i) (omega (arith, ltb-true m i f))
-        go (inr f) = lt-ltb m (suc i) (omega (arith, within-true i i m f))
 
 -- the entries of slot i, on its dates, are those of the slots before i + 1 that are not of the slots before i
 next-slot : (l n d e : Bool) → (l || n) && d && e ≡ (l && d && e) || (n && d && e)
@@ -208,7 +185,7 @@ module _ (x : State) (s : Sound x) (r : Request) (p : Bookings) (z : State) (sam
         (omega (arith, within-true i i m (and-left _ (onDates x r p m) f)), and-right (within i i m) _ f, eqb-true w (r .b) (and-right (within i i m && onDates x r p m) _ e))
 
     gone-more : gone x r p (suc i) m w ≡ gone x r p i m w || (within i i m && onDates x r p m && eqb w (r .b))
-    gone-more = ap (λ (t : Bool). t && onDates x r p m && eqb w (r .b)) (more m i) ∙ next-slot (ltb m i) (within i i m) (onDates x r p m) (eqb w (r .b))
+    gone-more = ap (λ (t : Bool). t && onDates x r p m && eqb w (r .b)) (one-more m i) ∙ next-slot (ltb m i) (within i i m) (onDates x r p m) (eqb w (r .b))
 
     gone-none : (within i i m && onDates x r p m && eqb w (r .b) ≡ true → ⊥) → gone x r p i m w ≡ gone x r p (suc i) m w
     gone-none h = sym (gone-more ∙ ap (λ (t : Bool). gone x r p i m w || t) (never _ h) ∙ or-false (gone x r p i m w))
@@ -277,28 +254,6 @@ module _ (x : State) (s : Sound x) (r : Request) (p : Bookings) (z : State) (sam
           (and-true (l .holds) (ap not (off (ltb i i) _ _ (ltb-self i))))
           ∙ ap (λ (y : State). record { answer = Done 0; state = y }) (slot-one i a d (l .holds))))
           (record { answers = ap (λ (l : List Answer). Done 0 ∷ l) (h .answers); state = h .state })
-
--- one list after another
-zeros-append : (n m : ℕ) → replicate n (Done 0) ++ replicate m (Done 0) ≡ replicate (n + m) (Done 0)
-zeros-append zero m =
-    let q : m ≡ 0 + m = omega arith in
-    ap (λ (k : ℕ). replicate k (Done 0)) q
-zeros-append (suc n) m =
-    let q : suc (n + m) ≡ suc n + m = omega arith in
-    ap (λ (l : List Answer). Done 0 ∷ l) (zeros-append n m) ∙ ap (λ (k : ℕ). replicate k (Done 0)) q
-
-pub run-append : (x : State) (cs ds : List Call) → run x (cs ++ ds) ≡ record { answers = run x cs .answers ++ run (run x cs .state) ds .answers; state = run (run x cs .state) ds .state }
-unfolding run
-run-append x [] ds = refl
-run-append x (c ∷ cs) ds = ap (λ (l : Run). record { answers = perform x c .answer ∷ l .answers; state = l .state }) (run-append (perform x c .state) cs ds)
-
-zero-append : (x y z : State) (cs ds : List Call) (n m : ℕ) → AllZero (run x cs) n y → AllZero (run y ds) m z → AllZero (run x (cs ++ ds)) (n + m) z
-zero-append x y z cs ds n m h g =
-    let q : run (run x cs .state) ds ≡ run y ds = ap (λ (w : State). run w ds) (h .state) in
-    record {
-      answers = ap (λ (l : Run). l .answers) (run-append x cs ds) ∙ ap₂ (λ (l k : List Answer). l ++ k) (h .answers) (ap (λ (l : Run). l .answers) q ∙ g .answers) ∙ zeros-append n m;
-      state = ap (λ (l : Run). l .state) (run-append x cs ds) ∙ ap (λ (l : Run). l .state) q ∙ g .state;
-    }
 
 module _ (x : State) (s : Sound x) (r : Request) (p : Bookings) where
   -- before the first slot nothing is gone; past the last all of the visitor's entries on those dates are

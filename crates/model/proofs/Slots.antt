@@ -25,9 +25,9 @@ use Rattle.model.specs.Questions.{Question, Scope, scope, whole, eachSlo
 use Rattle.model.specs.Questions.{Question.absent, Question.free, Question.elsewhere}
 use Rattle.model.specs.Questions.{Question.present}
 use Rattle.model.specs.Machine.{Outcome, value, change, slot, step, Call, request, Run, run, withLeave, withStanding, withHotel, withRide, withAttend, withConf, withLunch}
-use Rattle.model.proofs.Search.{within-true, true-within, never, bool-eq}
+use Rattle.model.proofs.Search.{or-cases, within-true, true-within, never, bool-eq}
 use Rattle.model.proofs.Sums.{count2-add}
-use Rattle.model.proofs.Keeps.{Yes, yes, yes-slot, slots-fit, or-cases}
+use Rattle.model.proofs.Keeps.{Yes, yes, yes-slot, slots-fit}
 use Rattle.model.proofs.Done.{Accepted, outcome, accepted-step, ask-whole, ask-slots}
 use Rattle.model.proofs.Frame.{settings-change}
 use Rattle.model.proofs.Again.{always-kept, always-yes, further-yes, first-le, accept, fits-by}
