@@ -2,37 +2,42 @@
 -- entry each; so the books that pass questions 1 and 2 are the books after a list of calls on a fresh one.
 -- Assumes nothing.
 use Prim.Native.Nat.{ℕ, zero, suc, _+_, _*_, _/_, _%_, _≤_, _<_}
-use mathlib.Core.Path.{_≡_, refl, sym, _∙_, ap, ap₂, subst, fun-ext}
+use mathlib.Core.Path.{_≡_, refl, sym, _∙_, ap, ap₂, subst}
 use mathlib.Core.Logic.{_↔_}
-use mathlib.Core.Bool.{Bool, true, false, not, _&&_, _||_, cond, true≢false, false≢true}
+use mathlib.Core.Bool.{Bool, true, false, _&&_, _||_, cond, true≢false, false≢true}
 use mathlib.Core.Option.{Option, none, some}
 use mathlib.Core.List.{List, [], _∷_, _++_}
 use native.Mathlib.Nat.{le-refl, le-trans, div-add-mod'}
 use native.Mathlib.Omega.{arith}
 use lib.Arith.{digits-lt, digits-div, digits-mod}
 use lib.Dec.{leb, ltb, eqb}
-use lib.ListN.{length}
-use borrow.Author.Tests.{eqb-true, eq-eqb, ne-eqb, le-leb, ltb-true, lt-ltb}
+use lib.ListN.{length, length-append}
+use borrow.Author.Tests.{eqb-true, eq-eqb, le-leb, ltb-true, lt-ltb}
 use Rattle.model.specs.declared.Settings.{Settings}
 use Rattle.model.specs.declared.Request.{Request}
 use Rattle.model.specs.declared.Answer.{Answer}
-use Rattle.model.specs.declared.Answer.the-variants.{Done, Refused}
-use Rattle.model.specs.Bounded.{isSome, within, sum, sumFrom}
+use Rattle.model.specs.declared.Answer.the-variants.{Done}
+use Rattle.model.specs.Bounded.{every, isSome, within, sum}
 use Rattle.model.specs.Site.{capacity, allSessions, allTimes, validSettings}
-use Rattle.model.specs.State.{State, Lunch, emptyState, Pairs, hotels, rides, attends, confs, lunches, booked, reserved, seatsOf}
-use Rattle.model.specs.Kinds.{Kind, kindOf}
+use Rattle.model.specs.State.{State, Lunch, emptyState, hotels, rides, attends, confs, lunches, reserved, seatsOf}
+use Rattle.model.specs.Kinds.{kindOf}
 use Rattle.model.specs.Kinds.{Kind.addLeave, Kind.addHotel, Kind.addRide, Kind.addStanding, Kind.addAttend, Kind.addConf, Kind.addLunch}
-use Rattle.model.specs.Questions.{Question, test, ask, always, further, standsOn}
-use Rattle.model.specs.Questions.{Question.unusedZero, Question.aBelow, Question.bBelow, Question.slotsFit, Question.seatsFit, Question.onLeave, Question.stands, Question.standsThatDate, Question.absent, Question.free, Question.elsewhere}
+use Rattle.model.specs.Questions.{test, ask, standsOn}
+use Rattle.model.specs.Questions.{Question.aBelow, Question.bBelow, Question.seatsFit, Question.onLeave, Question.stands, Question.standsThatDate}
 use Rattle.model.specs.Questions.{Question.roomLeft, inA, inB}
-use Rattle.model.specs.Machine.{Outcome, value, change, slot, step, Call, request, Run, run}
+use Rattle.model.specs.Machine.{Outcome, value, change, slot, step, Call, request, run}
+use Rattle.model.specs.Words.{words}
+use Rattle.model.specs.Reading.{stateOf}
+use Rattle.model.specs.Calls.{Calls, calls, freshBook}
 use Rattle.model.proofs.Search.{never, within-true, true-within, one-more, bool-eq, and-true, and-left, and-right}
 use Rattle.model.proofs.Sums.{sumFrom-le, sum-add, sum-delta}
 use Rattle.model.proofs.Laws.{Sound, Bounds}
-use Rattle.model.proofs.Keeps.{Yes, mk}
-use Rattle.model.proofs.Done.{Accepted, ask-whole, ask-slots}
+use Rattle.model.proofs.Keeps.{mk}
+use Rattle.model.proofs.Done.{ask-whole, ask-slots}
 use Rattle.model.proofs.Runs.{AllZero, zero-append}
 use Rattle.model.proofs.Again.{fits-by, performs}
+use Rattle.model.proofs.Calls.{empty-sound, from-fresh, run-sound}
+use Rattle.model.proofs.Shows.{Shows, Passes, passes-shows, shows-passes}
 use Rattle.model.proofs.Undo.{Vacated, vacant-absent, vacant-free, vacant-elsewhere}
 
 -- the entries of a set of pairs and of a set of triples by number, the last index fastest
@@ -153,10 +158,10 @@ skip-belowOf {A} o c n h = go o (ltb n c) (within c c n) h ∙ ap (λ (t : Bool)
     go (some u) false t h = rw h
 
 -- nothing has a number below 0; everything has one below the number of them
-none-below : (o : Bool) (n : ℕ) → below o 0 n ≡ false
-none-below o n = never (below o 0 n) (λ e. omega (arith, ltb-true n 0 (and-right o _ e)))
+none-below : (o : Bool) (n : ℕ) → false ≡ below o 0 n
+none-below o n = sym (never (below o 0 n) (λ e. omega (arith, ltb-true n 0 (and-right o _ e))))
 
-none-belowOf : {A : Type 0} (o : Option A) (n : ℕ) → belowOf o 0 n ≡ none
+none-belowOf : {A : Type 0} (o : Option A) (n : ℕ) → none ≡ belowOf o 0 n
 none-belowOf o n = rw (never (ltb n 0) (λ e. omega (arith, ltb-true n 0 e)))
 
 all-below : (o : Bool) (c n : ℕ) → (o ≡ true → n < c) → below o c n ≡ o
@@ -396,12 +401,195 @@ module _ (x : State) (s : Sound x) (c : ℕ) where
         less = λ i a b t. less-of (ltb (three M ms i a b) c) (x .lunch i a b) t;
       } in
       performs y r addLunch refl
-      (refl, (ask-whole y r addLunch aBelow refl (lt-ltb (c / ms % M) M (n .first)), (ask-whole y r addLunch bBelow refl (lt-ltb (c % ms) ms (n .second)), (fits-by y r addLunch (le-refl (c / ms / M)) (n .slot) refl, tt))))
-      (ask-whole y r addLunch seatsFit refl (true-within 1 (capacity (x .settings) (c / ms % M)) (w .seats) (s .seats (c / ms / M) (c / ms % M) (c % ms) w e .0) (s .seats (c / ms / M) (c / ms % M) (c % ms) w e .1)),
-      (ask-slots y r addLunch standsThatDate refl (λ m t. s .lunched m (r .a) (r .b) (v .there m t)),
-      (vacant-absent x y s r lunches v addLunch,
-      (vacant-elsewhere x y s r lunches v addLunch refl,
-      (ask-slots y r addLunch roomLeft refl (λ m t.
-      ap (λ (n : ℕ). leb (reserved y n (c / ms % M) + w .seats) (capacity (x .settings) (c / ms % M))) (the-slot (c / ms / M) m t)
-      ∙ le-leb (reserved y (c / ms / M) (c / ms % M) + w .seats) (capacity (x .settings) (c / ms % M)) (le-trans (seats-room w e) (s .reserve (c / ms / M) (c / ms % M) (n .slot) (n .first)))), tt))))) 0 _ refl
+      (refl, (ask-whole y r addLunch aBelow refl (lt-ltb (c / ms % M) M (n .first)), (ask-whole y r addLunch bBelow refl (lt-ltb (c % ms) ms (n .second)), (fits-by y r addLunch (le-refl (c / ms / M)) (n .slot) refl, tt)))) (
+        ask-whole y r addLunch seatsFit refl (true-within 1 (capacity (x .settings) (c / ms % M)) (w .seats) (s .seats (c / ms / M) (c / ms % M) (c % ms) w e .0) (s .seats (c / ms / M) (c / ms % M) (c % ms) w e .1)),
+        (
+          ask-slots y r addLunch standsThatDate refl (λ m t. s .lunched m (r .a) (r .b) (v .there m t)),
+          (
+            vacant-absent x y s r lunches v addLunch,
+            (
+              vacant-elsewhere x y s r lunches v addLunch refl,
+              (
+                ask-slots y r addLunch roomLeft refl (λ m t.
+                    ap (λ (n : ℕ). leb (reserved y n (c / ms % M) + w .seats) (capacity (x .settings) (c / ms % M))) (the-slot (c / ms / M) m t)
+                    ∙ le-leb (reserved y (c / ms / M) (c / ms % M) + w .seats) (capacity (x .settings) (c / ms % M)) (le-trans (seats-room w e) (s .reserve (c / ms / M) (c / ms % M) (n .slot) (n .first)))),
+                tt,
+              ),
+            ),
+          ),
+        ),
+      ) 0 _ refl
       (λ j. mk x (x .leave) (x .standing) (x .hotel) (x .ride) (x .attend) (x .conf) (λ i a b. add-belowOf (x .lunch i a b) w (isThree M ms c i a b) c (three M ms i a b) (hit-three (λ i a b. isSome (x .lunch i a b)) M ms c (λ i a b f. (s .pairs lunches i a b f .first, s .pairs lunches i a b f .second)) (ap isSome e) i a b) (the-one (x .lunch) M ms w e i a b) j))
+
+  adds : (q : Stage) → Adds x q c (entry x q c)
+  adds toLeave = add-leave _ refl
+  adds toStanding = add-standing _ refl
+  adds toHotel = add-hotel _ refl
+  adds toRide = add-ride _ refl
+  adds toAttend = add-attend _ refl
+  adds toConf = add-conf _ refl
+  adds toLunch = add-lunch _ refl
+
+-- the requests of the entries with the n numbers from c, and of all the entries of a set
+abbrev addStep : Option Request → List Call → List Call
+addStep none later = later
+addStep (some r) later = request r ∷ later
+
+abbrev addsFrom : State → Stage → ℕ → ℕ → List Call
+addsFrom x q c zero = []
+addsFrom x q c (suc n) = addStep (entry x q c) (addsFrom x q (suc c) n)
+
+abbrev numbers : State → Stage → ℕ
+numbers x toLeave = x .settings .dates * x .settings .visitors
+numbers x toStanding = allSessions (x .settings) * x .settings .meetings
+numbers x toHotel = x .settings .dates * x .settings .hotels * x .settings .visitors
+numbers x toRide = allTimes (x .settings) * x .settings .transports * x .settings .visitors
+numbers x toAttend = allSessions (x .settings) * x .settings .meetings * x .settings .visitors
+numbers x toConf = allSessions (x .settings) * x .settings .rooms * x .settings .meetings
+numbers x toLunch = x .settings .dates * x .settings .dining * x .settings .meetings
+
+abbrev addsOf : State → Stage → List Call
+addsOf x q = addsFrom x q 0 (numbers x q)
+
+-- the requests for all the entries of a state, one each
+abbrev pub entriesOf : State → List Call
+entriesOf x = addsOf x toLeave ++ (addsOf x toStanding ++ (addsOf x toHotel ++ (addsOf x toRide ++ (addsOf x toAttend ++ (addsOf x toConf ++ addsOf x toLunch)))))
+
+module _ (x : State) (s : Sound x) where
+  fill : (q : Stage) (n c j : ℕ) → j ≡ c + n → AllZero (run (filled x q c) (addsFrom x q c n)) (length (addsFrom x q c n)) (filled x q j)
+  unfolding run
+  fill q zero c j e = record { answers = refl; state = ap (filled x q) (omega (arith, e)) }
+  fill q (suc n) c j e = go (entry x q c) (adds x s c q) (addsFrom x q (suc c) n) (fill q n (suc c) j (omega (arith, e)))
+    where
+      go : (o : Option Request) → Adds x q c o → (later : List Call) → AllZero (run (filled x q (suc c)) later) (length later) (filled x q j)
+          → AllZero (run (filled x q c) (addStep o later)) (length (addStep o later)) (filled x q j)
+      go none a later h = subst (λ (y : State). AllZero (run y later) (length later) (filled x q j)) (sym a) h
+      go (some r) a later h =
+          subst (λ (o : Outcome). AllZero (record { answers = o .answer ∷ run (o .state) later .answers; state = run (o .state) later .state }) (suc (length later)) (filled x q j)) (sym a)
+          (record { answers = ap (λ (l : List Answer). Done 0 ∷ l) (h .answers); state = h .state })
+
+  fill-all : (q : Stage) → AllZero (run (filled x q 0) (addsOf x q)) (length (addsOf x q)) (filled x q (numbers x q))
+  fill-all q = fill q (numbers x q) 0 (numbers x q) (omega arith)
+
+  -- a full stage is the next one, empty
+  start : emptyState (x .settings) ≡ filled x toLeave 0
+  unfolding emptyState
+  start = λ j. mk x (λ d v. none-below (x .leave d v) (two (x .settings .visitors) d v) j) (λ s m. false) (λ d a v. false) (λ t a v. false) (λ s m v. false) (λ s a m. none) (λ d a m. none)
+
+  full-leave : filled x toLeave (numbers x toLeave) ≡ filled x toStanding 0
+  full-leave = λ j. mk x (λ i b. all-below (x .leave i b) (numbers x toLeave) (two (x .settings .visitors) i b) (λ e. digits-lt (s .leaves i b e .0) (s .leaves i b e .1)) j) (λ i b. none-below (x .standing i b) (two (x .settings .meetings) i b) j) (λ d a v. false) (λ t a v. false) (λ s m v. false) (λ s a m. none) (λ d a m. none)
+
+  full-standing : filled x toStanding (numbers x toStanding) ≡ filled x toHotel 0
+  full-standing = λ j. mk x (x .leave) (λ i b. all-below (x .standing i b) (numbers x toStanding) (two (x .settings .meetings) i b) (λ e. digits-lt (s .stands i b e .0) (s .stands i b e .1)) j) (λ i a b. none-below (x .hotel i a b) (three (x .settings .hotels) (x .settings .visitors) i a b) j) (λ t a v. false) (λ s m v. false) (λ s a m. none) (λ d a m. none)
+
+  full-hotel : filled x toHotel (numbers x toHotel) ≡ filled x toRide 0
+  full-hotel = λ j. mk x (x .leave) (x .standing) (λ i a b. all-below (x .hotel i a b) (numbers x toHotel) (three (x .settings .hotels) (x .settings .visitors) i a b) (λ e. digits-lt (digits-lt (s .pairs hotels i a b e .slot) (s .pairs hotels i a b e .first)) (s .pairs hotels i a b e .second)) j) (λ i a b. none-below (x .ride i a b) (three (x .settings .transports) (x .settings .visitors) i a b) j) (λ s m v. false) (λ s a m. none) (λ d a m. none)
+
+  full-ride : filled x toRide (numbers x toRide) ≡ filled x toAttend 0
+  full-ride = λ j. mk x (x .leave) (x .standing) (x .hotel) (λ i a b. all-below (x .ride i a b) (numbers x toRide) (three (x .settings .transports) (x .settings .visitors) i a b) (λ e. digits-lt (digits-lt (s .pairs rides i a b e .slot) (s .pairs rides i a b e .first)) (s .pairs rides i a b e .second)) j) (λ i a b. none-below (x .attend i a b) (three (x .settings .meetings) (x .settings .visitors) i a b) j) (λ s a m. none) (λ d a m. none)
+
+  full-attend : filled x toAttend (numbers x toAttend) ≡ filled x toConf 0
+  full-attend = λ j. mk x (x .leave) (x .standing) (x .hotel) (x .ride) (λ i a b. all-below (x .attend i a b) (numbers x toAttend) (three (x .settings .meetings) (x .settings .visitors) i a b) (λ e. digits-lt (digits-lt (s .pairs attends i a b e .slot) (s .pairs attends i a b e .first)) (s .pairs attends i a b e .second)) j) (λ i a b. none-belowOf (x .conf i a b) (three (x .settings .rooms) (x .settings .meetings) i a b) j) (λ d a m. none)
+
+  full-conf : filled x toConf (numbers x toConf) ≡ filled x toLunch 0
+  full-conf = λ j. mk x (x .leave) (x .standing) (x .hotel) (x .ride) (x .attend) (λ i a b. all-belowOf (x .conf i a b) (numbers x toConf) (three (x .settings .rooms) (x .settings .meetings) i a b) (λ e. digits-lt (digits-lt (s .pairs confs i a b e .slot) (s .pairs confs i a b e .first)) (s .pairs confs i a b e .second)) j) (λ i a b. none-belowOf (x .lunch i a b) (three (x .settings .dining) (x .settings .meetings) i a b) j)
+
+  end : filled x toLunch (numbers x toLunch) ≡ x
+  end = λ j. mk x (x .leave) (x .standing) (x .hotel) (x .ride) (x .attend) (x .conf) (λ i a b. all-belowOf (x .lunch i a b) (numbers x toLunch) (three (x .settings .dining) (x .settings .meetings) i a b) (λ e. digits-lt (digits-lt (s .pairs lunches i a b e .slot) (s .pairs lunches i a b e .first)) (s .pairs lunches i a b e .second)) j)
+
+  -- "Every state that keeps the laws can be built from nothing, one entry at a time, and each of these requests is done."
+  pub built : AllZero (run (emptyState (x .settings)) (entriesOf x)) (length (entriesOf x)) x
+  built =
+      from (emptyState (x .settings)) toLeave _ start
+      (from _ toStanding _ full-leave
+      (from _ toHotel _ full-standing
+      (from _ toRide _ full-hotel
+      (from _ toAttend _ full-ride
+      (from _ toConf _ full-attend (subst (λ (y : State). AllZero (run y (addsOf x toLunch)) (length (addsOf x toLunch)) x) (sym full-conf)
+      (subst (λ (y : State). AllZero (run (filled x toLunch 0) (addsOf x toLunch)) (length (addsOf x toLunch)) y) end (fill-all toLunch))))))))
+    where
+      -- a stage and what follows it
+      from : (y : State) (q : Stage) (cs : List Call) → y ≡ filled x q 0 → AllZero (run (filled x q (numbers x q)) cs) (length cs) x
+          → AllZero (run y (addsOf x q ++ cs)) (length (addsOf x q ++ cs)) x
+      from y q cs e h =
+          subst (λ (n : ℕ). AllZero (run y (addsOf x q ++ cs)) n x) (sym (length-append (addsOf x q) cs))
+          (subst (λ (z : State). AllZero (run z (addsOf x q ++ cs)) (length (addsOf x q) + length cs) x) (sym e)
+          (zero-append (filled x q 0) (filled x q (numbers x q)) x (addsOf x q) cs _ _ (fill-all q) h))
+
+-- a request for one entry: one slot, of a kind that adds
+abbrev pub oneEntry : Call → Bool
+oneEntry (request r) =
+    eqb (r .first) (r .last)
+    && (eqb (r .kind) 1 || eqb (r .kind) 8 || eqb (r .kind) 4 || eqb (r .kind) 6 || eqb (r .kind) 10 || eqb (r .kind) 12 || eqb (r .kind) 14)
+
+-- the request for an entry is one
+module _ (later : List Call) (h : every oneEntry later ≡ true) where
+  self : (i : ℕ) → eqb i i && true ≡ true
+  self i = and-true (eq-eqb i i refl) refl
+
+  plain-one : (k i a b : ℕ) (t : Bool) → oneEntry (request (adding k i a b 0 0)) ≡ true → every oneEntry (addStep (addIf k i a b t) later) ≡ true
+  plain-one k i a b true e = and-true e h
+  plain-one k i a b false e = h
+
+  conf-one : (i a b : ℕ) (o : Option ℕ) → every oneEntry (addStep (addConfIf i a b o) later) ≡ true
+  conf-one i a b none = h
+  conf-one i a b (some w) = and-true (self i) h
+
+  lunch-one : (i a b : ℕ) (o : Option Lunch) → every oneEntry (addStep (addLunchIf i a b o) later) ≡ true
+  lunch-one i a b none = h
+  lunch-one i a b (some l) = and-true (self i) h
+
+module _ (x : State) where
+  entry-one : (q : Stage) (c : ℕ) (later : List Call) → every oneEntry later ≡ true → every oneEntry (addStep (entry x q c) later) ≡ true
+  entry-one toLeave c later h = plain-one later h 1 (c / x .settings .visitors) 0 (c % x .settings .visitors) (x .leave (c / x .settings .visitors) (c % x .settings .visitors)) (self later h (c / x .settings .visitors))
+  entry-one toStanding c later h = plain-one later h 8 (c / x .settings .meetings) (c % x .settings .meetings) 0 (x .standing (c / x .settings .meetings) (c % x .settings .meetings)) (self later h (c / x .settings .meetings))
+  entry-one toHotel c later h = plain-one later h 4 (c / x .settings .visitors / x .settings .hotels) (c / x .settings .visitors % x .settings .hotels) (c % x .settings .visitors) (x .hotel (c / x .settings .visitors / x .settings .hotels) (c / x .settings .visitors % x .settings .hotels) (c % x .settings .visitors)) (self later h (c / x .settings .visitors / x .settings .hotels))
+  entry-one toRide c later h = plain-one later h 6 (c / x .settings .visitors / x .settings .transports) (c / x .settings .visitors % x .settings .transports) (c % x .settings .visitors) (x .ride (c / x .settings .visitors / x .settings .transports) (c / x .settings .visitors % x .settings .transports) (c % x .settings .visitors)) (self later h (c / x .settings .visitors / x .settings .transports))
+  entry-one toAttend c later h = plain-one later h 10 (c / x .settings .visitors / x .settings .meetings) (c / x .settings .visitors % x .settings .meetings) (c % x .settings .visitors) (x .attend (c / x .settings .visitors / x .settings .meetings) (c / x .settings .visitors % x .settings .meetings) (c % x .settings .visitors)) (self later h (c / x .settings .visitors / x .settings .meetings))
+  entry-one toConf c later h = conf-one later h (c / x .settings .meetings / x .settings .rooms) (c / x .settings .meetings % x .settings .rooms) (c % x .settings .meetings) (x .conf (c / x .settings .meetings / x .settings .rooms) (c / x .settings .meetings % x .settings .rooms) (c % x .settings .meetings))
+  entry-one toLunch c later h = lunch-one later h (c / x .settings .meetings / x .settings .dining) (c / x .settings .meetings % x .settings .dining) (c % x .settings .meetings) (x .lunch (c / x .settings .meetings / x .settings .dining) (c / x .settings .meetings % x .settings .dining) (c % x .settings .meetings))
+
+  adds-one : (q : Stage) (n c : ℕ) → every oneEntry (addsFrom x q c n) ≡ true
+  adds-one q zero c = refl
+  adds-one q (suc n) c = entry-one q c (addsFrom x q (suc c) n) (adds-one q n (suc c))
+
+  every-append : (cs ds : List Call) → every oneEntry cs ≡ true → every oneEntry ds ≡ true → every oneEntry (cs ++ ds) ≡ true
+  every-append [] ds h g = g
+  every-append (c ∷ cs) ds h g = and-true (and-left (oneEntry c) _ h) (every-append cs ds (and-right (oneEntry c) _ h) g)
+
+  -- the requests that build a state are of kinds 1, 8, 4, 6, 10, 12 and 14, of one slot each
+  pub one-entry-each : every oneEntry (entriesOf x) ≡ true
+  one-entry-each = stage toLeave _ (stage toStanding _ (stage toHotel _ (stage toRide _ (stage toAttend _ (stage toConf _ (adds-one toLunch (numbers x toLunch) 0))))))
+    where
+      stage : (q : Stage) (ds : List Call) → every oneEntry ds ≡ true → every oneEntry (addsOf x q ++ ds) ≡ true
+      stage q ds h = every-append (addsOf x q) ds (adds-one q (numbers x q) 0) h
+
+-- "A book that passes questions 1 and 2 is the same as a book after a list of calls on a fresh one."
+pub record Reached (b : List ℕ) : Type 0 where
+  pub settings : Settings
+  pub valid : validSettings settings ≡ true
+  pub list : List Call
+  pub book : calls (freshBook settings) list .book ≡ b
+
+pub passes-iff-reached : (b : List ℕ) → Passes b ↔ Reached b
+passes-iff-reached b = (to, from)
+  where
+    to : Passes b → Reached b
+    to q =
+        let x : State = stateOf b in
+        let h : Shows b x = passes-shows b q in
+        record {
+          settings = x .settings;
+          valid = h .sound .valid;
+          list = entriesOf x;
+          book = ap (λ (l : Calls). l .book) (from-fresh (x .settings) (h .sound .valid) (entriesOf x)) ∙ ap words (built x (h .sound) .state) ∙ sym (h .is);
+        }
+
+    from : Reached b → Passes b
+    from h =
+        let y : State = run (emptyState (h .settings)) (h .list) .state in
+        shows-passes b y
+        (record {
+          sound = run-sound (emptyState (h .settings)) (empty-sound (h .settings) (h .valid)) (h .list);
+          is = sym (h .book) ∙ ap (λ (l : Calls). l .book) (from-fresh (h .settings) (h .valid) (h .list));
+        })
