@@ -25,7 +25,7 @@ use Rattle.model.specs.Questions.{Question.aBelow, Question.bBelow, Ques
 use Rattle.model.specs.Machine.{Outcome, value, change, slot, step, Call, request, run, withHotel, withRide, withAttend}
 use Rattle.model.specs.Laws.{unitOf}
 use Rattle.model.proofs.Search.{one-more, Lowest, lowest-is, within-true, never, bool-eq, and-true, and-left, and-right}
-use Rattle.model.proofs.Sums.{sum-same, sum-delta, sum-nothing, count2-nothing}
+use Rattle.model.proofs.Sums.{sum-same, sum-delta, sum-nothing, count-none}
 use Rattle.model.proofs.Laws.{Sound, Bounds, hasOneA}
 use Rattle.model.proofs.Keeps.{Yes}
 use Rattle.model.proofs.Done.{Accepted, ask-whole, ask-slots}
@@ -329,22 +329,22 @@ module _ (x : State) (s : Sound x) (r : Request) (h : Accepted x r removeVisitor
       (λ t a v. x .ride t a v && not (slot r (dateOfTime (x .settings) t) && eqb v (r .b))))
       (λ i a v. x .attend i a v && not (slot r (dateOfSession (x .settings) i) && eqb v (r .b)))
 
-  none-on : (m d : ℕ) (o : Bool) → slot r m ≡ true → within m m d && (o && not (slot r d && eqb (r .b) (r .b))) ≡ false
-  none-on m d o e = never _ (λ t.
-      let q : d ≡ m = omega (arith, within-true m m d (and-left (within m m d) _ t)) in
-      let f : not (slot r d && eqb (r .b) (r .b)) ≡ true = and-right o _ (and-right (within m m d) _ t) in
-      let g : slot r d && eqb (r .b) (r .b) ≡ true = and-true (ap (slot r) q ∙ e) (eq-eqb (r .b) (r .b) refl) in
-      true≢false (sym f ∙ ap not g))
-
+  -- none of the visitor's bookings is left on one of those dates
   none-booked : (m : ℕ) → slot r m ≡ true → bookings erased (r .b) m m ≡ 0
   unfolding erased bookings
   none-booked m e =
+      let S : Settings = x .settings in
       omega (
         arith,
-        count2-nothing (λ d a. within m m d && (x .hotel d a (r .b) && not (slot r d && eqb (r .b) (r .b)))) (x .settings .dates) (x .settings .hotels) (λ d a. none-on m d (x .hotel d a (r .b)) e),
-        count2-nothing (λ t a. within m m (dateOfTime (x .settings) t) && (x .ride t a (r .b) && not (slot r (dateOfTime (x .settings) t) && eqb (r .b) (r .b)))) (allTimes (x .settings)) (x .settings .transports) (λ t a. none-on m (dateOfTime (x .settings) t) (x .ride t a (r .b)) e),
-        count2-nothing (λ i a. within m m (dateOfSession (x .settings) i) && (x .attend i a (r .b) && not (slot r (dateOfSession (x .settings) i) && eqb (r .b) (r .b)))) (allSessions (x .settings)) (x .settings .meetings) (λ i a. none-on m (dateOfSession (x .settings) i) (x .attend i a (r .b)) e),
+        count-none (x .hotel) (r .b) (S .dates) (S .hotels) (within m m) (slot r) that,
+        count-none (x .ride) (r .b) (allTimes S) (S .transports) (λ t. within m m (dateOfTime S t)) (λ t. slot r (dateOfTime S t)) (λ t. that (dateOfTime S t)),
+        count-none (x .attend) (r .b) (allSessions S) (S .meetings) (λ i. within m m (dateOfSession S i)) (λ i. slot r (dateOfSession S i)) (λ i. that (dateOfSession S i)),
       )
+    where
+      that : (d : ℕ) → within m m d ≡ true → slot r d ≡ true
+      that d t =
+          let q : d ≡ m = omega (arith, within-true m m d t) in
+          ap (slot r) q ∙ e
 
   -- ending the leave is done then, and gives the state after the removal
   end-leave : step erased (onlyB 2 r) ≡ record { answer = Done 0; state = change x r removeVisitor }

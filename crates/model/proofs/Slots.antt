@@ -22,11 +22,11 @@ use Rattle.model.specs.Kinds.{Kind.addLeave, Kind.endLeave, Kind.removeV
 use Rattle.model.specs.Kinds.{Kind.addStanding, Kind.endStanding, Kind.addAttend, Kind.eraseAttend, Kind.addConf, Kind.eraseConf}
 use Rattle.model.specs.Kinds.{Kind.addLunch, Kind.eraseLunch, Kind.eraseConfAndLunch, Kind.whichMeeting, Kind.countLeave, Kind.seatsLeft, Kind.freeRoom}
 use Rattle.model.specs.Questions.{Question, Scope, scope, whole, eachSlot, eachDate, test, ask, always, further, confHeld, lunchHeld, bookings, standsOn, limitA, limitB}
-use Rattle.model.specs.Questions.{Question.absent, Question.free, Question.elsewhere}
+use Rattle.model.specs.Questions.{Question.roomLeft, Question.absent, Question.free, Question.elsewhere}
 use Rattle.model.specs.Questions.{Question.present}
 use Rattle.model.specs.Machine.{Outcome, value, change, slot, step, Call, request, Run, run, withLeave, withStanding, withHotel, withRide, withAttend, withConf, withLunch}
 use Rattle.model.proofs.Search.{or-cases, within-true, true-within, never, bool-eq}
-use Rattle.model.proofs.Sums.{count2-add}
+use Rattle.model.proofs.Sums.{count-split}
 use Rattle.model.proofs.Keeps.{Yes, yes, yes-slot, slots-fit}
 use Rattle.model.proofs.Done.{Accepted, outcome, accepted-step, ask-whole, ask-slots}
 use Rattle.model.proofs.Frame.{settings-change}
@@ -208,7 +208,13 @@ module _ (x : State) (r : Request) (i j : ℕ) where
   stills-after addLunch h =
       let o : (m u v : ℕ) → slot (over r (suc i) j) m ≡ true → isSome (x .lunch m u v) ≡ isSome (change x (over r i i) addLunch .lunch m u v)
       = λ m u v e. ap isSome (sym (cond-off (slot (over r i i) m && eqb u (r .a) && eqb v (r .b)) _ (x .lunch m u v) (rw (past m e)))) in
-      (refl, (λ m e. refl, (still-absent addLunch lunches o, (still-elsewhere addLunch lunches o, (λ m e. ap (λ (f : ℕ → ℕ). leb (sum f (x .settings .meetings) + r .n) (capacity (x .settings) (r .a))) (fun-ext (λ v. ap seatsOf (sym (cond-off (slot (over r i i) m && eqb (r .a) (r .a) && eqb v (r .b)) _ (x .lunch m (r .a) v) (rw (past m e)))))), tt)))))
+      (refl, (λ m e. refl, (still-absent addLunch lunches o, (still-elsewhere addLunch lunches o, (still-room, tt)))))
+    where
+      seats : (m v : ℕ) → slot (over r (suc i) j) m ≡ true → seatsOf (x .lunch m (r .a) v) ≡ seatsOf (change x (over r i i) addLunch .lunch m (r .a) v)
+      seats m v e = ap seatsOf (sym (cond-off (slot (over r i i) m && eqb (r .a) (r .a) && eqb v (r .b)) _ (x .lunch m (r .a) v) (rw (past m e))))
+
+      still-room : Still x (change x (over r i i) addLunch) r (over r (suc i) j) addLunch roomLeft eachSlot
+      still-room m e = ap (λ (f : ℕ → ℕ). leb (sum f (x .settings .meetings) + r .n) (capacity (x .settings) (r .a))) (fun-ext (λ v. seats m v e))
   stills-after eraseLunch h =
       let o : (m u v : ℕ) → slot (over r (suc i) j) m ≡ true → isSome (x .lunch m u v) ≡ isSome (change x (over r i i) eraseLunch .lunch m u v)
       = λ m u v e. ap isSome (sym (cond-off (slot (over r i i) m && eqb u (r .a) && eqb v (r .b)) _ (x .lunch m u v) (rw (past m e)))) in
@@ -240,6 +246,10 @@ stored : {A : Type 0} (s p q : Bool) (w o : Option A) → s ≡ p || q → cond 
 stored s true true w o e = rw e
 stored s true false w o e = rw e
 stored s false q w o e = rw e
+
+-- the slots whose date is one of from..to
+abbrev on : ℕ → ℕ → (ℕ → ℕ) → ℕ → Bool
+on from to date i = within from to (date i)
 
 module _ (x : State) (r : Request) (i j : ℕ) (le : i ≤ j) where
   split : (m : ℕ) → slot (over r i j) m ≡ slot (over r i i) m || slot (over r (suc i) j) m
@@ -319,30 +329,17 @@ module _ (x : State) (r : Request) (i j : ℕ) (le : i ≤ j) where
   changes freeRoom h = absurd (false≢true h)
 
   -- the values add up: bookings in slot i, and what is left of them in later slots
-  part : (m : ℕ) (o : Bool) (v b : ℕ)
-      → one (slot (over r i j) m && o) ≡ one (slot (over r i i) m && o) + one (slot (over r (suc i) j) m && (o && not (slot (over r i i) m && eqb v b)))
-  part m o v b = go (slot (over r i j) m) (slot (over r i i) m) (slot (over r (suc i) j) m) (split m) (past x r i j m) o
-    where
-      go : (s p q : Bool) → s ≡ p || q → (q ≡ true → p ≡ false) → (o : Bool) → one (s && o) ≡ one (p && o) + one (q && (o && not (p && eqb v b)))
-      go s true true e h o = absurd (true≢false (h refl))
-      go s true false e h true = rw e
-      go s true false e h false = rw e
-      go s false true e h true = rw e
-      go s false true e h false = rw e
-      go s false false e h true = rw e
-      go s false false e h false = rw e
-
   bookings-add : bookings x (r .b) i i + bookings (change x (over r i i) removeVisitor) (r .b) (suc i) j ≡ bookings x (r .b) i j
   unfolding change bookings
   bookings-add =
+      let S : Settings = x .settings in
       omega (
         arith,
-        count2-add (λ d a. within i i d && x .hotel d a (r .b)) (λ d a. within (suc i) j d && (x .hotel d a (r .b) && not (within i i d && eqb (r .b) (r .b)))) (λ d a. within i j d && x .hotel d a (r .b)) (x .settings .dates) (x .settings .hotels)
-            (λ d a. part d (x .hotel d a (r .b)) (r .b) (r .b)),
-        count2-add (λ t a. within i i (dateOfTime (x .settings) t) && x .ride t a (r .b)) (λ t a. within (suc i) j (dateOfTime (x .settings) t) && (x .ride t a (r .b) && not (within i i (dateOfTime (x .settings) t) && eqb (r .b) (r .b)))) (λ t a. within i j (dateOfTime (x .settings) t) && x .ride t a (r .b)) (allTimes (x .settings)) (x .settings .transports)
-            (λ t a. part (dateOfTime (x .settings) t) (x .ride t a (r .b)) (r .b) (r .b)),
-        count2-add (λ s a. within i i (dateOfSession (x .settings) s) && x .attend s a (r .b)) (λ s a. within (suc i) j (dateOfSession (x .settings) s) && (x .attend s a (r .b) && not (within i i (dateOfSession (x .settings) s) && eqb (r .b) (r .b)))) (λ s a. within i j (dateOfSession (x .settings) s) && x .attend s a (r .b)) (allSessions (x .settings)) (x .settings .meetings)
-            (λ s a. part (dateOfSession (x .settings) s) (x .attend s a (r .b)) (r .b) (r .b)),
+        count-split (x .hotel) (r .b) (S .dates) (S .hotels) (within i j) (within i i) (within (suc i) j) split (past x r i j),
+        count-split (x .ride) (r .b) (allTimes S) (S .transports) (on i j (dateOfTime S)) (on i i (dateOfTime S)) (on (suc i) j (dateOfTime S))
+            (λ t. split (dateOfTime S t)) (λ t. past x r i j (dateOfTime S t)),
+        count-split (x .attend) (r .b) (allSessions S) (S .meetings) (on i j (dateOfSession S)) (on i i (dateOfSession S)) (on (suc i) j (dateOfSession S))
+            (λ s. split (dateOfSession S s)) (λ s. past x r i j (dateOfSession S s)),
       )
 
   values : (k : Kind) → ranged k ≡ true → value x (over r i i) k + value (change x (over r i i) k) (over r (suc i) j) k ≡ value x (over r i j) k
