@@ -18,22 +18,22 @@ use Rattle.model.specs.declared.Answer.the-variants.{Done}
 use Rattle.model.specs.Bounded.{lowest, within, sumFrom, count, one}
 use Rattle.model.specs.Site.{dateOfSession, dateOfTime, allSessions, allTimes}
 use Rattle.model.specs.State.{State, Pairs, hotels, rides, attends, booked}
-use Rattle.model.specs.Kinds.{Kind, kindOf, slotsOf, dateOf}
+use Rattle.model.specs.Kinds.{kindOf, slotsOf, dateOf}
 use Rattle.model.specs.Kinds.{Kind.endLeave, Kind.removeVisitor, Kind.eraseHotel, Kind.eraseRide, Kind.eraseAttend}
 use Rattle.model.specs.Questions.{test, ask, always, bookings, limitA}
-use Rattle.model.specs.Questions.{Question.aBelow, Question.bBelow, Question.present, Question.noBookings}
+use Rattle.model.specs.Questions.{Question.present, Question.noBookings}
 use Rattle.model.specs.Machine.{Outcome, value, change, slot, step, Call, request, run, withHotel, withRide, withAttend}
 use Rattle.model.specs.Laws.{unitOf}
 use Rattle.model.proofs.Search.{one-more, Lowest, lowest-is, within-true, never, bool-eq, and-true, and-left, and-right}
 use Rattle.model.proofs.Sums.{sum-same, sum-delta, sum-nothing, count-none}
 use Rattle.model.proofs.Laws.{Sound, Bounds, hasOneA}
 use Rattle.model.proofs.Keeps.{Yes}
-use Rattle.model.proofs.Done.{Accepted, ask-whole, ask-slots}
+use Rattle.model.proofs.Done.{Accepted, ask-slots}
 use Rattle.model.proofs.Undo.{onlyB}
 use Rattle.model.proofs.Runs.{AllZero, zero-append}
-use Rattle.model.proofs.Again.{always-yes, fits-by, performs}
+use Rattle.model.proofs.Again.{always-yes, always-by, fits-by, performs}
 
--- the three sets of bookings: the kind that erases an entry, its number, and a state with the set replaced
+-- the three sets of bookings: the number of the kind that erases an entry, and a state with the set replaced
 pub data Bookings : Type 0 where
   ofHotel ofRide ofAttend : Bookings
 
@@ -41,11 +41,6 @@ abbrev pub setOf : Bookings → Pairs
 setOf ofHotel = hotels
 setOf ofRide = rides
 setOf ofAttend = attends
-
-abbrev pub eraseKind : Bookings → Kind
-eraseKind ofHotel = eraseHotel
-eraseKind ofRide = eraseRide
-eraseKind ofAttend = eraseAttend
 
 abbrev pub eraseNumber : Bookings → ℕ
 eraseNumber ofHotel = 5
@@ -99,44 +94,20 @@ erase-step : (y : State) (p : Bookings) (i a v : ℕ) → Bounds (y .settings) (
     ≡ record { answer = Done 0; state = withSet y p (λ m u w. booked y (setOf p) m u w && not (within i i m && eqb u a && eqb w v)) }
 unfolding kindOf ask test value change
 erase-step y ofHotel i a v b t =
-    performs y (eraseOne ofHotel i a v) eraseHotel refl (
-      refl,
-      (
-        ask-whole y (eraseOne ofHotel i a v) eraseHotel aBelow refl (lt-ltb a (y .settings .hotels) (b .first)),
-        (
-          ask-whole y (eraseOne ofHotel i a v) eraseHotel bBelow refl (lt-ltb v (y .settings .visitors) (b .second)),
-          (fits-by y (eraseOne ofHotel i a v) eraseHotel (le-refl i) (b .slot) refl, tt),
-        ),
-      ),
-    )
-    (ask-slots y (eraseOne ofHotel i a v) eraseHotel (present (setOf ofHotel)) refl (λ m e. only y (setOf ofHotel) i a v m e t), tt)
-    0 _ refl refl
+    performs y (eraseOne ofHotel i a v) eraseHotel refl
+    (always-by y (eraseOne ofHotel i a v) eraseHotel (y .settings .hotels) (y .settings .visitors) refl refl (b .first) refl (b .second)
+    (fits-by y (eraseOne ofHotel i a v) eraseHotel (le-refl i) (b .slot) refl))
+    (ask-slots y (eraseOne ofHotel i a v) eraseHotel (present (setOf ofHotel)) refl (λ m e. only y (setOf ofHotel) i a v m e t), tt) 0 _ refl refl
 erase-step y ofRide i a v b t =
-    performs y (eraseOne ofRide i a v) eraseRide refl (
-      refl,
-      (
-        ask-whole y (eraseOne ofRide i a v) eraseRide aBelow refl (lt-ltb a (y .settings .transports) (b .first)),
-        (
-          ask-whole y (eraseOne ofRide i a v) eraseRide bBelow refl (lt-ltb v (y .settings .visitors) (b .second)),
-          (fits-by y (eraseOne ofRide i a v) eraseRide (le-refl i) (b .slot) refl, tt),
-        ),
-      ),
-    )
-    (ask-slots y (eraseOne ofRide i a v) eraseRide (present (setOf ofRide)) refl (λ m e. only y (setOf ofRide) i a v m e t), tt)
-    0 _ refl refl
+    performs y (eraseOne ofRide i a v) eraseRide refl
+    (always-by y (eraseOne ofRide i a v) eraseRide (y .settings .transports) (y .settings .visitors) refl refl (b .first) refl (b .second)
+    (fits-by y (eraseOne ofRide i a v) eraseRide (le-refl i) (b .slot) refl))
+    (ask-slots y (eraseOne ofRide i a v) eraseRide (present (setOf ofRide)) refl (λ m e. only y (setOf ofRide) i a v m e t), tt) 0 _ refl refl
 erase-step y ofAttend i a v b t =
-    performs y (eraseOne ofAttend i a v) eraseAttend refl (
-      refl,
-      (
-        ask-whole y (eraseOne ofAttend i a v) eraseAttend aBelow refl (lt-ltb a (y .settings .meetings) (b .first)),
-        (
-          ask-whole y (eraseOne ofAttend i a v) eraseAttend bBelow refl (lt-ltb v (y .settings .visitors) (b .second)),
-          (fits-by y (eraseOne ofAttend i a v) eraseAttend (le-refl i) (b .slot) refl, tt),
-        ),
-      ),
-    )
-    (ask-slots y (eraseOne ofAttend i a v) eraseAttend (present (setOf ofAttend)) refl (λ m e. only y (setOf ofAttend) i a v m e t), tt)
-    0 _ refl refl
+    performs y (eraseOne ofAttend i a v) eraseAttend refl
+    (always-by y (eraseOne ofAttend i a v) eraseAttend (y .settings .meetings) (y .settings .visitors) refl refl (b .first) refl (b .second)
+    (fits-by y (eraseOne ofAttend i a v) eraseAttend (le-refl i) (b .slot) refl))
+    (ask-slots y (eraseOne ofAttend i a v) eraseAttend (present (setOf ofAttend)) refl (λ m e. only y (setOf ofAttend) i a v m e t), tt) 0 _ refl refl
 
 -- a set loses first g and then e: together the entries of g′, where an entry is there
 both-gone : (o g e g′ : Bool) → (o ≡ true → g || e ≡ g′) → (o && not g) && not e ≡ o && not g′

@@ -4,7 +4,7 @@
 use Prim.Native.Nat.{ℕ, suc, _+_, _-_, _/_, _≤_, _<_}
 use mathlib.Core.Path.{_≡_, refl, sym, _∙_, ap, ap₂, subst, fun-ext}
 use mathlib.Core.Logic.{_⊎_, inl, inr}
-use mathlib.Core.Bool.{Bool, true, false, not, _&&_, _||_, cond, true≢false}
+use mathlib.Core.Bool.{Bool, true, false, not, _&&_, cond, true≢false}
 use mathlib.Core.Option.{Option, none, some}
 use mathlib.Core.List.{_++_}
 use native.Mathlib.Nat.{le-div-iff-mul-le, le-trans, div-mul-le-self, div-zero, eq-zero-or-pos}
@@ -27,6 +27,7 @@ use Rattle.model.specs.Machine.{value, change, slot, plus, minus, withLe
 use Rattle.model.specs.Laws.{unitOf}
 use Rattle.model.proofs.Search.{never, lowest-same, within-true, true-within}
 use Rattle.model.proofs.Sums.{count-same}
+use Rattle.model.proofs.Entry.{plus-off, minus-off, put-off}
 use Rattle.model.proofs.Done.{Alike, judge-same}
 
 -- the seven sets without the settings
@@ -304,17 +305,6 @@ module _ (S : Settings) (X Y : Sets) (r : Request) (d : ℕ) (g : Agree S X Y d)
   change-same freeRoom = g
 
 -- the change on a date that is not one of the request's
-pub plus-off : (old t : Bool) → t ≡ false → old || t ≡ old
-plus-off true t e = refl
-plus-off false t e = e
-
-pub minus-off : (old t : Bool) → t ≡ false → old && not t ≡ old
-minus-off true t e = ap not e
-minus-off false t e = refl
-
-pub cond-off : {A : Type 0} (t : Bool) (w o : Option A) → t ≡ false → cond t w o ≡ o
-cond-off t w o e = rw e
-
 pub agree-refl : (S : Settings) (X : Sets) (d : ℕ) → Agree S X X d
 agree-refl S X d =
     record { leave = λ v. refl; standing = λ s m e. refl; hotel = λ a b. refl; ride = λ t a b e. refl; attend = λ s a b e. refl; conf = λ s a b e. refl; lunch = λ a b. refl }
@@ -350,14 +340,14 @@ module _ (S : Settings) (X : Sets) (r : Request) (d : ℕ) where
       _ _ (λ s m v e. minus-off (X .attend s m v) (slot r s && eqb m (r .a)) (rw (slot-out endStanding s h e)))
   change-out addAttend h = agree-attend S _ X d (agree-refl S X d) _ _ (λ s m v e. plus-off (X .attend s m v) (slot r s && eqb m (r .a) && eqb v (r .b)) (rw (slot-out addAttend s h e)))
   change-out eraseAttend h = agree-attend S _ X d (agree-refl S X d) _ _ (λ s m v e. minus-off (X .attend s m v) (slot r s && eqb m (r .a) && eqb v (r .b)) (rw (slot-out eraseAttend s h e)))
-  change-out addConf h = agree-conf S _ X d (agree-refl S X d) _ _ (λ s c m e. cond-off (slot r s && eqb c (r .a) && eqb m (r .b)) _ (X .conf s c m) (rw (slot-out addConf s h e)))
-  change-out eraseConf h = agree-conf S _ X d (agree-refl S X d) _ _ (λ s c m e. cond-off (slot r s && eqb m (r .b)) _ (X .conf s c m) (rw (slot-out eraseConf s h e)))
-  change-out addLunch h = agree-lunch S _ X d (agree-refl S X d) _ _ (λ a m. cond-off (slot r d && eqb a (r .a) && eqb m (r .b)) _ (X .lunch d a m) (rw (slot-out addLunch d h refl)))
-  change-out eraseLunch h = agree-lunch S _ X d (agree-refl S X d) _ _ (λ a m. cond-off (slot r d && eqb a (r .a) && eqb m (r .b)) _ (X .lunch d a m) (rw (slot-out eraseLunch d h refl)))
+  change-out addConf h = agree-conf S _ X d (agree-refl S X d) _ _ (λ s c m e. put-off (slot r s && eqb c (r .a) && eqb m (r .b)) _ (X .conf s c m) (rw (slot-out addConf s h e)))
+  change-out eraseConf h = agree-conf S _ X d (agree-refl S X d) _ _ (λ s c m e. put-off (slot r s && eqb m (r .b)) _ (X .conf s c m) (rw (slot-out eraseConf s h e)))
+  change-out addLunch h = agree-lunch S _ X d (agree-refl S X d) _ _ (λ a m. put-off (slot r d && eqb a (r .a) && eqb m (r .b)) _ (X .lunch d a m) (rw (slot-out addLunch d h refl)))
+  change-out eraseLunch h = agree-lunch S _ X d (agree-refl S X d) _ _ (λ a m. put-off (slot r d && eqb a (r .a) && eqb m (r .b)) _ (X .lunch d a m) (rw (slot-out eraseLunch d h refl)))
   change-out eraseConfAndLunch h =
       agree-lunch S _ X d
-      (agree-conf S _ X d (agree-refl S X d) _ _ (λ s c m e. cond-off (slot r s && eqb m (r .b)) _ (X .conf s c m) (rw (slot-out eraseConfAndLunch s h e))))
-      _ _ (λ a m. cond-off (reach S r eraseConfAndLunch d && eqb m (r .b)) _ (X .lunch d a m) (rw h))
+      (agree-conf S _ X d (agree-refl S X d) _ _ (λ s c m e. put-off (slot r s && eqb m (r .b)) _ (X .conf s c m) (rw (slot-out eraseConfAndLunch s h e))))
+      _ _ (λ a m. put-off (reach S r eraseConfAndLunch d && eqb m (r .b)) _ (X .lunch d a m) (rw h))
   change-out whichMeeting h = agree-refl S X d
   change-out countLeave h = agree-refl S X d
   change-out seatsLeft h = agree-refl S X d

@@ -31,7 +31,8 @@ use Rattle.model.proofs.Keeps.{Yes, yes, yes-slot, slots-fit}
 use Rattle.model.proofs.Done.{Accepted, outcome, accepted-step, ask-whole, ask-slots}
 use Rattle.model.proofs.Frame.{settings-change}
 use Rattle.model.proofs.Again.{always-kept, always-yes, further-yes, first-le, accept, fits-by}
-use Rattle.model.proofs.Local.{any-same, plus-off, minus-off, cond-off}
+use Rattle.model.proofs.Local.{any-same}
+use Rattle.model.proofs.Entry.{plus-off, minus-off, put-off, plus-both, minus-both, put-both}
 
 -- the kinds 1 to 15
 abbrev pub ranged : Kind → Bool
@@ -199,25 +200,25 @@ module _ (x : State) (r : Request) (i j : ℕ) where
       (still-present eraseAttend attends o, tt)
   stills-after addConf h =
       let o : (m u v : ℕ) → slot (over r (suc i) j) m ≡ true → isSome (x .conf m u v) ≡ isSome (change x (over r i i) addConf .conf m u v)
-      = λ m u v e. ap isSome (sym (cond-off (slot (over r i i) m && eqb u (r .a) && eqb v (r .b)) _ (x .conf m u v) (rw (past m e)))) in
+      = λ m u v e. ap isSome (sym (put-off (slot (over r i i) m && eqb u (r .a) && eqb v (r .b)) _ (x .conf m u v) (rw (past m e)))) in
       (λ m e. refl, (still-absent addConf confs o, (still-free addConf confs o, tt)))
   stills-after eraseConf h =
       let o : (m u v : ℕ) → slot (over r (suc i) j) m ≡ true → isSome (x .conf m u v) ≡ isSome (change x (over r i i) eraseConf .conf m u v)
-      = λ m u v e. ap isSome (sym (cond-off (slot (over r i i) m && eqb v (r .b)) _ (x .conf m u v) (rw (past m e)))) in
+      = λ m u v e. ap isSome (sym (put-off (slot (over r i i) m && eqb v (r .b)) _ (x .conf m u v) (rw (past m e)))) in
       (λ m e. any-same _ _ (x .settings .rooms) (λ c. o m c (r .b) e), tt)
   stills-after addLunch h =
       let o : (m u v : ℕ) → slot (over r (suc i) j) m ≡ true → isSome (x .lunch m u v) ≡ isSome (change x (over r i i) addLunch .lunch m u v)
-      = λ m u v e. ap isSome (sym (cond-off (slot (over r i i) m && eqb u (r .a) && eqb v (r .b)) _ (x .lunch m u v) (rw (past m e)))) in
+      = λ m u v e. ap isSome (sym (put-off (slot (over r i i) m && eqb u (r .a) && eqb v (r .b)) _ (x .lunch m u v) (rw (past m e)))) in
       (refl, (λ m e. refl, (still-absent addLunch lunches o, (still-elsewhere addLunch lunches o, (still-room, tt)))))
     where
       seats : (m v : ℕ) → slot (over r (suc i) j) m ≡ true → seatsOf (x .lunch m (r .a) v) ≡ seatsOf (change x (over r i i) addLunch .lunch m (r .a) v)
-      seats m v e = ap seatsOf (sym (cond-off (slot (over r i i) m && eqb (r .a) (r .a) && eqb v (r .b)) _ (x .lunch m (r .a) v) (rw (past m e))))
+      seats m v e = ap seatsOf (sym (put-off (slot (over r i i) m && eqb (r .a) (r .a) && eqb v (r .b)) _ (x .lunch m (r .a) v) (rw (past m e))))
 
       still-room : Still x (change x (over r i i) addLunch) r (over r (suc i) j) addLunch roomLeft eachSlot
       still-room m e = ap (λ (f : ℕ → ℕ). leb (sum f (x .settings .meetings) + r .n) (capacity (x .settings) (r .a))) (fun-ext (λ v. seats m v e))
   stills-after eraseLunch h =
       let o : (m u v : ℕ) → slot (over r (suc i) j) m ≡ true → isSome (x .lunch m u v) ≡ isSome (change x (over r i i) eraseLunch .lunch m u v)
-      = λ m u v e. ap isSome (sym (cond-off (slot (over r i i) m && eqb u (r .a) && eqb v (r .b)) _ (x .lunch m u v) (rw (past m e)))) in
+      = λ m u v e. ap isSome (sym (put-off (slot (over r i i) m && eqb u (r .a) && eqb v (r .b)) _ (x .lunch m u v) (rw (past m e)))) in
       (still-present eraseLunch lunches o, tt)
   stills-after eraseConfAndLunch h = absurd (false≢true h)
   stills-after whichMeeting h = absurd (false≢true h)
@@ -232,20 +233,6 @@ and-split s true true false e = rw e
 and-split s true false true e = rw e
 and-split s true false false e = rw e
 and-split s false q t e = rw e
-
-grown : (old s p q : Bool) → s ≡ p || q → (old || p) || q ≡ old || s
-grown true s p q e = refl
-grown false s p q e = sym e
-
-shrunk : (old s p q : Bool) → s ≡ p || q → (old && not p) && not q ≡ old && not s
-shrunk true s true q e = ap not (sym e)
-shrunk true s false q e = ap not (sym e)
-shrunk false s p q e = refl
-
-stored : {A : Type 0} (s p q : Bool) (w o : Option A) → s ≡ p || q → cond q w (cond p w o) ≡ cond s w o
-stored s true true w o e = rw e
-stored s true false w o e = rw e
-stored s false q w o e = rw e
 
 -- the slots whose date is one of from..to
 abbrev on : ℕ → ℕ → (ℕ → ℕ) → ℕ → Bool
@@ -280,22 +267,22 @@ module _ (x : State) (r : Request) (i j : ℕ) (le : i ≤ j) where
   split3 m t u = and-split (slot (over r i j) m && t) (slot (over r i i) m && t) (slot (over r (suc i) j) m && t) u (split2 m t)
 
   grown2 : (old : Bool) (m : ℕ) (t : Bool) → (old || (slot (over r i i) m && t)) || (slot (over r (suc i) j) m && t) ≡ old || (slot (over r i j) m && t)
-  grown2 old m t = grown old (slot (over r i j) m && t) (slot (over r i i) m && t) (slot (over r (suc i) j) m && t) (split2 m t)
+  grown2 old m t = plus-both old (slot (over r i j) m && t) (slot (over r i i) m && t) (slot (over r (suc i) j) m && t) (split2 m t)
 
   shrunk2 : (old : Bool) (m : ℕ) (t : Bool) → (old && not (slot (over r i i) m && t)) && not (slot (over r (suc i) j) m && t) ≡ old && not (slot (over r i j) m && t)
-  shrunk2 old m t = shrunk old (slot (over r i j) m && t) (slot (over r i i) m && t) (slot (over r (suc i) j) m && t) (split2 m t)
+  shrunk2 old m t = minus-both old (slot (over r i j) m && t) (slot (over r i i) m && t) (slot (over r (suc i) j) m && t) (split2 m t)
 
   stored2 : {A : Type 0} (w old : Option A) (m : ℕ) (t : Bool) → cond (slot (over r (suc i) j) m && t) w (cond (slot (over r i i) m && t) w old) ≡ cond (slot (over r i j) m && t) w old
-  stored2 w old m t = stored (slot (over r i j) m && t) (slot (over r i i) m && t) (slot (over r (suc i) j) m && t) w old (split2 m t)
+  stored2 w old m t = put-both (slot (over r i j) m && t) (slot (over r i i) m && t) (slot (over r (suc i) j) m && t) w old (split2 m t)
 
   grown3 : (old : Bool) (m : ℕ) (t u : Bool) → (old || (slot (over r i i) m && t && u)) || (slot (over r (suc i) j) m && t && u) ≡ old || (slot (over r i j) m && t && u)
-  grown3 old m t u = grown old (slot (over r i j) m && t && u) (slot (over r i i) m && t && u) (slot (over r (suc i) j) m && t && u) (split3 m t u)
+  grown3 old m t u = plus-both old (slot (over r i j) m && t && u) (slot (over r i i) m && t && u) (slot (over r (suc i) j) m && t && u) (split3 m t u)
 
   shrunk3 : (old : Bool) (m : ℕ) (t u : Bool) → (old && not (slot (over r i i) m && t && u)) && not (slot (over r (suc i) j) m && t && u) ≡ old && not (slot (over r i j) m && t && u)
-  shrunk3 old m t u = shrunk old (slot (over r i j) m && t && u) (slot (over r i i) m && t && u) (slot (over r (suc i) j) m && t && u) (split3 m t u)
+  shrunk3 old m t u = minus-both old (slot (over r i j) m && t && u) (slot (over r i i) m && t && u) (slot (over r (suc i) j) m && t && u) (split3 m t u)
 
   stored3 : {A : Type 0} (w old : Option A) (m : ℕ) (t u : Bool) → cond (slot (over r (suc i) j) m && t && u) w (cond (slot (over r i i) m && t && u) w old) ≡ cond (slot (over r i j) m && t && u) w old
-  stored3 w old m t u = stored (slot (over r i j) m && t && u) (slot (over r i i) m && t && u) (slot (over r (suc i) j) m && t && u) w old (split3 m t u)
+  stored3 w old m t u = put-both (slot (over r i j) m && t && u) (slot (over r i i) m && t && u) (slot (over r (suc i) j) m && t && u) w old (split3 m t u)
 
   changes : (k : Kind) → ranged k ≡ true → change (change x (over r i i) k) (over r (suc i) j) k ≡ change x (over r i j) k
   unfolding change
