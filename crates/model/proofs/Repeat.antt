@@ -23,7 +23,7 @@ use Rattle.model.proofs.Search.{false-any, and-left, and-true}
 use Rattle.model.proofs.Keeps.{Yes}
 use Rattle.model.proofs.Entry.{plus-on, minus-on, put-on, clear-on, plus-again, minus-again}
 use Rattle.model.proofs.Removal.{removed-bookings}
-use Rattle.model.proofs.Done.{Accepted, accepted-step, refused-keeps, ask-first}
+use Rattle.model.proofs.Done.{Accepted, accepted-step, done-accepted, refused-keeps, ask-first}
 use Rattle.model.proofs.Frame.{settings-change}
 use Rattle.model.proofs.Again.{always-kept, always-yes, further-yes, first-le, first-slot, own, performs, refuse}
 
@@ -125,3 +125,13 @@ repeat-done x r k h =
 -- "A refused request, sent again, gives the same refusal."
 pub repeat-refused : (x : State) (r : Request) (n p : ℕ) → step x r .answer ≡ Refused n p → step (step x r .state) r ≡ step x r
 repeat-refused x r n p e = ap (λ (z : State). step z r) (refused-keeps x r n p e)
+
+-- "Sending a request twice leaves the state that sending it once leaves."
+pub repeat-state : (x : State) (r : Request) → step (step x r .state) r .state ≡ step x r .state
+repeat-state x r = go (step x r .answer) refl
+  where
+    go : (a : Answer) → step x r .answer ≡ a → step (step x r .state) r .state ≡ step x r .state
+    go (Done v) e =
+        let h : (k : Kind) × Accepted x r k = done-accepted x r v e in
+        ap (λ (o : Outcome). o .state) (repeat-done x r (h .0) (h .1))
+    go (Refused n p) e = ap (λ (o : Outcome). o .state) (repeat-refused x r n p e)

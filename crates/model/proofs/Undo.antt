@@ -41,7 +41,7 @@ pub data Undoes : Kind → Kind → ℕ → Type 0 where
   attend : Undoes addAttend eraseAttend 11
   lunch : Undoes addLunch eraseLunch 15
 
--- an entry that is erased unless it is there
+-- to erase an entry that is not there changes nothing
 unless : {A : Type 0} (t : Bool) (o : Option A) → (t ≡ true → isSome o ≡ true → ⊥) → cond t none o ≡ o
 unless true none h = refl
 unless true (some w) h = absurd (h refl refl)
