@@ -15,7 +15,7 @@ use Rattle.model.specs.declared.Answer.the-variants.{Done}
 use Rattle.model.specs.State.{State}
 use Rattle.model.specs.Kinds.{Kind, row, limit, slotsOf, kindOf}
 use Rattle.model.specs.Questions.{Question, test, number, always, further, ask, judge, below}
-use Rattle.model.specs.Questions.{Question.aBelow, Question.bBelow, Question.slotsFit}
+use Rattle.model.specs.Questions.{Question.unusedZero, Question.aBelow, Question.bBelow, Question.slotsFit}
 use Rattle.model.specs.Machine.{slot, step, change, value}
 use Rattle.model.proofs.Search.{true-within, and-true}
 use Rattle.model.proofs.Keeps.{Yes, judged, slots-fit}
@@ -76,6 +76,18 @@ pub fits-by : (x : State) (r : Request) (k : Kind) → r .first ≤ r .last → 
 unfolding test
 fits-by x r k h l o =
     ask-whole x r k slotsFit refl (and-true (and-true (le-leb (r .first) (r .last) h) (lt-ltb (r .last) (slotsOf (x .settings) (row k .unit)) l)) o)
+
+-- the questions of every kind are answered yes, of a kind that uses a and b
+pub always-by : (x : State) (r : Request) (k : Kind) (la lb : ℕ) → ask x r k unusedZero ≡ none → limit (x .settings) (row k .a) ≡ some la → r .a < la
+    → limit (x .settings) (row k .b) ≡ some lb → r .b < lb → ask x r k slotsFit ≡ none → Yes x r k always
+unfolding test
+always-by x r k la lb u ea a eb b f = (
+  u,
+  (
+    ask-whole x r k aBelow refl (ap (λ (o : Option ℕ). below o (r .a)) ea ∙ lt-ltb (r .a) la a),
+    (ask-whole x r k bBelow refl (ap (λ (o : Option ℕ). below o (r .b)) eb ∙ lt-ltb (r .b) lb b), (f, tt)),
+  ),
+)
 
 -- the request's own entry in a slot
 pub own : (r : Request) (i : ℕ) → slot r i ≡ true → slot r i && eqb (r .a) (r .a) && eqb (r .b) (r .b) ≡ true

@@ -3,17 +3,15 @@
 -- Assumes nothing.
 use Prim.Native.Nat.{ℕ, _≤_}
 use mathlib.Core.Path.{_≡_, refl, sym, _∙_, ap, ap₂}
-use mathlib.Core.Bool.{Bool, true, false, not, cond}
+use mathlib.Core.Bool.{true, false}
 use mathlib.Core.Option.{Option, none, some}
 use mathlib.Core.List.{List, [], _∷_, _++_}
 use native.Mathlib.Omega.{arith}
 use Rattle.model.specs.declared.Request.{Request}
-use Rattle.model.specs.declared.Answer.{Answer}
 use Rattle.model.specs.declared.Answer.the-variants.{Done, Refused}
-use Rattle.model.specs.Bounded.{failing}
 use Rattle.model.specs.State.{State}
 use Rattle.model.specs.Kinds.{Kind, kindOf}
-use Rattle.model.specs.Questions.{Question, Scope, whole, eachSlot, scope, test, placed, number, always, further, ask, judge, refusal, Refusal}
+use Rattle.model.specs.Questions.{Question, whole, eachSlot, scope, test, number, always, further, ask, judge, refusal, Refusal}
 use Rattle.model.specs.Machine.{Outcome, value, change, finish, stepKind, step, slot}
 use Rattle.model.proofs.Search.{none-failing, failing-at, true-within}
 use Rattle.model.proofs.Keeps.{Yes, judged}

@@ -4,7 +4,7 @@
 use Prim.Native.Nat.{ℕ, suc, _+_, _-_, _/_, _≤_, _<_}
 use mathlib.Core.Path.{_≡_, refl, sym, _∙_, ap, ap₂, subst, fun-ext}
 use mathlib.Core.Logic.{_⊎_, inl, inr}
-use mathlib.Core.Bool.{Bool, true, false, not, _&&_, _||_, cond, true≢false}
+use mathlib.Core.Bool.{Bool, true, false, not, _&&_, cond, true≢false}
 use mathlib.Core.Option.{Option, none, some}
 use mathlib.Core.List.{_++_}
 use native.Mathlib.Nat.{le-div-iff-mul-le, le-trans, div-mul-le-self, div-zero, eq-zero-or-pos}
@@ -13,7 +13,7 @@ use lib.Dec.{leb, eqb}
 use borrow.Author.Tests.{eqb-true}
 use Rattle.model.specs.declared.Settings.{Settings}
 use Rattle.model.specs.declared.Request.{Request}
-use Rattle.model.specs.Bounded.{isSome, any, within, failing, sum, count, count2, one, found}
+use Rattle.model.specs.Bounded.{isSome, any, within, failing, sum, count, one, found}
 use Rattle.model.specs.Site.{capacity, allSessions, allTimes, dateOfSession, dateOfTime}
 use Rattle.model.specs.State.{State, Lunch, Pairs, hotels, rides, attends, confs, lunches, booked, reserved, seatsOf}
 use Rattle.model.specs.Kinds.{Kind, Unit, dates, sessions, times, row, dateOf}
@@ -26,6 +26,8 @@ use Rattle.model.specs.Questions.{Question.roomLeft, Question.present, Q
 use Rattle.model.specs.Machine.{value, change, slot, plus, minus, withLeave, withStanding, withHotel, withRide, withAttend, withConf, withLunch}
 use Rattle.model.specs.Laws.{unitOf}
 use Rattle.model.proofs.Search.{never, lowest-same, within-true, true-within}
+use Rattle.model.proofs.Sums.{count-same}
+use Rattle.model.proofs.Entry.{plus-off, minus-off, put-off}
 use Rattle.model.proofs.Done.{Alike, judge-same}
 
 -- the seven sets without the settings
@@ -82,15 +84,12 @@ and-same : (t a b : Bool) → (t ≡ true → a ≡ b) → t && a ≡ t && b
 and-same true a b h = h refl
 and-same false a b h = refl
 
-any-same : (p q : ℕ → Bool) (n : ℕ) → ((j : ℕ) → p j ≡ q j) → any p n ≡ any q n
+pub any-same : (p q : ℕ → Bool) (n : ℕ) → ((j : ℕ) → p j ≡ q j) → any p n ≡ any q n
 any-same p q n h = ap isSome (lowest-same p q 0 n (λ j _ _. h j))
 
 failing-same : (p q : ℕ → Bool) (from to : ℕ) → ((j : ℕ) → within from to j ≡ true → p j ≡ q j) → failing p from to ≡ failing q from to
 failing-same p q from to h =
     lowest-same (λ j. not (p j)) (λ j. not (q j)) from (suc to - from) (λ j l g. ap not (h j (true-within from to j l (omega (arith, l, g)))))
-
-count2-same : (p q : ℕ → ℕ → Bool) (n m : ℕ) → ((i j : ℕ) → p i j ≡ q i j) → count2 p n m ≡ count2 q n m
-count2-same p q n m h = ap (λ (f : ℕ → ℕ → Bool). count2 f n m) (fun-ext (λ i. fun-ext (λ j. h i j)))
 
 module _ (S : Settings) (X Y : Sets) where
   -- the parts of a date
@@ -119,12 +118,9 @@ module _ (S : Settings) (X Y : Sets) where
   bookings-same v from to g =
       omega (
         arith,
-        count2-same (λ d a. within from to d && X .hotel d a v) (λ d a. within from to d && Y .hotel d a v) (S .dates) (S .hotels)
-            (λ d a. and-same (within from to d) _ _ (λ e. g d e .hotel a v)),
-        count2-same (λ t a. within from to (dateOfTime S t) && X .ride t a v) (λ t a. within from to (dateOfTime S t) && Y .ride t a v) (allTimes S) (S .transports)
-            (λ t a. and-same (within from to (dateOfTime S t)) _ _ (λ e. g (dateOfTime S t) e .ride t a v refl)),
-        count2-same (λ s a. within from to (dateOfSession S s) && X .attend s a v) (λ s a. within from to (dateOfSession S s) && Y .attend s a v) (allSessions S) (S .meetings)
-            (λ s a. and-same (within from to (dateOfSession S s)) _ _ (λ e. g (dateOfSession S s) e .attend s a v refl)),
+        count-same (X .hotel) v (S .dates) (S .hotels) (Y .hotel) (within from to) (λ d a e. g d e .hotel a v),
+        count-same (X .ride) v (allTimes S) (S .transports) (Y .ride) (λ t. within from to (dateOfTime S t)) (λ t a e. g (dateOfTime S t) e .ride t a v refl),
+        count-same (X .attend) v (allSessions S) (S .meetings) (Y .attend) (λ s. within from to (dateOfSession S s)) (λ s a e. g (dateOfSession S s) e .attend s a v refl),
       )
 
   booked-same : (p : Pairs) (i a b : ℕ) → Agree S X Y (dateOf S (unitOf p) i) → booked (state S X) p i a b ≡ booked (state S Y) p i a b
@@ -276,37 +272,39 @@ module _ (S : Settings) (X Y : Sets) (r : Request) (d : ℕ) (g : Agree S X Y d)
   unfolding change
   change-same addLeave = agree-leave S _ _ d g _ _ (λ v. ap (λ (o : Bool). plus o (slot r d && eqb v (r .b))) (g .leave v))
   change-same endLeave = agree-leave S _ _ d g _ _ (λ v. ap (λ (o : Bool). minus o (slot r d && eqb v (r .b))) (g .leave v))
-  change-same removeVisitor = agree-attend S _ _ d (agree-ride S _ _ d (agree-hotel S _ _ d (agree-leave S _ _ d g _ _ (λ v. ap (λ (o : Bool). minus o (slot r d && eqb v (r .b))) (g .leave v))) _ _ (λ a v. ap (λ (o : Bool). minus o (slot r d && eqb v (r .b))) (g .hotel a v))) _ _ (λ t a v e. ap (λ (o : Bool). minus o (slot r (dateOfTime S t) && eqb v (r .b))) (g .ride t a v e))) _ _ (λ s a v e. ap (λ (o : Bool). minus o (slot r (dateOfSession S s) && eqb v (r .b))) (g .attend s a v e))
+  change-same removeVisitor =
+      record {
+        leave = λ v. ap (λ (o : Bool). minus o (slot r d && eqb v (r .b))) (g .leave v);
+        standing = g .standing;
+        hotel = λ a v. ap (λ (o : Bool). minus o (slot r d && eqb v (r .b))) (g .hotel a v);
+        ride = λ t a v e. ap (λ (o : Bool). minus o (slot r (dateOfTime S t) && eqb v (r .b))) (g .ride t a v e);
+        attend = λ s a v e. ap (λ (o : Bool). minus o (slot r (dateOfSession S s) && eqb v (r .b))) (g .attend s a v e);
+        conf = g .conf;
+        lunch = g .lunch;
+      }
   change-same addHotel = agree-hotel S _ _ d g _ _ (λ a v. ap (λ (o : Bool). plus o (slot r d && eqb a (r .a) && eqb v (r .b))) (g .hotel a v))
   change-same eraseHotel = agree-hotel S _ _ d g _ _ (λ a v. ap (λ (o : Bool). minus o (slot r d && eqb a (r .a) && eqb v (r .b))) (g .hotel a v))
   change-same addRide = agree-ride S _ _ d g _ _ (λ t a v e. ap (λ (o : Bool). plus o (slot r t && eqb a (r .a) && eqb v (r .b))) (g .ride t a v e))
   change-same eraseRide = agree-ride S _ _ d g _ _ (λ t a v e. ap (λ (o : Bool). minus o (slot r t && eqb a (r .a) && eqb v (r .b))) (g .ride t a v e))
   change-same addStanding = agree-standing S _ _ d g _ _ (λ s m e. ap (λ (o : Bool). plus o (slot r s && eqb m (r .a))) (g .standing s m e))
-  change-same endStanding = agree-attend S _ _ d (agree-standing S _ _ d g _ _ (λ s m e. ap (λ (o : Bool). minus o (slot r s && eqb m (r .a))) (g .standing s m e))) _ _ (λ s m v e. ap (λ (o : Bool). minus o (slot r s && eqb m (r .a))) (g .attend s m v e))
+  change-same endStanding =
+      agree-attend S _ _ d (agree-standing S _ _ d g _ _ (λ s m e. ap (λ (o : Bool). minus o (slot r s && eqb m (r .a))) (g .standing s m e)))
+      _ _ (λ s m v e. ap (λ (o : Bool). minus o (slot r s && eqb m (r .a))) (g .attend s m v e))
   change-same addAttend = agree-attend S _ _ d g _ _ (λ s m v e. ap (λ (o : Bool). plus o (slot r s && eqb m (r .a) && eqb v (r .b))) (g .attend s m v e))
   change-same eraseAttend = agree-attend S _ _ d g _ _ (λ s m v e. ap (λ (o : Bool). minus o (slot r s && eqb m (r .a) && eqb v (r .b))) (g .attend s m v e))
   change-same addConf = agree-conf S _ _ d g _ _ (λ s c m e. ap (λ (o : Option ℕ). cond (slot r s && eqb c (r .a) && eqb m (r .b)) (some (r .info)) o) (g .conf s c m e))
   change-same eraseConf = agree-conf S _ _ d g _ _ (λ s c m e. ap (λ (o : Option ℕ). cond (slot r s && eqb m (r .b)) none o) (g .conf s c m e))
   change-same addLunch = agree-lunch S _ _ d g _ _ (λ a m. ap (λ (o : Option Lunch). cond (slot r d && eqb a (r .a) && eqb m (r .b)) (some (record { seats = r .n; info = r .info })) o) (g .lunch a m))
   change-same eraseLunch = agree-lunch S _ _ d g _ _ (λ a m. ap (λ (o : Option Lunch). cond (slot r d && eqb a (r .a) && eqb m (r .b)) none o) (g .lunch a m))
-  change-same eraseConfAndLunch = agree-lunch S _ _ d (agree-conf S _ _ d g _ _ (λ s c m e. ap (λ (o : Option ℕ). cond (slot r s && eqb m (r .b)) none o) (g .conf s c m e))) _ _ (λ a m. ap (λ (o : Option Lunch). cond (reach S r eraseConfAndLunch d && eqb m (r .b)) none o) (g .lunch a m))
+  change-same eraseConfAndLunch =
+      agree-lunch S _ _ d (agree-conf S _ _ d g _ _ (λ s c m e. ap (λ (o : Option ℕ). cond (slot r s && eqb m (r .b)) none o) (g .conf s c m e)))
+      _ _ (λ a m. ap (λ (o : Option Lunch). cond (reach S r eraseConfAndLunch d && eqb m (r .b)) none o) (g .lunch a m))
   change-same whichMeeting = g
   change-same countLeave = g
   change-same seatsLeft = g
   change-same freeRoom = g
 
 -- the change on a date that is not one of the request's
-plus-off : (old t : Bool) → t ≡ false → old || t ≡ old
-plus-off true t e = refl
-plus-off false t e = e
-
-minus-off : (old t : Bool) → t ≡ false → old && not t ≡ old
-minus-off true t e = ap not e
-minus-off false t e = refl
-
-cond-off : {A : Type 0} (t : Bool) (w o : Option A) → t ≡ false → cond t w o ≡ o
-cond-off t w o e = rw e
-
 pub agree-refl : (S : Settings) (X : Sets) (d : ℕ) → Agree S X X d
 agree-refl S X d =
     record { leave = λ v. refl; standing = λ s m e. refl; hotel = λ a b. refl; ride = λ t a b e. refl; attend = λ s a b e. refl; conf = λ s a b e. refl; lunch = λ a b. refl }
@@ -320,20 +318,36 @@ module _ (S : Settings) (X : Sets) (r : Request) (d : ℕ) where
   unfolding change
   change-out addLeave h = agree-leave S _ X d (agree-refl S X d) _ _ (λ v. plus-off (X .leave d v) (slot r d && eqb v (r .b)) (rw (slot-out addLeave d h refl)))
   change-out endLeave h = agree-leave S _ X d (agree-refl S X d) _ _ (λ v. minus-off (X .leave d v) (slot r d && eqb v (r .b)) (rw (slot-out endLeave d h refl)))
-  change-out removeVisitor h = agree-attend S _ X d (agree-ride S _ X d (agree-hotel S _ X d (agree-leave S _ X d (agree-refl S X d) _ _ (λ v. minus-off (X .leave d v) (slot r d && eqb v (r .b)) (rw (slot-out removeVisitor d h refl)))) _ _ (λ a v. minus-off (X .hotel d a v) (slot r d && eqb v (r .b)) (rw (slot-out removeVisitor d h refl)))) _ _ (λ t a v e. minus-off (X .ride t a v) (slot r (dateOfTime S t) && eqb v (r .b)) (rw (slot-out removeVisitor (dateOfTime S t) h e)))) _ _ (λ s a v e. minus-off (X .attend s a v) (slot r (dateOfSession S s) && eqb v (r .b)) (rw (slot-out removeVisitor (dateOfSession S s) h e)))
+  change-out removeVisitor h =
+      let out : slot r d ≡ false = slot-out removeVisitor d h refl in
+      record {
+        leave = λ v. minus-off (X .leave d v) (slot r d && eqb v (r .b)) (rw out);
+        standing = λ s m e. refl;
+        hotel = λ a v. minus-off (X .hotel d a v) (slot r d && eqb v (r .b)) (rw out);
+        ride = λ t a v e. minus-off (X .ride t a v) (slot r (dateOfTime S t) && eqb v (r .b)) (rw (slot-out removeVisitor (dateOfTime S t) h e));
+        attend = λ s a v e. minus-off (X .attend s a v) (slot r (dateOfSession S s) && eqb v (r .b)) (rw (slot-out removeVisitor (dateOfSession S s) h e));
+        conf = λ s a b e. refl;
+        lunch = λ a b. refl;
+      }
   change-out addHotel h = agree-hotel S _ X d (agree-refl S X d) _ _ (λ a v. plus-off (X .hotel d a v) (slot r d && eqb a (r .a) && eqb v (r .b)) (rw (slot-out addHotel d h refl)))
   change-out eraseHotel h = agree-hotel S _ X d (agree-refl S X d) _ _ (λ a v. minus-off (X .hotel d a v) (slot r d && eqb a (r .a) && eqb v (r .b)) (rw (slot-out eraseHotel d h refl)))
   change-out addRide h = agree-ride S _ X d (agree-refl S X d) _ _ (λ t a v e. plus-off (X .ride t a v) (slot r t && eqb a (r .a) && eqb v (r .b)) (rw (slot-out addRide t h e)))
   change-out eraseRide h = agree-ride S _ X d (agree-refl S X d) _ _ (λ t a v e. minus-off (X .ride t a v) (slot r t && eqb a (r .a) && eqb v (r .b)) (rw (slot-out eraseRide t h e)))
   change-out addStanding h = agree-standing S _ X d (agree-refl S X d) _ _ (λ s m e. plus-off (X .standing s m) (slot r s && eqb m (r .a)) (rw (slot-out addStanding s h e)))
-  change-out endStanding h = agree-attend S _ X d (agree-standing S _ X d (agree-refl S X d) _ _ (λ s m e. minus-off (X .standing s m) (slot r s && eqb m (r .a)) (rw (slot-out endStanding s h e)))) _ _ (λ s m v e. minus-off (X .attend s m v) (slot r s && eqb m (r .a)) (rw (slot-out endStanding s h e)))
+  change-out endStanding h =
+      agree-attend S _ X d
+      (agree-standing S _ X d (agree-refl S X d) _ _ (λ s m e. minus-off (X .standing s m) (slot r s && eqb m (r .a)) (rw (slot-out endStanding s h e))))
+      _ _ (λ s m v e. minus-off (X .attend s m v) (slot r s && eqb m (r .a)) (rw (slot-out endStanding s h e)))
   change-out addAttend h = agree-attend S _ X d (agree-refl S X d) _ _ (λ s m v e. plus-off (X .attend s m v) (slot r s && eqb m (r .a) && eqb v (r .b)) (rw (slot-out addAttend s h e)))
   change-out eraseAttend h = agree-attend S _ X d (agree-refl S X d) _ _ (λ s m v e. minus-off (X .attend s m v) (slot r s && eqb m (r .a) && eqb v (r .b)) (rw (slot-out eraseAttend s h e)))
-  change-out addConf h = agree-conf S _ X d (agree-refl S X d) _ _ (λ s c m e. cond-off (slot r s && eqb c (r .a) && eqb m (r .b)) _ (X .conf s c m) (rw (slot-out addConf s h e)))
-  change-out eraseConf h = agree-conf S _ X d (agree-refl S X d) _ _ (λ s c m e. cond-off (slot r s && eqb m (r .b)) _ (X .conf s c m) (rw (slot-out eraseConf s h e)))
-  change-out addLunch h = agree-lunch S _ X d (agree-refl S X d) _ _ (λ a m. cond-off (slot r d && eqb a (r .a) && eqb m (r .b)) _ (X .lunch d a m) (rw (slot-out addLunch d h refl)))
-  change-out eraseLunch h = agree-lunch S _ X d (agree-refl S X d) _ _ (λ a m. cond-off (slot r d && eqb a (r .a) && eqb m (r .b)) _ (X .lunch d a m) (rw (slot-out eraseLunch d h refl)))
-  change-out eraseConfAndLunch h = agree-lunch S _ X d (agree-conf S _ X d (agree-refl S X d) _ _ (λ s c m e. cond-off (slot r s && eqb m (r .b)) _ (X .conf s c m) (rw (slot-out eraseConfAndLunch s h e)))) _ _ (λ a m. cond-off (reach S r eraseConfAndLunch d && eqb m (r .b)) _ (X .lunch d a m) (rw h))
+  change-out addConf h = agree-conf S _ X d (agree-refl S X d) _ _ (λ s c m e. put-off (slot r s && eqb c (r .a) && eqb m (r .b)) _ (X .conf s c m) (rw (slot-out addConf s h e)))
+  change-out eraseConf h = agree-conf S _ X d (agree-refl S X d) _ _ (λ s c m e. put-off (slot r s && eqb m (r .b)) _ (X .conf s c m) (rw (slot-out eraseConf s h e)))
+  change-out addLunch h = agree-lunch S _ X d (agree-refl S X d) _ _ (λ a m. put-off (slot r d && eqb a (r .a) && eqb m (r .b)) _ (X .lunch d a m) (rw (slot-out addLunch d h refl)))
+  change-out eraseLunch h = agree-lunch S _ X d (agree-refl S X d) _ _ (λ a m. put-off (slot r d && eqb a (r .a) && eqb m (r .b)) _ (X .lunch d a m) (rw (slot-out eraseLunch d h refl)))
+  change-out eraseConfAndLunch h =
+      agree-lunch S _ X d
+      (agree-conf S _ X d (agree-refl S X d) _ _ (λ s c m e. put-off (slot r s && eqb m (r .b)) _ (X .conf s c m) (rw (slot-out eraseConfAndLunch s h e))))
+      _ _ (λ a m. put-off (reach S r eraseConfAndLunch d && eqb m (r .b)) _ (X .lunch d a m) (rw h))
   change-out whichMeeting h = agree-refl S X d
   change-out countLeave h = agree-refl S X d
   change-out seatsLeft h = agree-refl S X d

@@ -1,16 +1,14 @@
 -- Sending a request again at once: what it answers, for every kind.
 -- Assumes nothing.
 use Prim.Native.Nat.{ℕ}
-use mathlib.Core.Path.{_≡_, refl, _∙_, ap}
-use mathlib.Core.Bool.{Bool, true, false, not, _&&_, _||_, cond}
-use mathlib.Core.Option.{Option, none, some}
+use mathlib.Core.Path.{_≡_, refl, ap}
+use mathlib.Core.Bool.{true, false, not, _&&_}
 use mathlib.Core.List.{List, [], _∷_, _++_}
 use lib.Dec.{eqb}
 use borrow.Author.Tests.{eq-eqb}
 use Rattle.model.specs.declared.Request.{Request}
 use Rattle.model.specs.declared.Answer.{Answer}
 use Rattle.model.specs.declared.Answer.the-variants.{Done, Refused}
-use Rattle.model.specs.Bounded.{isSome}
 use Rattle.model.specs.Site.{dateOfSession, dateOfTime}
 use Rattle.model.specs.State.{State, hotels, rides, attends, confs, lunches}
 use Rattle.model.specs.Kinds.{Kind}
@@ -23,8 +21,9 @@ use Rattle.model.specs.Questions.{Question.present, Question.hasConf, Qu
 use Rattle.model.specs.Machine.{Outcome, value, change, slot, step, withLeave, withStanding, withHotel, withRide, withAttend}
 use Rattle.model.proofs.Search.{false-any, and-left, and-true}
 use Rattle.model.proofs.Keeps.{Yes}
+use Rattle.model.proofs.Entry.{plus-on, minus-on, put-on, clear-on, plus-again, minus-again}
 use Rattle.model.proofs.Removal.{removed-bookings}
-use Rattle.model.proofs.Done.{Accepted, accepted-step, refused-keeps, ask-first}
+use Rattle.model.proofs.Done.{Accepted, accepted-step, done-accepted, refused-keeps, ask-first}
 use Rattle.model.proofs.Frame.{settings-change}
 use Rattle.model.proofs.Again.{always-kept, always-yes, further-yes, first-le, first-slot, own, performs, refuse}
 
@@ -50,32 +49,6 @@ answerAgain x r whichMeeting = Done (value x r whichMeeting)
 answerAgain x r countLeave = Done (value x r countLeave)
 answerAgain x r seatsLeft = Done (value x r seatsLeft)
 answerAgain x r freeRoom = Done (value x r freeRoom)
-
--- a set that already has what is added; that already lacks what is taken out
-plus-again : (old t : Bool) → (old || t) || t ≡ old || t
-plus-again true t = refl
-plus-again false true = refl
-plus-again false false = refl
-
-minus-again : (old t : Bool) → (old && not t) && not t ≡ old && not t
-minus-again true true = refl
-minus-again true false = refl
-minus-again false t = refl
-
--- an entry that has been added, and one that has been taken out
-plus-in : (old t : Bool) → t ≡ true → not (old || t) ≡ false
-plus-in true t e = refl
-plus-in false t e = ap not e
-
-minus-out : (old t : Bool) → t ≡ true → old && not t ≡ false
-minus-out true t e = ap not e
-minus-out false t e = refl
-
-some-in : {A : Type 0} (t : Bool) (w : A) (o : Option A) → t ≡ true → not (isSome (cond t (some w) o)) ≡ false
-some-in t w o e = rw e
-
-none-out : {A : Type 0} (t : Bool) (o : Option A) → t ≡ true → isSome (cond t none o) ≡ false
-none-out t o e = rw e
 
 module _ (x : State) (r : Request) where
   -- the state after an accepted request of kind k, and the request again
@@ -116,26 +89,26 @@ module _ (x : State) (r : Request) where
       (λ d a v. minus-again (x .hotel d a v) (slot r d && eqb v (r .b)) i))
       (λ t a v. minus-again (x .ride t a v) (slot r (dateOfTime (x .settings) t) && eqb v (r .b)) i))
       (λ s m v. minus-again (x .attend s m v) (slot r (dateOfSession (x .settings) s) && eqb v (r .b)) i))
-  repeat-accepted addHotel h = bars addHotel h (onLeave ∷ []) (absent hotels) _ refl (further-yes x r addHotel h .0, tt) refl (plus-in (x .hotel (r .first) (r .a) (r .b)) _ (mine addHotel h))
-  repeat-accepted eraseHotel h = bars eraseHotel h [] (present hotels) _ refl tt refl (minus-out (x .hotel (r .first) (r .a) (r .b)) _ (mine eraseHotel h))
-  repeat-accepted addRide h = bars addRide h (onLeave ∷ []) (absent rides) _ refl (further-yes x r addRide h .0, tt) refl (plus-in (x .ride (r .first) (r .a) (r .b)) _ (mine addRide h))
-  repeat-accepted eraseRide h = bars eraseRide h [] (present rides) _ refl tt refl (minus-out (x .ride (r .first) (r .a) (r .b)) _ (mine eraseRide h))
+  repeat-accepted addHotel h = bars addHotel h (onLeave ∷ []) (absent hotels) _ refl (further-yes x r addHotel h .0, tt) refl (ap not (plus-on (x .hotel (r .first) (r .a) (r .b)) _ (mine addHotel h)))
+  repeat-accepted eraseHotel h = bars eraseHotel h [] (present hotels) _ refl tt refl (minus-on (x .hotel (r .first) (r .a) (r .b)) _ (mine eraseHotel h))
+  repeat-accepted addRide h = bars addRide h (onLeave ∷ []) (absent rides) _ refl (further-yes x r addRide h .0, tt) refl (ap not (plus-on (x .ride (r .first) (r .a) (r .b)) _ (mine addRide h)))
+  repeat-accepted eraseRide h = bars eraseRide h [] (present rides) _ refl tt refl (minus-on (x .ride (r .first) (r .a) (r .b)) _ (mine eraseRide h))
   repeat-accepted addStanding h = passes addStanding h 0 tt refl (λ i. withStanding x (λ s m. plus-again (x .standing s m) (slot r s && eqb m (r .a)) i))
   repeat-accepted endStanding h =
       bars endStanding h (notHeld ∷ []) attended _ refl (further-yes x r endStanding h .0, tt) refl
-      (false-any _ (x .settings .visitors) (λ v _. minus-out (x .attend (r .first) (r .a) v) _ (mineA endStanding h)))
+      (false-any _ (x .settings .visitors) (λ v _. minus-on (x .attend (r .first) (r .a) v) _ (mineA endStanding h)))
   repeat-accepted addAttend h =
       bars addAttend h (onLeave ∷ stands inA ∷ []) (absent attends) _ refl (further-yes x r addAttend h .0, (further-yes x r addAttend h .1 .0, tt)) refl
-      (plus-in (x .attend (r .first) (r .a) (r .b)) _ (mine addAttend h))
-  repeat-accepted eraseAttend h = bars eraseAttend h [] (present attends) _ refl tt refl (minus-out (x .attend (r .first) (r .a) (r .b)) _ (mine eraseAttend h))
-  repeat-accepted addConf h = bars addConf h (stands inB ∷ []) (absent confs) _ refl (further-yes x r addConf h .0, tt) refl (some-in _ (r .info) (x .conf (r .first) (r .a) (r .b)) (mine addConf h))
-  repeat-accepted eraseConf h = bars eraseConf h [] hasConf _ refl tt refl (false-any _ (x .settings .rooms) (λ c _. none-out _ (x .conf (r .first) c (r .b)) (mineB eraseConf h)))
+      (ap not (plus-on (x .attend (r .first) (r .a) (r .b)) _ (mine addAttend h)))
+  repeat-accepted eraseAttend h = bars eraseAttend h [] (present attends) _ refl tt refl (minus-on (x .attend (r .first) (r .a) (r .b)) _ (mine eraseAttend h))
+  repeat-accepted addConf h = bars addConf h (stands inB ∷ []) (absent confs) _ refl (further-yes x r addConf h .0, tt) refl (ap not (put-on _ (r .info) (x .conf (r .first) (r .a) (r .b)) (mine addConf h)))
+  repeat-accepted eraseConf h = bars eraseConf h [] hasConf _ refl tt refl (false-any _ (x .settings .rooms) (λ c _. clear-on _ (x .conf (r .first) c (r .b)) (mineB eraseConf h)))
   repeat-accepted addLunch h =
       bars addLunch h (seatsFit ∷ standsThatDate ∷ []) (absent lunches) _ refl (further-yes x r addLunch h .0, (further-yes x r addLunch h .1 .0, tt)) refl
-      (some-in _ (record { seats = r .n; info = r .info }) (x .lunch (r .first) (r .a) (r .b)) (mine addLunch h))
-  repeat-accepted eraseLunch h = bars eraseLunch h [] (present lunches) _ refl tt refl (none-out _ (x .lunch (r .first) (r .a) (r .b)) (mine eraseLunch h))
+      (ap not (put-on _ (record { seats = r .n; info = r .info }) (x .lunch (r .first) (r .a) (r .b)) (mine addLunch h)))
+  repeat-accepted eraseLunch h = bars eraseLunch h [] (present lunches) _ refl tt refl (clear-on _ (x .lunch (r .first) (r .a) (r .b)) (mine eraseLunch h))
   repeat-accepted eraseConfAndLunch h =
-      bars eraseConfAndLunch h [] hasConf _ refl tt refl (false-any _ (x .settings .rooms) (λ c _. none-out _ (x .conf (r .first) c (r .b)) (mineB eraseConfAndLunch h)))
+      bars eraseConfAndLunch h [] hasConf _ refl tt refl (false-any _ (x .settings .rooms) (λ c _. clear-on _ (x .conf (r .first) c (r .b)) (mineB eraseConfAndLunch h)))
   repeat-accepted whichMeeting h = passes whichMeeting h _ (further-yes x r whichMeeting h) refl refl
   repeat-accepted countLeave h = passes countLeave h _ tt refl refl
   repeat-accepted seatsLeft h = passes seatsLeft h _ tt refl refl
@@ -152,3 +125,13 @@ repeat-done x r k h =
 -- "A refused request, sent again, gives the same refusal."
 pub repeat-refused : (x : State) (r : Request) (n p : ℕ) → step x r .answer ≡ Refused n p → step (step x r .state) r ≡ step x r
 repeat-refused x r n p e = ap (λ (z : State). step z r) (refused-keeps x r n p e)
+
+-- "Sending a request twice leaves the state that sending it once leaves."
+pub repeat-state : (x : State) (r : Request) → step (step x r .state) r .state ≡ step x r .state
+repeat-state x r = go (step x r .answer) refl
+  where
+    go : (a : Answer) → step x r .answer ≡ a → step (step x r .state) r .state ≡ step x r .state
+    go (Done v) e =
+        let h : (k : Kind) × Accepted x r k = done-accepted x r v e in
+        ap (λ (o : Outcome). o .state) (repeat-done x r (h .0) (h .1))
+    go (Refused n p) e = ap (λ (o : Outcome). o .state) (repeat-refused x r n p e)
