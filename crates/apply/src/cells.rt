@@ -17,6 +17,12 @@ pub struct Content {
     pub third: u32,
 }
 
+pub const EMPTY: Content = Content {
+    entry: 0,
+    second: 0,
+    third: 0,
+};
+
 // The words of a cell at place n.
 fn store(book: &mut [u32], n: usize, width: u32, c: Content)
     requires { ⌜ n + width ≤ length (now book) ⌝ }
@@ -64,16 +70,7 @@ fn clear(book: &mut [u32], g: Grid, slot: u32, item: u32, w: u32)
     if book[n] != w {
         return;
     }
-    store(
-        book,
-        n,
-        width,
-        Content {
-            entry: 0,
-            second: 0,
-            third: 0,
-        },
-    );
+    store(book, n, width, EMPTY);
 }
 
 // The cells of a slot, of any number of words.

@@ -1,6 +1,7 @@
 // What the kinds write, in the slots first..last, both included.
 use crate::bits::mark_all;
 use crate::cells::Content;
+use crate::cells::EMPTY;
 use crate::cells::fill;
 use crate::cells::sweep;
 use book::grid::Grid;
@@ -37,18 +38,12 @@ pub fn add(
     requires { ⌜ who < 1000 ⌝ }
     ensures { λ _. ⌜ now (book .exit) ≡ filled g item (full who second third) first (last + 1) (now (book .entry)) ⌝ }
 {
-    fill(
-        book,
-        g,
-        item,
-        Content {
-            entry: who + 1,
-            second,
-            third,
-        },
-        first,
-        last + 1,
-    );
+    let c = Content {
+        entry: who + 1,
+        second,
+        third,
+    };
+    fill(book, g, item, c, first, last + 1);
 }
 
 // The cells of an item emptied.
@@ -57,18 +52,7 @@ pub fn take(book: &mut [u32], g: Grid, item: u32, first: u32, last: u32)
     requires { ⌜ item < g .items ⌝ }
     ensures { λ _. ⌜ now (book .exit) ≡ filled g item empty first (last + 1) (now (book .entry)) ⌝ }
 {
-    fill(
-        book,
-        g,
-        item,
-        Content {
-            entry: 0,
-            second: 0,
-            third: 0,
-        },
-        first,
-        last + 1,
-    );
+    fill(book, g, item, EMPTY, first, last + 1);
 }
 
 // One entry erased from every cell that holds it.
@@ -147,16 +131,5 @@ pub fn remove_visitor(book: &mut [u32], s: Settings, g: Grids, v: u32, first: u3
     let times = slots_on(s, Slot::Times, g.ride.slots, first, last);
     sweep(book, g.ride, v + 1, times.from, times.to);
     let sessions = slots_on(s, Slot::Sessions, g.attend.slots, first, last);
-    fill(
-        book,
-        g.attend,
-        v,
-        Content {
-            entry: 0,
-            second: 0,
-            third: 0,
-        },
-        sessions.from,
-        sessions.to,
-    );
+    fill(book, g.attend, v, EMPTY, sessions.from, sessions.to);
 }
