@@ -92,12 +92,14 @@ module _ (S : Settings) (r : Request) where
     unfolding step onDate
     answer-same = kind (kindOf (r .kind)) refl g
       where
-        done : (k : Kind) (o : Option Refusal) → kindOf (r .kind) ≡ some k → judge (state S X) r k (always ++ further k) ≡ o → ((d : ℕ) → reach S r k d ≡ true → Agree S X Y d)
+        done : (k : Kind) (o : Option Refusal) → kindOf (r .kind) ≡ some k → judge (state S X) r k (always ++ further k) ≡ o
+            → ((d : ℕ) → reach S r k d ≡ true → Agree S X Y d)
             → finish (state S X) r k o .answer ≡ finish (state S Y) r k o .answer
         done k none q e h = ap Done (value-same S X Y r k (first-slot (state S X) r k (record { kind = q; judged = e })) h)
         done k (some f) q e h = refl
 
-        kind : (o : Option Kind) → kindOf (r .kind) ≡ o → ((d : ℕ) → datesOf S r o d ≡ true → Agree S X Y d) → stepKind (state S X) r o .answer ≡ stepKind (state S Y) r o .answer
+        kind : (o : Option Kind) → kindOf (r .kind) ≡ o → ((d : ℕ) → datesOf S r o d ≡ true → Agree S X Y d)
+            → stepKind (state S X) r o .answer ≡ stepKind (state S Y) r o .answer
         kind none q h = refl
         kind (some k) q h =
             done k (judge (state S X) r k (always ++ further k)) q refl h
@@ -112,10 +114,12 @@ module _ (S : Settings) (r : Request) where
         done k none = change-same S X Y r d a k
         done k (some f) = a
 
-        kind : (o : Option Kind) → ((d : ℕ) → datesOf S r o d ≡ true → Agree S X Y d) → Agree S (setsOf (stepKind (state S X) r o .state)) (setsOf (stepKind (state S Y) r o .state)) d
+        kind : (o : Option Kind) → ((d : ℕ) → datesOf S r o d ≡ true → Agree S X Y d)
+            → Agree S (setsOf (stepKind (state S X) r o .state)) (setsOf (stepKind (state S Y) r o .state)) d
         kind none h = a
         kind (some k) h =
-            subst (λ (o : Option Refusal). Agree S (setsOf (finish (state S X) r k (judge (state S X) r k (always ++ further k)) .state)) (setsOf (finish (state S Y) r k o .state)) d)
+            subst (λ (o : Option Refusal). Agree S (setsOf (finish (state S X) r k (judge (state S X) r k (always ++ further k)) .state))
+            (setsOf (finish (state S Y) r k o .state)) d)
             (judged-same S X Y r k h) (done k (judge (state S X) r k (always ++ further k)))
 
 -- the two requests share no date
@@ -198,7 +202,9 @@ exchange x [] ds r r′ apart =
       two = step x r′ .answer;
       later = run (step (step x r .state) r′ .state) ds .answers;
       first = ap (λ (a : Answer). step x r .answer ∷ a ∷ run (step (step x r .state) r′ .state) ds .answers) (exchange-answer x r r′ apart);
-      second = ap (λ (a : Answer). step x r′ .answer ∷ a ∷ run (step (step x r′ .state) r .state) ds .answers) (exchange-answer x r′ r (apart-sym (x .settings) r r′ apart))
+      second =
+          ap (λ (a : Answer). step x r′ .answer ∷ a ∷ run (step (step x r′ .state) r .state) ds .answers)
+          (exchange-answer x r′ r (apart-sym (x .settings) r r′ apart))
           ∙ ap (λ (z : State). step x r′ .answer ∷ step x r .answer ∷ run z ds .answers) (sym (exchange-state x r r′ apart));
       same = ap (λ (z : State). run z ds .state) (exchange-state x r r′ apart);
     }

@@ -76,22 +76,26 @@ module _ (x : State) (r : Request) where
       let a : Yes x r addHotel always = always-yes x r addHotel h in
       undo-by (change x r addHotel) eraseHotel 5 hotels refl refl (refl, (a .1 .0, (a .1 .1 .0, (a .1 .1 .1 .0, tt))))
       (λ i e. plus-on (x .hotel i (r .a) (r .b)) _ (own r i e)) refl
-      (λ j. withHotel x (λ i a b. plus-minus (x .hotel i a b) (slot r i && eqb a (r .a) && eqb b (r .b)) (was-absent addHotel hotels (further-yes x r addHotel h .1 .0) i a b) j))
+      (λ j. withHotel x (λ i a b. plus-minus (x .hotel i a b) (slot r i && eqb a (r .a) && eqb b (r .b))
+      (was-absent addHotel hotels (further-yes x r addHotel h .1 .0) i a b) j))
   undo-added ride h =
       let a : Yes x r addRide always = always-yes x r addRide h in
       undo-by (change x r addRide) eraseRide 7 rides refl refl (refl, (a .1 .0, (a .1 .1 .0, (a .1 .1 .1 .0, tt))))
       (λ i e. plus-on (x .ride i (r .a) (r .b)) _ (own r i e)) refl
-      (λ j. withRide x (λ i a b. plus-minus (x .ride i a b) (slot r i && eqb a (r .a) && eqb b (r .b)) (was-absent addRide rides (further-yes x r addRide h .1 .0) i a b) j))
+      (λ j. withRide x (λ i a b. plus-minus (x .ride i a b) (slot r i && eqb a (r .a) && eqb b (r .b))
+      (was-absent addRide rides (further-yes x r addRide h .1 .0) i a b) j))
   undo-added attend h =
       let a : Yes x r addAttend always = always-yes x r addAttend h in
       undo-by (change x r addAttend) eraseAttend 11 attends refl refl (refl, (a .1 .0, (a .1 .1 .0, (a .1 .1 .1 .0, tt))))
       (λ i e. plus-on (x .attend i (r .a) (r .b)) _ (own r i e)) refl
-      (λ j. withAttend x (λ i a b. plus-minus (x .attend i a b) (slot r i && eqb a (r .a) && eqb b (r .b)) (was-absent addAttend attends (further-yes x r addAttend h .1 .1 .0) i a b) j))
+      (λ j. withAttend x (λ i a b. plus-minus (x .attend i a b) (slot r i && eqb a (r .a) && eqb b (r .b))
+      (was-absent addAttend attends (further-yes x r addAttend h .1 .1 .0) i a b) j))
   undo-added lunch h =
       let a : Yes x r addLunch always = always-yes x r addLunch h in
       undo-by (change x r addLunch) eraseLunch 15 lunches refl refl (refl, (a .1 .0, (a .1 .1 .0, (a .1 .1 .1 .0, tt))))
       (λ i e. put-on _ (record { seats = r .n; info = r .info }) (x .lunch i (r .a) (r .b)) (own r i e)) refl
-      (λ j. withLunch x (λ i a b. put-clear (slot r i && eqb a (r .a) && eqb b (r .b)) (record { seats = r .n; info = r .info }) (x .lunch i a b) (was-absent addLunch lunches (further-yes x r addLunch h .1 .1 .0) i a b) j))
+      (λ j. withLunch x (λ i a b. put-clear (slot r i && eqb a (r .a) && eqb b (r .b)) (record { seats = r .n; info = r .info }) (x .lunch i a b)
+      (was-absent addLunch lunches (further-yes x r addLunch h .1 .1 .0) i a b) j))
 
   -- 12 then 13: all the meeting's conference rooms in those sessions are gone
   conf-after : Accepted x r addConf → step (change x r addConf) (onlyB 13 r) ≡ record { answer = Done 0; state = withConf x (λ s c m. cond (slot r s && eqb m (r .b)) none (x .conf s c m)) }
@@ -124,7 +128,8 @@ module _ (x : State) (r : Request) where
       was : step (change x r addConf) (onlyB 13 r) .state ≡ x → (i : ℕ) → slot r i ≡ true → confHeld x i (r .b) ≡ false
       was e i t =
           false-any (λ c. isSome (x .conf i c (r .b))) (x .settings .rooms)
-          (λ c _. ap (λ (z : State). isSome (z .conf i c (r .b))) (sym (sym after ∙ e)) ∙ clear-on (slot r i && eqb (r .b) (r .b)) (x .conf i c (r .b)) (and-true t (eq-eqb (r .b) (r .b) refl)))
+          (λ c _. ap (λ (z : State). isSome (z .conf i c (r .b))) (sym (sym after ∙ e)) ∙ clear-on (slot r i && eqb (r .b) (r .b))
+          (x .conf i c (r .b)) (and-true t (eq-eqb (r .b) (r .b) refl)))
 
       empty : (i c m : ℕ) → ((i : ℕ) → slot r i ≡ true → confHeld x i (r .b) ≡ false) → slot r i && eqb m (r .b) ≡ true → isSome (x .conf i c m) ≡ true → ⊥
       empty i c m f t e =
@@ -159,7 +164,8 @@ module _ (x y : State) (s : Sound x) (r : Request) (p : Pairs) (v : Vacated x y 
   unfolding test
   vacant-elsewhere h =
       ask-slots y r k (elsewhere p) refl
-      (λ i e. ap not (false-any (λ a. not (eqb a (r .a)) && booked y p i a (r .b)) (limitA (y .settings) p) (λ a _. never (not (eqb a (r .a)) && booked y p i a (r .b)) (λ t.
+      (λ i e. ap not (false-any (λ a. not (eqb a (r .a)) && booked y p i a (r .b)) (limitA (y .settings) p)
+      (λ a _. never (not (eqb a (r .a)) && booked y p i a (r .b)) (λ t.
       let q : a ≡ r .a = s .oneA p h i (r .b) a (r .a) (v .less i a (r .b) (and-right (not (eqb a (r .a))) _ t)) (v .there i e) in
       true≢false (sym (and-right (not (eqb a (r .a))) _ t) ∙ ap (λ (n : ℕ). booked y p i n (r .b)) q ∙ v .out i e)))))
 
@@ -193,7 +199,10 @@ module _ (x : State) (s : Sound x) (r : Request) where
       } in
       performs y (ofKind 4 r) addHotel refl (refl, (a .1 .0, (a .1 .1 .0, (a .1 .1 .1 .0, tt)))) (
         ask-slots y (ofKind 4 r) addHotel onLeave refl (λ i e. s .guests hotels refl i (r .a) (r .b) (was-present eraseHotel hotels t i e)),
-        (vacant-absent x y s (ofKind 4 r) hotels v addHotel, (vacant-free x y s (ofKind 4 r) hotels v addHotel refl, (vacant-elsewhere x y s (ofKind 4 r) hotels v addHotel refl, tt))),
+        (
+          vacant-absent x y s (ofKind 4 r) hotels v addHotel,
+          (vacant-free x y s (ofKind 4 r) hotels v addHotel refl, (vacant-elsewhere x y s (ofKind 4 r) hotels v addHotel refl, tt)),
+        ),
       )
       0 x refl
       (λ j. withHotel x (λ i a b. minus-plus (x .hotel i a b) (slot r i && eqb a (r .a) && eqb b (r .b)) (back eraseHotel hotels t i a b) j))
@@ -209,7 +218,10 @@ module _ (x : State) (s : Sound x) (r : Request) where
       } in
       performs y (ofKind 6 r) addRide refl (refl, (a .1 .0, (a .1 .1 .0, (a .1 .1 .1 .0, tt)))) (
         ask-slots y (ofKind 6 r) addRide onLeave refl (λ i e. s .guests rides refl i (r .a) (r .b) (was-present eraseRide rides t i e)),
-        (vacant-absent x y s (ofKind 6 r) rides v addRide, (vacant-free x y s (ofKind 6 r) rides v addRide refl, (vacant-elsewhere x y s (ofKind 6 r) rides v addRide refl, tt))),
+        (
+          vacant-absent x y s (ofKind 6 r) rides v addRide,
+          (vacant-free x y s (ofKind 6 r) rides v addRide refl, (vacant-elsewhere x y s (ofKind 6 r) rides v addRide refl, tt)),
+        ),
       )
       0 x refl
       (λ j. withRide x (λ i a b. minus-plus (x .ride i a b) (slot r i && eqb a (r .a) && eqb b (r .b)) (back eraseRide rides t i a b) j))
