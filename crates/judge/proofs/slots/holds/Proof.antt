@@ -43,8 +43,8 @@ lunch-held-requires c κs = let p = c .before .before .before .pre in (p .0, (p 
 enum-told-6 : tie.Need-enum-told-6
 enum-told-6 c = search needs
 
-bookings-requires : tie.Need-bookings-requires
-bookings-requires c κs = let p = c .before .before .before .pre in (p .0, (p .1 .0, (rw (c .enum-told6 .given .1) at (p .1 .1 .1 .0), (search needs, rw (c .enum-told6 .given .1) at (p .1 .1 .0)))))
+no-bookings-requires : tie.Need-no-bookings-requires
+no-bookings-requires c κs = let p = c .before .before .before .pre in (p .0, (p .1 .0, (rw (c .enum-told6 .given .1) at (p .1 .1 .0), rw (c .enum-told6 .given .1) at (p .1 .1 .1 .0))))
 
 enum-told-7 : tie.Need-enum-told-7
 enum-told-7 c = search needs
@@ -84,7 +84,7 @@ returns-6 c = rw (c .before .enum-told5 .given .1) (c .lunch-held .ensures)
 
 returns-7 : tie.Need-returns-7
 unfolding holdsIn
-returns-7 c = rw (c .before .enum-told6 .given .1) (rw (c .bookings .ensures))
+returns-7 c = rw (c .before .enum-told6 .given .1) (c .no-bookings .ensures)
 
 returns-8 : tie.Need-returns-8
 unfolding holdsIn
@@ -111,7 +111,7 @@ holds-spec =
     enum-told-5
     lunch-held-requires
     enum-told-6
-    bookings-requires
+    no-bookings-requires
     enum-told-7
     not-held-requires
     enum-told-8
