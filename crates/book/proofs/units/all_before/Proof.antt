@@ -1,3 +1,5 @@
+-- `units::all_before` meets its contract: dates do not fall as slots rise.
+-- Assumes nothing.
 use Prim.Native.Nat.{ℕ, _-_, _+_}
 use native.Mathlib.Omega.{arith}
 use mathlib.Core.Path.{_≡_, sym}

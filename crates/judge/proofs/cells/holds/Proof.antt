@@ -1,3 +1,5 @@
+-- `cells::holds` meets its contract: question by question.
+-- Assumes nothing.
 use Rattle.judge.specs.Asked.{holdsAt}
 use borrow.Author.Tests.{eq-eqb, ne-eqb}
 use mathlib.Core.Path.{refl, ap, sym, _∙_}

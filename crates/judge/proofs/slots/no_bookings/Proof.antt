@@ -18,7 +18,10 @@ add-row-has : tie.Need-add-row-has
 add-row-has c = let p = c .before .pre in omega (arith, good-laid (p .0) .ranges .visitors, p .1 .1 .1)
 
 row-has-requires : tie.Need-row-has-requires
-row-has-requires c κs = let p = c .before .pre in let a = c .before .args in rw (p .1 .0) (fits (a .s) (a .book .now) (good-laid (p .0)) hotelCells, p .1 .1 .0)
+row-has-requires c κs =
+    let p = c .before .pre in
+    let a = c .before .args in
+    rw (p .1 .0) (fits (a .s) (a .book .now) (good-laid (p .0)) hotelCells, p .1 .1 .0)
 
 returns : tie.Need-returns
 returns c = let p = c .before .before .before .pre in let a = c .before .before .before .args in

@@ -25,7 +25,13 @@ returns c = rw (← (c .before .conf-held .ensures), c .if1 .taken)
 
 returns-2 : tie.Need-returns-2
 unfolding notHeld
-returns-2 c = rw (← (c .before .conf-held .ensures), c .if1 .left, ← (c .before .before .before .date-of-session .ensures), ← (c .before .before .lunch-held .ensures))
+returns-2 c =
+    rw (
+      ← (c .before .conf-held .ensures),
+      c .if1 .left,
+      ← (c .before .before .before .date-of-session .ensures),
+      ← (c .before .before .lunch-held .ensures),
+    )
 
 pub not-held-spec : {M : Type 1} → statement M
 not-held-spec =
