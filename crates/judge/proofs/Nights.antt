@@ -1,15 +1,14 @@
 -- A visitor whose number stands in a date's hotel cells has a booking on that date.
 -- Assumes nothing.
 use Prim.Native.Nat.{ℕ, zero, suc, _+_, _≤_, _<_}
-use mathlib.Core.Path.{_≡_, refl, sym, _∙_, ap, subst}
+use mathlib.Core.Path.{_≡_, _∙_, ap, subst}
 use mathlib.Core.Bool.{Bool, true, false, not, _&&_}
 use mathlib.Core.List.{List}
 use mathlib.Core.Logic.{_⊎_, inl, inr}
 use native.Mathlib.Nat.{eq-or-lt-of-le}
 use native.Mathlib.Omega.{arith}
 use lib.Dec.{eqb}
-use borrow.Author.Tests.{eqb-true, eq-eqb, ne-eqb}
-use Rattle.book.specs.declared.grid.Grid.{Grid}
+use borrow.Author.Tests.{ne-eqb}
 use Rattle.book.specs.Grids.{cellAt, gridOf}
 use Rattle.book.specs.Rows.{rowHas}
 use Rattle.book.specs.Good.{Good}
@@ -17,7 +16,7 @@ use Rattle.book.proofs.Counts.{any-count}
 use Rattle.book.proofs.Entries.{booked-eqb}
 use Rattle.book.proofs.Goods.{good-state}
 use Rattle.model.specs.declared.Settings.{Settings}
-use Rattle.model.specs.Bounded.{one, sumFrom, sum, count, any, within}
+use Rattle.model.specs.Bounded.{sumFrom, sum, count, within}
 use Rattle.model.specs.State.{State, hotels}
 use Rattle.model.specs.Questions.{bookings}
 use Rattle.model.specs.Words.{hotelCells}

@@ -1,7 +1,7 @@
 -- The bookings of a visitor date by date: those of a run of dates are added up, and a date without leave has none.
 -- Assumes nothing.
-use Prim.Native.Nat.{ℕ, zero, suc, _+_, _*_, _≤_, _<_}
-use mathlib.Core.Path.{_≡_, refl, sym, _∙_, ap, ap₂, subst}
+use Prim.Native.Nat.{ℕ, zero, suc, _+_, _*_, _≤_}
+use mathlib.Core.Path.{_≡_, refl, sym, _∙_, ap}
 use mathlib.Core.Bool.{Bool, true, false, _&&_}
 use mathlib.Core.List.{List}
 use native.Mathlib.Nat.{mul-le-mul, le-antisymm}
@@ -9,13 +9,12 @@ use native.Mathlib.Omega.{arith}
 use lib.Dec.{leb}
 use borrow.Author.Tests.{leb-true, leb-false, le-leb, lt-leb}
 use Rattle.model.specs.declared.Settings.{Settings}
-use Rattle.model.specs.Bounded.{one, sumFrom, sum, count, count2, within}
+use Rattle.model.specs.Bounded.{one, sumFrom, count, count2, within}
 use Rattle.model.specs.Site.{allSessions, allTimes, dateOfSession, dateOfTime}
 use Rattle.model.specs.State.{State, hotels, rides, attends}
 use Rattle.model.specs.Questions.{bookings}
 use Rattle.model.specs.Reading.{stateOf, readState}
-use Rattle.model.proofs.Search.{and-left, and-right, within-true, both}
-use Rattle.model.proofs.Laws.{Sound}
+use Rattle.model.proofs.Search.{within-true, both}
 use Rattle.book.specs.Good.{Good}
 use Rattle.book.specs.Ranges.{Ranges}
 use Rattle.book.proofs.Counts.{sum-same, sum-zero, count-le}

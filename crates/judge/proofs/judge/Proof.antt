@@ -1,9 +1,8 @@
 -- `judge` meets its contract: question 3, then 4 to 7, then the kind.
 -- Assumes nothing.
-use mathlib.Core.Path.{_≡_, refl, sym, _∙_, ap}
+use mathlib.Core.Path.{sym, _∙_, ap}
 use native.Mathlib.Omega.{arith}
 use Rattle.book.proofs.Goods.{good-laid}
-use Rattle.model.specs.declared.Settings.{Settings}
 use Rattle.model.specs.Kinds.{kindOf, Row}
 use Rattle.judge.specs.Rows.{rowAt, fieldsNo}
 use Rattle.judge.specs.Chains.{answerAt}

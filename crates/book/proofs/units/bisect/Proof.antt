@@ -1,9 +1,8 @@
 use Rattle.book.proofs.Cuts.{turn-low, turn-high}
 use Rattle.model.specs.Kinds.{dateOf}
-use Rattle.book.specs.Units.{unitOf, Cut}
+use Rattle.book.specs.Units.{unitOf}
 use borrow.Author.Needs.{needs}
 use native.Mathlib.Omega.{arith}
-use mathlib.Core.Path.{_≡_, refl, sym, _∙_, ap}
 use Prim.Native.Nat.{ℕ, _+_, _-_, _/_, _≤_, _<_}
 use Rattle.book.proofs.units.bisect.Statement.{statement}
 use Rattle.book.proofs.units.bisect.Tie as tie

@@ -1,6 +1,5 @@
 -- `units::none_before` meets its contract: dates do not fall as slots rise.
 -- Assumes nothing.
-use mathlib.Core.Path.{_≡_, sym}
 use borrow.Author.Tests.{leb-true}
 use Rattle.book.proofs.Cuts.{turn-high}
 use borrow.Author.Needs.{needs}

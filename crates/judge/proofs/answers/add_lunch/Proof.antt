@@ -1,6 +1,6 @@
 -- `answers::add_lunch` meets its contract: the questions of kind 14 from 10 on, one after the other.
 -- Assumes nothing.
-use mathlib.Core.Path.{_≡_, refl, sym, _∙_, ap}
+use mathlib.Core.Path.{ap}
 use Rattle.judge.specs.Chains.{lunchAdds}
 use Rattle.book.specs.declared.grid.Grids.{Grids}
 use Rattle.judge.proofs.Grounds.{ground}

@@ -1,6 +1,5 @@
 -- `answers::add_stay` meets its contract: the questions of kinds 4 and 6, one after the other.
 -- Assumes nothing.
-use mathlib.Core.Path.{_≡_, refl, sym, _∙_, ap}
 use Rattle.judge.specs.Chains.{addStay}
 use Rattle.book.proofs.Goods.{good-laid}
 use native.Mathlib.Omega.{arith}

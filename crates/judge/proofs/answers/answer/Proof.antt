@@ -1,6 +1,6 @@
 -- `answers::answer` meets its contract: in each arm the kind's number gives what questions 5 to 7 leave, and the answer is the model's.
 -- Assumes nothing.
-use mathlib.Core.Path.{_≡_, refl, sym, _∙_, ap}
+use mathlib.Core.Path.{refl, _∙_, ap}
 use native.Mathlib.Omega.{arith}
 use Rattle.book.specs.declared.grid.Grids.{Grids}
 use Rattle.book.proofs.Goods.{good-laid}

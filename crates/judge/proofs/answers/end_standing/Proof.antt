@@ -1,8 +1,6 @@
 -- `answers::end_standing` meets its contract: the questions of kind 9, one after the other.
 -- Assumes nothing.
-use mathlib.Core.Path.{_≡_, refl, sym, _∙_, ap}
 use Rattle.judge.specs.Chains.{standingEnds}
-use Rattle.book.proofs.Goods.{good-laid}
 use native.Mathlib.Omega.{arith}
 use borrow.Author.Needs.{needs}
 use Rattle.judge.proofs.answers.end_standing.Statement.{statement}

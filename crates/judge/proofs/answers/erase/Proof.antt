@@ -1,6 +1,5 @@
 -- `answers::erase` meets its contract: question 15.
 -- Assumes nothing.
-use mathlib.Core.Path.{_≡_, refl, sym, _∙_, ap}
 use Rattle.judge.specs.Chains.{erasePair}
 use borrow.Author.Needs.{needs}
 use Rattle.judge.proofs.answers.erase.Statement.{statement}

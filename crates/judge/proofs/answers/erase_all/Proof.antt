@@ -1,6 +1,5 @@
 -- `answers::erase_all` meets its contract: the questions of kind 16, one after the other.
 -- Assumes nothing.
-use mathlib.Core.Path.{_≡_, refl, sym, _∙_, ap}
 use Rattle.judge.specs.Chains.{eraseAll}
 use Rattle.book.proofs.Goods.{good-laid}
 use native.Mathlib.Omega.{arith}

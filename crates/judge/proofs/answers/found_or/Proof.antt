@@ -1,6 +1,5 @@
 -- `answers::found_or` meets its contract: by the case of what was found.
 -- Assumes nothing.
-use mathlib.Core.Path.{_≡_, refl, sym, _∙_, ap}
 use borrow.Author.Needs.{needs}
 use Rattle.judge.proofs.answers.found_or.Statement.{statement}
 use Rattle.judge.proofs.answers.found_or.Tie as tie

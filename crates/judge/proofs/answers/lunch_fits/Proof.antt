@@ -1,6 +1,5 @@
 -- `answers::lunch_fits` meets its contract: question 8, then the others of kind 14.
 -- Assumes nothing.
-use mathlib.Core.Path.{_≡_, refl, sym, _∙_, ap}
 use borrow.Author.Tests.{le-leb, lt-leb}
 use Rattle.judge.specs.Chains.{lunchFits}
 use Rattle.judge.proofs.Seats.{capacity-le}

@@ -1,6 +1,5 @@
 -- `answers::seats_left` meets its contract: reserved is at most capacity.
 -- Assumes nothing.
-use mathlib.Core.Path.{_≡_, refl, sym, _∙_, ap}
 use native.Mathlib.Omega.{arith}
 use Rattle.book.proofs.Goods.{good-laid}
 use Rattle.judge.proofs.Seats.{reserved-le}

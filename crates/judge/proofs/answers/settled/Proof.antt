@@ -1,6 +1,5 @@
 -- `answers::settled` meets its contract: by the case of what was found.
 -- Assumes nothing.
-use mathlib.Core.Path.{_≡_, refl, sym, _∙_, ap}
 use borrow.Author.Needs.{needs}
 use Rattle.judge.proofs.answers.settled.Statement.{statement}
 use Rattle.judge.proofs.answers.settled.Tie as tie

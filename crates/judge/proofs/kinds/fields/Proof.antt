@@ -1,6 +1,6 @@
 -- `kinds::fields` meets its contract: test by test.
 -- Assumes nothing.
-use mathlib.Core.Path.{_≡_, refl, sym, _∙_, ap}
+use mathlib.Core.Path.{sym, _∙_}
 use borrow.Author.Tests.{not-true, not-false}
 use Rattle.judge.specs.Rows.{fieldsNo}
 use borrow.Author.Needs.{needs}

@@ -1,8 +1,7 @@
 -- `kinds::row_of` meets its contract: row by row; the last kind is what is left.
 -- Assumes nothing.
 use Rattle.judge.proofs.Numbers.{last-kind}
-use mathlib.Core.Path.{_≡_, refl, sym, _∙_, ap}
-use native.Mathlib.Omega.{arith}
+use mathlib.Core.Path.{sym, _∙_, ap}
 use Rattle.model.specs.Kinds.{kindOf}
 use Rattle.judge.specs.Rows.{rowOf, rowAt}
 use borrow.Author.Needs.{needs}

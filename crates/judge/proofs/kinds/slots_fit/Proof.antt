@@ -1,7 +1,6 @@
 -- `kinds::slots_fit` meets its contract: test by test.
 -- Assumes nothing.
-use mathlib.Core.Path.{_≡_, refl, sym, _∙_, ap}
-use borrow.Author.Tests.{le-leb, lt-leb, lt-ltb, le-ltb, not-true, not-false}
+use borrow.Author.Tests.{le-leb, lt-leb, lt-ltb, le-ltb}
 use Rattle.judge.specs.Rows.{slotsFit}
 use borrow.Author.Needs.{needs}
 use Rattle.judge.proofs.kinds.slots_fit.Statement.{statement}

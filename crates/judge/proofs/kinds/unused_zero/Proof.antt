@@ -1,6 +1,6 @@
 -- `kinds::unused_zero` meets its contract: field by field.
 -- Assumes nothing.
-use mathlib.Core.Path.{_≡_, refl, sym, _∙_, ap}
+use mathlib.Core.Path.{sym, _∙_}
 use borrow.Author.Tests.{not-true, not-false}
 use Rattle.judge.specs.Rows.{unusedZero}
 use borrow.Author.Needs.{needs}

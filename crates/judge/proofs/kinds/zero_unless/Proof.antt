@@ -1,6 +1,5 @@
 -- `kinds::zero_unless` meets its contract: by the case of its flag.
 -- Assumes nothing.
-use mathlib.Core.Path.{_≡_, refl, sym, _∙_, ap}
 use borrow.Author.Needs.{needs}
 use Rattle.judge.proofs.kinds.zero_unless.Statement.{statement}
 use Rattle.judge.proofs.kinds.zero_unless.Tie as tie

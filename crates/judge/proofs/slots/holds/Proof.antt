@@ -1,7 +1,6 @@
 -- `slots::holds` meets its contract: test by test.
 -- Assumes nothing.
 use Rattle.judge.specs.Asked.{holdsIn}
-use mathlib.Core.Path.{_≡_, refl, sym, _∙_, ap}
 use borrow.Author.Needs.{needs}
 use Rattle.judge.proofs.slots.holds.Statement.{statement}
 use Rattle.judge.proofs.slots.holds.Tie as tie

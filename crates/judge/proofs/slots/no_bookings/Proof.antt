@@ -1,6 +1,6 @@
 -- `slots::no_bookings` meets its contract: a hotel entry is a booking.
 -- Assumes nothing.
-use mathlib.Core.Path.{_≡_, refl, sym, _∙_, ap}
+use mathlib.Core.Path.{sym, _∙_, ap}
 use native.Mathlib.Omega.{arith}
 use lib.Dec.{eqb}
 use Prim.Native.Nat.{ℕ, _+_}
@@ -10,7 +10,6 @@ use Rattle.book.proofs.Goods.{good-laid}
 use Rattle.book.proofs.Regions.{fits}
 use Rattle.model.specs.Words.{hotelCells}
 use Rattle.judge.proofs.Nights.{night-counts}
-use borrow.Author.Needs.{needs}
 use Rattle.judge.proofs.slots.no_bookings.Statement.{statement}
 use Rattle.judge.proofs.slots.no_bookings.Tie as tie
 

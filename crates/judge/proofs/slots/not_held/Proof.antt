@@ -4,7 +4,6 @@ use Rattle.judge.specs.Asked.{notHeld}
 use Rattle.book.specs.declared.units.Slot.the-variants.{Sessions}
 use Rattle.book.proofs.Goods.{good-laid}
 use Rattle.book.proofs.Regions.{date-lt}
-use mathlib.Core.Path.{_≡_, refl, sym, _∙_, ap}
 use borrow.Author.Needs.{needs}
 use Rattle.judge.proofs.slots.not_held.Statement.{statement}
 use Rattle.judge.proofs.slots.not_held.Tie as tie

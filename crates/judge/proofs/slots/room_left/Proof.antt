@@ -4,7 +4,6 @@ use Rattle.judge.specs.Asked.{roomLeft}
 use Rattle.book.proofs.Goods.{good-laid}
 use Rattle.judge.proofs.Seats.{reserved-le, capacity-le}
 use native.Mathlib.Omega.{arith}
-use mathlib.Core.Path.{_≡_, refl, sym, _∙_, ap}
 use borrow.Author.Needs.{needs}
 use Rattle.judge.proofs.slots.room_left.Statement.{statement}
 use Rattle.judge.proofs.slots.room_left.Tie as tie

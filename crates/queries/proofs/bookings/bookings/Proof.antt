@@ -1,7 +1,7 @@
 -- `bookings::bookings` meets its contract: the dates passed so far are added up.
 -- Assumes nothing.
 use Prim.Native.Nat.{_+_, _-_, _≤_}
-use mathlib.Core.Path.{_≡_, refl, sym, _∙_, ap, ap₂}
+use mathlib.Core.Path.{_≡_, sym, _∙_, ap, ap₂}
 use native.Mathlib.Omega.{arith}
 use Rattle.model.specs.Questions.{bookings as bookingsIn}
 use Rattle.model.specs.Reading.{stateOf}

@@ -3,7 +3,6 @@
 use Prim.Native.Nat.{_+_, _-_}
 use mathlib.Core.Path.{refl, _∙_, ap₂}
 use native.Mathlib.Omega.{arith}
-use borrow.Author.Needs.{needs}
 use Rattle.model.specs.Words.{attendCells, hotelCells, rideCells}
 use Rattle.book.specs.declared.units.Slot.the-variants.{Sessions, Times}
 use Rattle.book.specs.Grids.{gridOf}

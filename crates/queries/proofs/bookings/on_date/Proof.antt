@@ -1,6 +1,6 @@
 -- `bookings::on_date` meets its contract: without leave there is no entry.
 -- Assumes nothing.
-use mathlib.Core.Path.{_≡_, sym, _∙_}
+use mathlib.Core.Path.{sym, _∙_}
 use borrow.Author.Tests.{not-true}
 use native.Mathlib.Omega.{arith}
 use Rattle.queries.proofs.Spans.{bookings-none}
