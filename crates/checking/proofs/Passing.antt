@@ -1,7 +1,7 @@
 -- One pass over a row of guests: those seen are barred from then on.
 -- Assumes nothing.
 use Prim.Native.Nat.{ℕ, zero, suc, _+_, _≤_, _<_}
-use mathlib.Core.Path.{_≡_, refl, sym, _∙_, ap}
+use mathlib.Core.Path.{_≡_, refl, sym, _∙_, ap, ap₂}
 use mathlib.Core.Bool.{Bool, true, false, not, _||_, cond, true≢false, false≢true}
 use mathlib.Core.List.{List, [], _∷_}
 use native.Mathlib.Decide.{ℕ-discrete}
@@ -10,13 +10,19 @@ use native.Mathlib.Omega.{arith}
 use lib.Dec.{leb, eqb}
 use lib.ListN.{length, getD, set, drop, length-set, drop-of-length-le}
 use lib.Seq.{getD-set-same, getD-set-other, drop-cons}
-use borrow.Author.Tests.{leb-true, le-leb, lt-leb, eqb-true, eq-eqb}
+use borrow.Author.Tests.{leb-true, le-leb, lt-leb, eqb-true, eq-eqb, ne-eqb}
 use Rattle.checking.specs.Rows.{Guests}
 
 -- a pass over a row: those seen are barred from then on
 abbrev pub pass : List ℕ → ℕ → List Bool → Bool → Bool
 pass [] limit seen bad = not bad
 pass (w ∷ row) limit seen bad = cond (leb w limit) (pass row limit (set seen w (not (eqb w 0))) (bad || getD seen w false)) false
+
+-- the code's mark of a cell: entry w is set and entry 0 cleared again
+pub mark-is : (seen : List Bool) (w : ℕ) → getD seen 0 false ≡ false → 0 < length seen → set (set seen w true) 0 false ≡ set seen w (not (eqb w 0))
+mark-is [] w e h = absurd (omega arith)
+mark-is (x ∷ xs) zero e h = refl
+mark-is (x ∷ xs) (suc w) e h = ap₂ (λ (b c : Bool). b ∷ set xs w c) (sym e) (sym (ap not (ne-eqb (suc w) 0 (λ q. omega (arith, q)))))
 
 -- a pass over a row
 module _ (limit : ℕ) where

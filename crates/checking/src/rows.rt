@@ -50,10 +50,12 @@ pub fn blank(row: &[u32]) -> bool
     true
 }
 
-// Hotel and ride: each cell within the limit and not barred, and no visitor twice in the row.
+// Hotel and ride: each cell within the limit and not barred, and no visitor twice in the row. A visitor that was seen is barred from
+// then on; an empty cell never is, so that entry 0 is cleared again.
 fn guests(row: &[u32], table: &[bool; 513], limit: u32) -> bool
     requires { ⌜ limit ≤ 512 ⌝ }
     requires { ⌜ length (now table) ≡ 513 ⌝ }
+    requires { ⌜ getD (now table) 0 false ≡ false ⌝ }
     ensures { λ r. ⌜ Decides r (Guests (now (row .entry)) limit (now (table .entry))) ⌝ }
 {
     let mut seen = *table;
@@ -66,7 +68,8 @@ fn guests(row: &[u32], table: &[bool; 513], limit: u32) -> bool
         }
         let k = w as usize;
         bad = bad | seen[k];
-        seen[k] = w != 0;
+        seen[k] = true;
+        seen[0] = false;
         i += 1;
     }
     !bad
@@ -116,25 +119,45 @@ pub fn padded(row: &[u32], n: usize) -> bool
     last >> used == 0
 }
 
+// Each cell within its column's bound.
+fn bounded(row: &[u32], bounds: &[u32; 512]) -> bool
+    requires { ⌜ length (now row) ≤ 512 ⌝ }
+    ensures { λ r. ⌜ Decides r ((i : ℕ) → i < length (now (row .entry)) → getD (now (row .entry)) i 0 ≤ getD (now (bounds .entry)) i 0) ⌝ }
+{
+    let mut bad = false;
+    let mut i: usize = 0;
+    while i < row.len() {
+        bad = bad | (bounds[i] < row[i]);
+        i += 1;
+    }
+    !bad
+}
+
+// No cell's meeting is barred.
+fn stood(row: &[u32], stands: &[bool; 513]) -> bool
+    requires { ⌜ ((i : ℕ) → i < length (now row) → getD (now row) i 0 ≤ 128) ⌝ }
+    ensures { λ r. ⌜ Decides r ((i : ℕ) → i < length (now (row .entry)) → getD (now (stands .entry)) (getD (now (row .entry)) i 0) false ≡ false) ⌝ }
+{
+    let mut bad = false;
+    let mut i: usize = 0;
+    while i < row.len() {
+        let k = row[i] as usize;
+        bad = bad | stands[k];
+        i += 1;
+    }
+    !bad
+}
+
 // Attend: each cell within its column's bound, and its meeting not barred.
 fn attends(row: &[u32], bounds: &[u32; 512], stands: &[bool; 513]) -> bool
     requires { ⌜ length (now row) ≤ 512 ⌝ }
     requires { ⌜ ((j : ℕ) → getD (now bounds) j 0 ≤ 128) ⌝ }
     ensures { λ r. ⌜ Decides r (Attended (now (row .entry)) (now (bounds .entry)) (now (stands .entry))) ⌝ }
 {
-    let mut i: usize = 0;
-    while i < row.len() {
-        let w = row[i];
-        if bounds[i] < w {
-            return false;
-        }
-        let k = w as usize;
-        if stands[k] {
-            return false;
-        }
-        i += 1;
+    if !bounded(row, bounds) {
+        return false;
     }
-    true
+    stood(row, stands)
 }
 
 pub fn attend_row(row: &[u32], bounds: &[u32; 512], stands: &[bool; 513]) -> bool
