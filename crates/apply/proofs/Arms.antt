@@ -189,11 +189,13 @@ unfolding kindOf
 number-of n k e = omega (arith, number-at 0 kinds numbered n k e)
   where
     numbered : Numbered 0 kinds
-    numbered = (refl, (refl, (refl, (refl, (refl, (refl, (refl, (refl, (refl, (refl, (refl, (refl, (refl, (refl, (refl, (refl, (refl, (refl, (refl, (refl, tt))))))))))))))))))))
+    numbered = (refl, (refl, (refl, (refl, (refl,
+        (refl, (refl, (refl, (refl, (refl, (refl, (refl, (refl, (refl, (refl, (refl, (refl, (refl, (refl, (refl, tt))))))))))))))))))))
 
 -- kinds other than 1 to 16 change nothing
 module _ (x : State) (r : Request) where
-  quiet : (k : Kind) → r .kind ≡ numberOf k → (r .kind ≡ 1 → ⊥) → (r .kind ≡ 2 → ⊥) → (r .kind ≡ 3 → ⊥) → (r .kind ≡ 4 → ⊥) → (r .kind ≡ 5 → ⊥) → (r .kind ≡ 6 → ⊥)
+  quiet : (k : Kind) → r .kind ≡ numberOf k → (r .kind ≡ 1 → ⊥) → (r .kind ≡ 2 → ⊥) → (r .kind ≡ 3 → ⊥) → (r .kind ≡ 4 → ⊥) → (r .kind ≡ 5 → ⊥)
+      → (r .kind ≡ 6 → ⊥)
       → (r .kind ≡ 7 → ⊥) → (r .kind ≡ 8 → ⊥) → (r .kind ≡ 9 → ⊥) → (r .kind ≡ 10 → ⊥) → (r .kind ≡ 11 → ⊥) → (r .kind ≡ 12 → ⊥)
       → (r .kind ≡ 13 → ⊥) → (r .kind ≡ 14 → ⊥) → (r .kind ≡ 15 → ⊥) → (r .kind ≡ 16 → ⊥) → change x r k ≡ x
   unfolding change
@@ -218,12 +220,14 @@ module _ (x : State) (r : Request) where
   quiet seatsLeft e n1 n2 n3 n4 n5 n6 n7 n8 n9 n10 n11 n12 n13 n14 n15 n16 = refl
   quiet freeRoom e n1 n2 n3 n4 n5 n6 n7 n8 n9 n10 n11 n12 n13 n14 n15 n16 = refl
 
-pub unchanged : (S : Settings) (b : List ℕ) → Good S b → (r : Request) → (r .kind ≡ 1 → ⊥) → (r .kind ≡ 2 → ⊥) → (r .kind ≡ 3 → ⊥) → (r .kind ≡ 4 → ⊥) → (r .kind ≡ 5 → ⊥)
+pub unchanged : (S : Settings) (b : List ℕ) → Good S b → (r : Request) → (r .kind ≡ 1 → ⊥) → (r .kind ≡ 2 → ⊥) → (r .kind ≡ 3 → ⊥) → (r .kind ≡ 4 → ⊥)
+    → (r .kind ≡ 5 → ⊥)
     → (r .kind ≡ 6 → ⊥) → (r .kind ≡ 7 → ⊥) → (r .kind ≡ 8 → ⊥) → (r .kind ≡ 9 → ⊥) → (r .kind ≡ 10 → ⊥) → (r .kind ≡ 11 → ⊥)
     → (r .kind ≡ 12 → ⊥) → (r .kind ≡ 13 → ⊥) → (r .kind ≡ 14 → ⊥) → (r .kind ≡ 15 → ⊥) → (r .kind ≡ 16 → ⊥)
     → b ≡ words (step (stateOf b) r .state)
 unfolding step
-unchanged S b good r n1 n2 n3 n4 n5 n6 n7 n8 n9 n10 n11 n12 n13 n14 n15 n16 = sym (words-stateOf b (good .laid) (good .lawful)) ∙ ap words (sym (kind (kindOf (r .kind)) refl))
+unchanged S b good r n1 n2 n3 n4 n5 n6 n7 n8 n9 n10 n11 n12 n13 n14 n15 n16 = sym (words-stateOf b (good .laid) (good .lawful))
+    ∙ ap words (sym (kind (kindOf (r .kind)) refl))
   where
     done : (k : Kind) → kindOf (r .kind) ≡ some k → (o : Option Refusal) → finish (stateOf b) r k o .state ≡ stateOf b
     done k e none = quiet (stateOf b) r k (number-of (r .kind) k e) n1 n2 n3 n4 n5 n6 n7 n8 n9 n10 n11 n12 n13 n14 n15 n16

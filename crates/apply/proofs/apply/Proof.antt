@@ -29,7 +29,8 @@ turn-requires c κs = let s = c .before .before .before in
     let a = s .args in
     let w : Known (a .s) (a .book .now) (a .g) (a .r) addLeave
     = record { good = s .pre .0; grids = s .pre .1 .0; done = s .pre .1 .1; kind = ap kindOf (c .before .match .keys1) } in
-    (span w leaves (λ g. g .leave) refl refl, item w leaves (λ g. g .leave) refl (a .r .b / 32) (group-lt (a .s .visitors) (a .r .b) (b-ok w (a .s .visitors) refl)))
+    (span w leaves (λ g. g .leave) refl refl, item w leaves (λ g. g .leave) refl (a .r .b / 32)
+    (group-lt (a .s .visitors) (a .r .b) (b-ok w (a .s .visitors) refl)))
 
 turn-requires-2 : tie.Need-turn-requires-2
 unfolding kindOf
@@ -37,7 +38,8 @@ turn-requires-2 c κs = let s = c .before .before .before in
     let a = s .args in
     let w : Known (a .s) (a .book .now) (a .g) (a .r) endLeave
     = record { good = s .pre .0; grids = s .pre .1 .0; done = s .pre .1 .1; kind = ap kindOf (c .before .match .keys2) } in
-    (span w leaves (λ g. g .leave) refl refl, item w leaves (λ g. g .leave) refl (a .r .b / 32) (group-lt (a .s .visitors) (a .r .b) (b-ok w (a .s .visitors) refl)))
+    (span w leaves (λ g. g .leave) refl refl, item w leaves (λ g. g .leave) refl (a .r .b / 32)
+    (group-lt (a .s .visitors) (a .r .b) (b-ok w (a .s .visitors) refl)))
 
 remove-visitor-requires : tie.Need-remove-visitor-requires
 unfolding kindOf
@@ -53,7 +55,8 @@ add-requires c κs = let s = c .before .before .before in
     let a = s .args in
     let w : Known (a .s) (a .book .now) (a .g) (a .r) addHotel
     = record { good = s .pre .0; grids = s .pre .1 .0; done = s .pre .1 .1; kind = ap kindOf (c .before .match .keys4) } in
-    (span w hotelCells (λ g. g .hotel) refl refl, (item w hotelCells (λ g. g .hotel) refl (a .r .a) (a-ok w (a .s .hotels) refl), omega (arith, laid w .ranges .visitors, b-ok w (a .s .visitors) refl)))
+    (span w hotelCells (λ g. g .hotel) refl refl,
+    (item w hotelCells (λ g. g .hotel) refl (a .r .a) (a-ok w (a .s .hotels) refl), omega (arith, laid w .ranges .visitors, b-ok w (a .s .visitors) refl)))
 
 take-requires : tie.Need-take-requires
 unfolding kindOf
@@ -69,7 +72,8 @@ add-requires-2 c κs = let s = c .before .before .before in
     let a = s .args in
     let w : Known (a .s) (a .book .now) (a .g) (a .r) addRide
     = record { good = s .pre .0; grids = s .pre .1 .0; done = s .pre .1 .1; kind = ap kindOf (c .before .match .keys6) } in
-    (span w rideCells (λ g. g .ride) refl refl, (item w rideCells (λ g. g .ride) refl (a .r .a) (a-ok w (a .s .transports) refl), omega (arith, laid w .ranges .visitors, b-ok w (a .s .visitors) refl)))
+    (span w rideCells (λ g. g .ride) refl refl,
+    (item w rideCells (λ g. g .ride) refl (a .r .a) (a-ok w (a .s .transports) refl), omega (arith, laid w .ranges .visitors, b-ok w (a .s .visitors) refl)))
 
 take-requires-2 : tie.Need-take-requires-2
 unfolding kindOf
@@ -85,7 +89,8 @@ turn-requires-3 c κs = let s = c .before .before .before in
     let a = s .args in
     let w : Known (a .s) (a .book .now) (a .g) (a .r) addStanding
     = record { good = s .pre .0; grids = s .pre .1 .0; done = s .pre .1 .1; kind = ap kindOf (c .before .match .keys8) } in
-    (span w standings (λ g. g .standing) refl refl, item w standings (λ g. g .standing) refl (a .r .a / 32) (group-lt (a .s .meetings) (a .r .a) (a-ok w (a .s .meetings) refl)))
+    (span w standings (λ g. g .standing) refl refl, item w standings (λ g. g .standing) refl (a .r .a / 32)
+    (group-lt (a .s .meetings) (a .r .a) (a-ok w (a .s .meetings) refl)))
 
 end-standing-requires : tie.Need-end-standing-requires
 unfolding kindOf
@@ -95,7 +100,9 @@ end-standing-requires c κs = let s = c .before .before .before in
     = record { good = s .pre .0; grids = s .pre .1 .0; done = s .pre .1 .1; kind = ap kindOf (c .before .match .keys9) } in
     (
       span w standings (λ g. g .standing) refl refl,
-      (span w attendCells (λ g. g .attend) refl refl, (item w standings (λ g. g .standing) refl (a .r .a / 32) (group-lt (a .s .meetings) (a .r .a) (a-ok w (a .s .meetings) refl)), omega (arith, laid w .ranges .meetings, a-ok w (a .s .meetings) refl))),
+      (span w attendCells (λ g. g .attend) refl refl,
+      (item w standings (λ g. g .standing) refl (a .r .a / 32) (group-lt (a .s .meetings) (a .r .a) (a-ok w (a .s .meetings) refl)), omega
+      (arith, laid w .ranges .meetings, a-ok w (a .s .meetings) refl))),
     )
 
 add-requires-3 : tie.Need-add-requires-3
@@ -104,7 +111,8 @@ add-requires-3 c κs = let s = c .before .before .before in
     let a = s .args in
     let w : Known (a .s) (a .book .now) (a .g) (a .r) addAttend
     = record { good = s .pre .0; grids = s .pre .1 .0; done = s .pre .1 .1; kind = ap kindOf (c .before .match .keys10) } in
-    (span w attendCells (λ g. g .attend) refl refl, (item w attendCells (λ g. g .attend) refl (a .r .b) (b-ok w (a .s .visitors) refl), omega (arith, laid w .ranges .meetings, a-ok w (a .s .meetings) refl)))
+    (span w attendCells (λ g. g .attend) refl refl,
+    (item w attendCells (λ g. g .attend) refl (a .r .b) (b-ok w (a .s .visitors) refl), omega (arith, laid w .ranges .meetings, a-ok w (a .s .meetings) refl)))
 
 take-requires-3 : tie.Need-take-requires-3
 unfolding kindOf
@@ -120,7 +128,8 @@ add-requires-4 c κs = let s = c .before .before .before in
     let a = s .args in
     let w : Known (a .s) (a .book .now) (a .g) (a .r) addConf
     = record { good = s .pre .0; grids = s .pre .1 .0; done = s .pre .1 .1; kind = ap kindOf (c .before .match .keys12) } in
-    (span w confPairs (λ g. g .conf) refl refl, (item w confPairs (λ g. g .conf) refl (a .r .a) (a-ok w (a .s .rooms) refl), omega (arith, laid w .ranges .meetings, b-ok w (a .s .meetings) refl)))
+    (span w confPairs (λ g. g .conf) refl refl,
+    (item w confPairs (λ g. g .conf) refl (a .r .a) (a-ok w (a .s .rooms) refl), omega (arith, laid w .ranges .meetings, b-ok w (a .s .meetings) refl)))
 
 drop-requires : tie.Need-drop-requires
 unfolding kindOf
@@ -136,7 +145,8 @@ add-requires-5 c κs = let s = c .before .before .before in
     let a = s .args in
     let w : Known (a .s) (a .book .now) (a .g) (a .r) addLunch
     = record { good = s .pre .0; grids = s .pre .1 .0; done = s .pre .1 .1; kind = ap kindOf (c .before .match .keys14) } in
-    (span w lunchTriples (λ g. g .lunch) refl refl, (item w lunchTriples (λ g. g .lunch) refl (a .r .b) (b-ok w (a .s .meetings) refl), omega (arith, laid w .ranges .dining, a-ok w (a .s .dining) refl)))
+    (span w lunchTriples (λ g. g .lunch) refl refl,
+    (item w lunchTriples (λ g. g .lunch) refl (a .r .b) (b-ok w (a .s .meetings) refl), omega (arith, laid w .ranges .dining, a-ok w (a .s .dining) refl)))
 
 take-requires-4 : tie.Need-take-requires-4
 unfolding kindOf
@@ -192,7 +202,8 @@ returns-3 c = let s = c .before .before .before .before .before .before in
     let d = c .before .before .remove-visitor .ensures in
     let W : Grids → List ℕ
     = λ g. filled (g .attend) (a .r .b) empty (d .from) (d .to)
-    (swept (g .ride) (a .r .b + 1) (d .lo) (d .hi) (swept (g .hotel) (a .r .b + 1) (a .r .first) (a .r .last + 1) (markedAll (g .leave) false (a .r .b) (a .r .first) (a .r .last + 1) (a .book .now)))) in
+    (swept (g .ride) (a .r .b + 1) (d .lo) (d .hi)
+    (swept (g .hotel) (a .r .b + 1) (a .r .first) (a .r .last + 1) (markedAll (g .leave) false (a .r .b) (a .r .first) (a .r .last + 1) (a .book .now)))) in
     d .is
     ∙ ap W (sym (s .pre .1 .0))
     ∙ arm w (λ S g. W g)
@@ -276,7 +287,8 @@ returns-9 c = let s = c .before .before .before .before .before .before in
     let w : Known (a .s) (a .book .now) (a .g) (a .r) endStanding
     = record { good = s .pre .0; grids = s .pre .1 .0; done = s .pre .1 .1; kind = ap kindOf (c .before .before .before .before .match .keys9) } in
     c .before .before .end-standing .ensures
-    ∙ arm w (λ S g. swept (g .attend) (a .r .a + 1) (a .r .first) (a .r .last + 1) (markedAll (g .standing) false (a .r .a) (a .r .first) (a .r .last + 1) (a .book .now)))
+    ∙ arm w (λ S g. swept (g .attend) (a .r .a + 1) (a .r .first) (a .r .last + 1)
+    (markedAll (g .standing) false (a .r .a) (a .r .first) (a .r .last + 1) (a .book .now)))
     (λ x _ z l y. write-endStanding x z (a .r) (a .book .now) l y)
 
 same-length-10 : tie.Need-same-length-10
@@ -367,15 +379,18 @@ returns-16 c = let s = c .before .before .before .before .before .before in
     let w : Known (a .s) (a .book .now) (a .g) (a .r) eraseConfAndLunch
     = record { good = s .pre .0; grids = s .pre .1 .0; done = s .pre .1 .1; kind = ap kindOf (c .before .before .before .before .match .keys16) } in
     c .before .before .erase-conf-and-lunch .ensures
-    ∙ arm w (λ S g. filled (g .lunch) (a .r .b) empty (dateOfSession S (a .r .first)) (dateOfSession S (a .r .last) + 1) (swept (g .conf) (a .r .b + 1) (a .r .first) (a .r .last + 1) (a .book .now)))
+    ∙ arm w (λ S g. filled (g .lunch) (a .r .b) empty (dateOfSession S (a .r .first)) (dateOfSession S (a .r .last) + 1)
+    (swept (g .conf) (a .r .b + 1) (a .r .first) (a .r .last + 1) (a .book .now)))
     (λ x _ z l y. write-eraseConfAndLunch x z (a .r) (a .book .now) l y)
 
 returns-17 : tie.Need-returns-17
 returns-17 c = let s = c .before .before in
     let n = c .match .rest in
-    unchanged (s .args .s) (s .args .book .now) (s .pre .0) (s .args .r) (n .0 .0 .0 .0 .0 .0 .0 .0 .0 .0 .0 .0 .0 .0 .0 .1) (n .0 .0 .0 .0 .0 .0 .0 .0 .0 .0 .0 .0 .0 .0 .1)
+    unchanged (s .args .s) (s .args .book .now) (s .pre .0) (s .args .r) (n .0 .0 .0 .0 .0 .0 .0 .0 .0 .0 .0 .0 .0 .0 .0 .1)
+    (n .0 .0 .0 .0 .0 .0 .0 .0 .0 .0 .0 .0 .0 .0 .1)
     (n .0 .0 .0 .0 .0 .0 .0 .0 .0 .0 .0 .0 .0 .1) (n .0 .0 .0 .0 .0 .0 .0 .0 .0 .0 .0 .0 .1) (n .0 .0 .0 .0 .0 .0 .0 .0 .0 .0 .0 .1)
-    (n .0 .0 .0 .0 .0 .0 .0 .0 .0 .0 .1) (n .0 .0 .0 .0 .0 .0 .0 .0 .0 .1) (n .0 .0 .0 .0 .0 .0 .0 .0 .1) (n .0 .0 .0 .0 .0 .0 .0 .1) (n .0 .0 .0 .0 .0 .0 .1) (n .0 .0 .0 .0 .0 .1) (n .0 .0 .0 .0 .1) (n .0 .0 .0 .1) (n .0 .0 .1) (n .0 .1) (n .1)
+    (n .0 .0 .0 .0 .0 .0 .0 .0 .0 .0 .1) (n .0 .0 .0 .0 .0 .0 .0 .0 .0 .1) (n .0 .0 .0 .0 .0 .0 .0 .0 .1) (n .0 .0 .0 .0 .0 .0 .0 .1)
+    (n .0 .0 .0 .0 .0 .0 .1) (n .0 .0 .0 .0 .0 .1) (n .0 .0 .0 .0 .1) (n .0 .0 .0 .1) (n .0 .0 .1) (n .0 .1) (n .1)
 
 pub apply-spec : {M : Type 1} → statement M
 apply-spec =
