@@ -10,7 +10,7 @@ use native.Mathlib.Omega.{arith}
 use lib.Dec.{leb, eqb}
 use lib.ListN.{length, getD, set, drop, length-set, drop-of-length-le}
 use lib.Seq.{getD-set-same, getD-set-other, drop-cons}
-use borrow.Author.Tests.{leb-true, le-leb, lt-leb, eqb-true, eq-eqb, ne-eqb}
+use borrow.Author.Tests.{leb-true, le-leb, eqb-true, eq-eqb, ne-eqb}
 use Rattle.checking.specs.Rows.{Guests}
 
 -- a pass over a row: those seen are barred from then on
@@ -39,10 +39,6 @@ module _ (limit : ℕ) where
       → pass (drop i row) limit seen bad
       ≡ pass (drop (i + 1) row) limit (set seen (getD row i 0) (not (eqb (getD row i 0) 0))) (bad || getD seen (getD row i 0) false)
   pass-more row seen bad i h l = rw (drop-cons row i 0 h, le-leb (getD row i 0) limit l, add-one)
-
-  pub pass-over : (row : List ℕ) (seen : List Bool) (bad : Bool) (i : ℕ) → i < length row → limit < getD row i 0
-      → pass (drop i row) limit seen bad ≡ false
-  pass-over row seen bad i h l = rw (drop-cons row i 0 h, lt-leb (getD row i 0) limit l)
 
   pub pass-end : (row : List ℕ) (seen : List Bool) (bad : Bool) (i : ℕ) → length row ≤ i → not bad ≡ pass (drop i row) limit seen bad
   pass-end row seen bad i h = rw (drop-of-length-le row {i = i} h)
