@@ -20,6 +20,8 @@ use Rattle.model.specs.Calls.{Called, Calls, call, calls, check, lay, freshBook
 use Rattle.model.specs.Site.{validSettings}
 use Rattle.model.proofs.Calls.{from-fresh}
 use Rattle.model.proofs.Shows.{good-valid}
+use Rattle.model.specs.Removal.{Removed, RemovalKept}
+use Rattle.model.proofs.Removal.{removal}
 use Rattle.book.specs.Good.{Good, answered}
 use Rattle.engine.specs.Lists.{All, asListed}
 use Rattle.engine.proofs.Kept.{check-good, fresh-good, good-call, refused-done}
@@ -36,6 +38,15 @@ request-refused b r {n} {p} e = go (wellLaid b) refl (lawful b) refl e
     go true q true s e = done-refused (rw (q, s) at e)
     go true q false s e = rw (q, s) (ap (λ (x : Answer). answered x b) (sym (rw (q, s) at e)))
     go false q t s e = rw q (ap (λ (x : Answer). answered x b) (sym (rw q at e)))
+
+-- a call takes out what a removal promises
+call-removes : (b : List ℕ) (r : Request) (a : Answer) (c : List ℕ) → answered a c ≡ call b r → RemovalKept b r a c
+call-removes b r a c e one two k n q =
+    subst (λ (d : List ℕ). Removed (stateOf b) (stateOf d) (r .b) (r .first) (r .last) n) (sym (ap (λ (x : Called). x .book) e))
+    (removal b (record { one = one; two = two }) r k n (sym (ap (λ (x : Called). x .answer) e) ∙ q))
+
+pub with-removal : (b : List ℕ) (r : Request) (a : Answer) (c : List ℕ) → answered a c ≡ call b r → (answered a c ≡ call b r) × RemovalKept b r a c
+with-removal b r a c e = (e, call-removes b r a c e)
 
 -- the list on a book that is refused, and on one that passes
 pub requests-refused : (b w a : List ℕ) {n p : ℕ} → check b ≡ Refused n p → asListed (Refused n p) b a ≡ callList b w a

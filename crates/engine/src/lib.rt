@@ -9,11 +9,14 @@ use model::Answer;
 use model::Request;
 ghost use mathlib.Core.Path.{_≡_};
 ghost use Rattle.model.specs.Calls.{call};
+ghost use Rattle.model.specs.Removal.{RemovalKept};
 ghost use Rattle.book.specs.Good.{answered};
 
-// A request on any list of words: questions 1 and 2, then the machine, started in the state that the book shows.
+// A request on any list of words: questions 1 and 2, then the machine, started in the state that the book shows. An accepted removal
+// takes exactly the visitor's leave and bookings on its dates.
 pub fn request(book: &mut [u32], r: Request) -> Answer
-    ensures { λ a. ⌜ answered a (now (book .exit)) ≡ call (now (book .entry)) r ⌝ }
+    ensures call { λ a. ⌜ answered a (now (book .exit)) ≡ call (now (book .entry)) r ⌝ }
+    ensures removal { λ a. ⌜ RemovalKept (now (book .entry)) r a (now (book .exit)) ⌝ }
 {
     let checked = checking::check(book);
     if let Answer::Refused { number, place } = checked {

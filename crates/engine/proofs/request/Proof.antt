@@ -5,7 +5,7 @@ use mathlib.Core.Path.{sym, _∙_}
 use borrow.Author.Needs.{needs}
 use Rattle.book.proofs.Goods.{good-laid}
 use Rattle.engine.proofs.Kept.{good-call, check-good}
-use Rattle.engine.proofs.Whole.{request-refused}
+use Rattle.engine.proofs.Whole.{request-refused, with-removal}
 use Rattle.engine.proofs.request.Statement.{statement}
 use Rattle.engine.proofs.request.Tie as tie
 
@@ -21,7 +21,8 @@ same-length c = search needs
 returns : tie.Need-returns
 returns c =
     let a = c .before .before .before .before .before .before .args in
-    request-refused (a .book .now) (a .r) (sym (c .before .before .before .check .ensures) ∙ c .before .checked .given .1)
+    with-removal (a .book .now) (a .r) _ _
+    (request-refused (a .book .now) (a .r) (sym (c .before .before .before .check .ensures) ∙ c .before .checked .given .1))
 
 enum-told : tie.Need-enum-told
 enum-told c = search needs
@@ -45,7 +46,8 @@ same-length-2 c = search needs
 returns-2 : tie.Need-returns-2
 returns-2 c =
     let a = c .before .before .before .before .before .before .before .before .before .before .before .before .args in
-    c .before .before .step .ensures ∙ sym (good-call (check-good (a .book .now) _ (sym (c .before .before .before .before .before .before .before .before .before .check .ensures) ∙ c .before .before .before .before .before .before .before .enum-told .given .1)) (a .r))
+    with-removal (a .book .now) (a .r) _ _
+    (c .before .before .step .ensures ∙ sym (good-call (check-good (a .book .now) _ (sym (c .before .before .before .before .before .before .before .before .before .check .ensures) ∙ c .before .before .before .before .before .before .before .enum-told .given .1)) (a .r)))
 
 pub request-spec : {M : Type 1} → statement M
 request-spec =
