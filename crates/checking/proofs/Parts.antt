@@ -20,7 +20,12 @@ row-inside d n width h = rw (next-row d width) (mul-le-mul-right width (omega ar
 pub part-by : (cells : List ℕ) (at n : ℕ) → at + n ≤ length cells → Part (take (at + n - at) (drop at cells)) n (take n (drop at cells))
 part-by cells at n h =
     let e : at + n - at ≡ n = omega arith in
-    record { is = ap (λ (k : ℕ). take k (drop at cells)) e; long = ap (λ (k : ℕ). length (take k (drop at cells))) e ∙ length-take-le n (drop at cells) (omega (arith, length-drop at cells)) }
+    record {
+      is =
+          ap (λ (k : ℕ). take k (drop at cells)) e;
+      long = ap (λ (k : ℕ). length (take k (drop at cells))) e
+          ∙ length-take-le n (drop at cells) (omega (arith, length-drop at cells));
+    }
 
 pub row-long : (width i : ℕ) (cells : List ℕ) → length (rowAt width i cells) ≤ width
 row-long width i cells = omega (arith, length-take width (drop (i * width) cells))

@@ -30,7 +30,8 @@ module _ (limit : ℕ) where
   pass-bad [] seen = refl
   pass-bad (w ∷ row) seen = go (leb w limit) (pass-bad row (set seen w (not (eqb w 0))))
     where
-      go : (b : Bool) → pass row limit (set seen w (not (eqb w 0))) true ≡ false → cond b (pass row limit (set seen w (not (eqb w 0))) true) false ≡ false
+      go : (b : Bool) → pass row limit (set seen w (not (eqb w 0))) true ≡ false
+          → cond b (pass row limit (set seen w (not (eqb w 0))) true) false ≡ false
       go true e = e
       go false e = refl
 
@@ -68,9 +69,11 @@ module _ (limit : ℕ) where
 
   pub says : (row : List ℕ) (seen : List Bool) → limit < length seen → pass row limit seen false ≡ true → Guests row limit seen
   says [] seen h e = record { range = λ i l. absurd (omega arith); free = λ i l. absurd (omega arith); once = λ i j l m q. absurd (omega arith) }
-  says (w ∷ row) seen h e = go (says row (set seen w (not (eqb w 0))) (omega (arith, length-set seen w (not (eqb w 0))))) (leb w limit) refl (getD seen w false) refl e
+  says (w ∷ row) seen h e =
+      go (says row (set seen w (not (eqb w 0))) (omega (arith, length-set seen w (not (eqb w 0))))) (leb w limit) refl (getD seen w false) refl e
     where
-      go : (pass row limit (set seen w (not (eqb w 0))) false ≡ true → Guests row limit (set seen w (not (eqb w 0)))) → (b : Bool) → leb w limit ≡ b → (f : Bool) → getD seen w false ≡ f → cond b (pass row limit (set seen w (not (eqb w 0))) f) false ≡ true → Guests (w ∷ row) limit seen
+      go : (pass row limit (set seen w (not (eqb w 0))) false ≡ true → Guests row limit (set seen w (not (eqb w 0)))) → (b : Bool) → leb w limit ≡ b
+          → (f : Bool) → getD seen w false ≡ f → cond b (pass row limit (set seen w (not (eqb w 0))) f) false ≡ true → Guests (w ∷ row) limit seen
       go rec false q f g e = absurd (false≢true e)
       go rec true q true g e = absurd (false≢true (sym (pass-bad row (set seen w (not (eqb w 0)))) ∙ e))
       go rec true q false g e =
@@ -82,11 +85,13 @@ module _ (limit : ℕ) where
           range l r zero m = l
           range l r (suc i) m = r .range i (omega arith)
 
-          free : w ≤ limit → Guests row limit (set seen w (not (eqb w 0))) → (i : ℕ) → i < suc (length row) → getD seen (getD (w ∷ row) i 0) false ≡ false
+          free : w ≤ limit → Guests row limit (set seen w (not (eqb w 0))) → (i : ℕ) → i < suc (length row)
+              → getD seen (getD (w ∷ row) i 0) false ≡ false
           free l r zero m = g
           free l r (suc i) m = next seen w (getD row i 0) (omega arith) g .0 (r .free i (omega arith)) .0
 
-          once : w ≤ limit → Guests row limit (set seen w (not (eqb w 0))) → (i j : ℕ) → i < j → j < suc (length row) → getD (w ∷ row) i 0 ≡ getD (w ∷ row) j 0 → getD (w ∷ row) i 0 ≡ 0
+          once : w ≤ limit → Guests row limit (set seen w (not (eqb w 0))) → (i j : ℕ) → i < j → j < suc (length row)
+              → getD (w ∷ row) i 0 ≡ getD (w ∷ row) j 0 → getD (w ∷ row) i 0 ≡ 0
           once l r i zero m k q = absurd (omega arith)
           once l r zero (suc j) m k q = next seen w (getD row j 0) (omega arith) g .0 (r .free j (omega arith)) .1 (sym q)
           once l r (suc i) (suc j) m k q = r .once i j (omega arith) (omega arith) q

@@ -57,7 +57,8 @@ module _ (S : Settings) (b : List ℕ) where
   pub holds-by : (g : Region) (i j v : ℕ) → i < slots S g → j < items S g → at S b g i j 0 ≡ suc v → holds S b g i j v ≡ true
   holds-by g i j v h k e = and-true (inside-by g i j h k) (eq-eqb _ _ e)
 
-  pub bit-is : (g : Region) (i v : ℕ) (row : List ℕ) → i < slots S g → v / 32 < items S g → at S b g i (v / 32) 0 ≡ getD row (v / 32) 0 → bitAt S b g i v ≡ member row v
+  pub bit-is : (g : Region) (i v : ℕ) (row : List ℕ) → i < slots S g → v / 32 < items S g → at S b g i (v / 32) 0 ≡ getD row (v / 32) 0
+      → bitAt S b g i v ≡ member row v
   bit-is g i v row h k e = rw (inside-by g i (v / 32) h k, e)
 
   pub within-by : (g : Region) (n : ℕ) → ((i j : ℕ) → i < slots S g → j < items S g → at S b g i j 0 ≤ n) → cellsWithin S b g n ≡ true
@@ -168,7 +169,8 @@ module _ {S : Settings} {b : List ℕ} {G : Grids} {H : Shares} {d : ℕ} (p : A
   pub part-fits : (d < S .dates) × (startIn G g + S .dates * shareIn H g ≤ length b)
   part-fits = (p .date, rw (start, share) (fits S b (p .laid .long) g))
 
-  pub part-date : {r : List ℕ} → Part r (shareIn H g) (take (shareIn H g) (drop (startIn G g + d * shareIn H g) b)) → Part r (shareOf S g) (dateAt S b g d)
+  pub part-date : {r : List ℕ} → Part r (shareIn H g) (take (shareIn H g) (drop (startIn G g + d * shareIn H g) b))
+      → Part r (shareOf S g) (dateAt S b g d)
   part-date {r} q = rw (start, share) at q
 
 pub row-long-is : (w p n : ℕ) (cells : List ℕ) → p < n → n * w ≤ length cells → length (rowAt w p cells) ≡ w
