@@ -16,7 +16,7 @@ use Rattle.model.specs.Kinds.{Kind, row, slotsOf}
 use Rattle.model.specs.Kinds.{Kind.addHotel, Kind.eraseHotel, Kind.addRide, Kind.eraseRide}
 use Rattle.model.specs.Kinds.{Kind.addAttend, Kind.eraseAttend, Kind.addConf}
 use Rattle.model.specs.Kinds.{Kind.addLunch, Kind.eraseLunch}
-use Rattle.model.specs.Questions.{ask, test, always, further, Question, Question.aBelow, Question.bBelow, Question.absent, Question.present}
+use Rattle.model.specs.Questions.{ask, test, always, further, Question, Question.aBelow, Question.bBelow, Question.absent, Question.elsewhere, Question.present}
 use Rattle.model.specs.Machine.{change, slot, withLunch}
 use Rattle.model.specs.Words.{Region, hotelCells, attendCells, confPairs, lunchTriples, rideCells, slots, items, width, word, cell, infoOf, lunchInfo}
 use Rattle.model.proofs.Search.{and-left, and-right}
@@ -78,7 +78,7 @@ module _ (x : State) (s : Sound x) (r : Request) (b : List ℕ) (a : Carries (x 
   there k p e i h = yes-slot x r k (present p) refl e i h
 
   -- b has no a at all in the set
-  alone : (k : Kind) (p : Pairs) → ask x r k (absent p) ≡ none → ask x r k (Question.elsewhere p) ≡ none → (i c : ℕ) → slot r i ≡ true → booked x p i c (r .b) ≡ true → ⊥
+  alone : (k : Kind) (p : Pairs) → ask x r k (absent p) ≡ none → ask x r k (elsewhere p) ≡ none → (i c : ℕ) → slot r i ≡ true → booked x p i c (r .b) ≡ true → ⊥
   unfolding test
   alone k p e f i c h q =
       let z : booked x p i (r .a) (r .b) ≡ false = not-true _ (yes-slot x r k (absent p) refl e i h) in
