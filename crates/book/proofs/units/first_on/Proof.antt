@@ -1,62 +1,63 @@
-use Rattle.book.proofs.Cuts.{turn-low, turn-high}
-use Rattle.model.specs.Kinds.{dateOf}
-use Rattle.book.specs.Units.{unitOf, Cut}
-use borrow.Author.Needs.{needs}
 use native.Mathlib.Omega.{arith}
-use mathlib.Core.Path.{_≡_, refl, sym, _∙_, ap}
-use Prim.Native.Nat.{ℕ, _+_, _-_, _/_, _≤_, _<_}
+use borrow.Author.Tests.{not-false}
+use borrow.Author.Needs.{needs}
 use Rattle.book.proofs.units.first_on.Statement.{statement}
 use Rattle.book.proofs.units.first_on.Tie as tie
 
-abbrev Inv-loop : tie.InvT-loop
-Inv-loop s u n d lo₀ hi₀ lo hi = (lo ≤ hi) × (hi ≤ n) × ((i : ℕ) → i < lo → dateOf s (unitOf u) i < d) × ((i : ℕ) → hi ≤ i → i < n → d ≤ dateOf s (unitOf u) i)
+bisect-requires : tie.Need-bisect-requires
+bisect-requires c κs = search needs
 
-abbrev μ-loop : tie.MeasureT-loop
-μ-loop s u n d lo₀ hi₀ lo hi = hi - lo
+returns : tie.Need-returns
+returns c = search needs
 
-loop-holds : tie.Need-loop-holds Inv-loop μ-loop
-loop-holds c = (omega arith, omega arith, (λ i h. absurd (omega (arith, h))), (λ i h k. absurd (omega (arith, h, k))))
+guess-requires : tie.Need-guess-requires
+guess-requires c κs = search needs
 
-sub-mid : tie.Need-sub-mid Inv-loop μ-loop
-sub-mid c = search needs
+bisect-requires-2 : tie.Need-bisect-requires-2
+bisect-requires-2 c κs = search needs
 
-add-mid : tie.Need-add-mid Inv-loop μ-loop
-add-mid c = search needs
+returns-2 : tie.Need-returns-2
+returns-2 c = search needs
 
-date-of-requires : tie.Need-date-of-requires Inv-loop μ-loop
-date-of-requires c κs = c .before .before .pre .0
+all-before-requires : tie.Need-all-before-requires
+all-before-requires c κs = search needs
 
-add-lo : tie.Need-add-lo Inv-loop μ-loop
-add-lo c = omega arith
+bisect-requires-3 : tie.Need-bisect-requires-3
+bisect-requires-3 c κs = search needs
 
-loop-less : tie.Need-loop-less Inv-loop μ-loop
-loop-less c = omega arith
+returns-3 : tie.Need-returns-3
+returns-3 c = search needs
 
-loop-again : tie.Need-loop-again Inv-loop μ-loop
-loop-again c = let s = c .before .before .before .before .before in let l = c .before .before .before .before .loop in (omega arith, omega arith, turn-low (s .args .s) (s .pre .0) (s .args .u) (s .args .d) (l .lo + (l .hi - l .lo) / 2) (rw (← (c .before .before .date-of .ensures)) (c .if1 .taken)), l .inv .3)
+none-before-requires : tie.Need-none-before-requires
+none-before-requires c κs = search needs
 
-loop-less-2 : tie.Need-loop-less-2 Inv-loop μ-loop
-loop-less-2 c = omega arith
+bisect-requires-4 : tie.Need-bisect-requires-4
+bisect-requires-4 c κs = search needs
 
-loop-again-2 : tie.Need-loop-again-2 Inv-loop μ-loop
-loop-again-2 c = let s = c .before .before .before .before .before in let l = c .before .before .before .before .loop in (omega arith, omega arith, l .inv .2, λ i h k. turn-high (s .args .s) (s .pre .0) (s .args .u) (s .args .d) (l .lo + (l .hi - l .lo) / 2) (rw (← (c .before .before .date-of .ensures)) (c .if1 .left)) i h)
+returns-4 : tie.Need-returns-4
+returns-4 c = search needs
 
-returns : tie.Need-returns Inv-loop μ-loop
-returns c = let l = c .before .loop in let s = c .before .before in record { most = omega arith; before = l .inv .2; after = λ i h k. l .inv .3 i (omega (arith, h)) (omega (arith, k)) }
+returns-5 : tie.Need-returns-5
+returns-5 c = let b = c .before .before in
+    record {
+      most = omega (arith, b .before .before .if2 .left);
+      before = b .before .all-before .ensures (not-false _ (b .if3 .left));
+      after = λ i h k. c .before .none-before .ensures (not-false _ (c .if4 .left)) i h (omega (arith, k));
+    }
 
 pub first-on-spec : {M : Type 1} → statement M
 first-on-spec =
     tie.close
     (tie.spec
-    Inv-loop
-    μ-loop
-    loop-holds
-    sub-mid
-    add-mid
-    date-of-requires
-    add-lo
-    loop-less
-    loop-again
-    loop-less-2
-    loop-again-2
-    returns)
+    bisect-requires
+    returns
+    guess-requires
+    bisect-requires-2
+    returns-2
+    all-before-requires
+    bisect-requires-3
+    returns-3
+    none-before-requires
+    bisect-requires-4
+    returns-4
+    returns-5)
