@@ -189,8 +189,22 @@ unfolding kindOf
 number-of n k e = omega (arith, number-at 0 kinds numbered n k e)
   where
     numbered : Numbered 0 kinds
-    numbered = (refl, (refl, (refl, (refl, (refl,
-        (refl, (refl, (refl, (refl, (refl, (refl, (refl, (refl, (refl, (refl, (refl, (refl, (refl, (refl, (refl, tt))))))))))))))))))))
+    numbered = (
+      refl,
+      (
+        refl,
+        (
+          refl,
+          (
+            refl,
+            (
+              refl,
+              (refl, (refl, (refl, (refl, (refl, (refl, (refl, (refl, (refl, (refl, (refl, (refl, (refl, (refl, (refl, tt))))))))))))))),
+            ),
+          ),
+        ),
+      ),
+    )
 
 -- kinds other than 1 to 16 change nothing
 module _ (x : State) (r : Request) where

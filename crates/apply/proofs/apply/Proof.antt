@@ -28,18 +28,22 @@ unfolding kindOf
 turn-requires c κs = let s = c .before .before .before in
     let a = s .args in
     let w : Known (a .s) (a .book .now) (a .g) (a .r) addLeave
-    = record { good = s .pre .0; grids = s .pre .1 .0; done = s .pre .1 .1; kind = ap kindOf (c .before .match .keys1) } in
-    (span w leaves (λ g. g .leave) refl refl, item w leaves (λ g. g .leave) refl (a .r .b / 32)
-    (group-lt (a .s .visitors) (a .r .b) (b-ok w (a .s .visitors) refl)))
+    = record { good = s .pre .0; grids = s .pre .1 .0; done = s .pre .1 .1; kind = ap kindOf (c .before .match .keys1) } in (
+      span w leaves (λ g. g .leave) refl refl,
+      item w leaves (λ g. g .leave) refl (a .r .b / 32)
+          (group-lt (a .s .visitors) (a .r .b) (b-ok w (a .s .visitors) refl)),
+    )
 
 turn-requires-2 : tie.Need-turn-requires-2
 unfolding kindOf
 turn-requires-2 c κs = let s = c .before .before .before in
     let a = s .args in
     let w : Known (a .s) (a .book .now) (a .g) (a .r) endLeave
-    = record { good = s .pre .0; grids = s .pre .1 .0; done = s .pre .1 .1; kind = ap kindOf (c .before .match .keys2) } in
-    (span w leaves (λ g. g .leave) refl refl, item w leaves (λ g. g .leave) refl (a .r .b / 32)
-    (group-lt (a .s .visitors) (a .r .b) (b-ok w (a .s .visitors) refl)))
+    = record { good = s .pre .0; grids = s .pre .1 .0; done = s .pre .1 .1; kind = ap kindOf (c .before .match .keys2) } in (
+      span w leaves (λ g. g .leave) refl refl,
+      item w leaves (λ g. g .leave) refl (a .r .b / 32)
+          (group-lt (a .s .visitors) (a .r .b) (b-ok w (a .s .visitors) refl)),
+    )
 
 remove-visitor-requires : tie.Need-remove-visitor-requires
 unfolding kindOf
@@ -54,9 +58,10 @@ unfolding kindOf
 add-requires c κs = let s = c .before .before .before in
     let a = s .args in
     let w : Known (a .s) (a .book .now) (a .g) (a .r) addHotel
-    = record { good = s .pre .0; grids = s .pre .1 .0; done = s .pre .1 .1; kind = ap kindOf (c .before .match .keys4) } in
-    (span w hotelCells (λ g. g .hotel) refl refl,
-    (item w hotelCells (λ g. g .hotel) refl (a .r .a) (a-ok w (a .s .hotels) refl), omega (arith, laid w .ranges .visitors, b-ok w (a .s .visitors) refl)))
+    = record { good = s .pre .0; grids = s .pre .1 .0; done = s .pre .1 .1; kind = ap kindOf (c .before .match .keys4) } in (
+      span w hotelCells (λ g. g .hotel) refl refl,
+      (item w hotelCells (λ g. g .hotel) refl (a .r .a) (a-ok w (a .s .hotels) refl), omega (arith, laid w .ranges .visitors, b-ok w (a .s .visitors) refl)),
+    )
 
 take-requires : tie.Need-take-requires
 unfolding kindOf
@@ -71,9 +76,10 @@ unfolding kindOf
 add-requires-2 c κs = let s = c .before .before .before in
     let a = s .args in
     let w : Known (a .s) (a .book .now) (a .g) (a .r) addRide
-    = record { good = s .pre .0; grids = s .pre .1 .0; done = s .pre .1 .1; kind = ap kindOf (c .before .match .keys6) } in
-    (span w rideCells (λ g. g .ride) refl refl,
-    (item w rideCells (λ g. g .ride) refl (a .r .a) (a-ok w (a .s .transports) refl), omega (arith, laid w .ranges .visitors, b-ok w (a .s .visitors) refl)))
+    = record { good = s .pre .0; grids = s .pre .1 .0; done = s .pre .1 .1; kind = ap kindOf (c .before .match .keys6) } in (
+      span w rideCells (λ g. g .ride) refl refl,
+      (item w rideCells (λ g. g .ride) refl (a .r .a) (a-ok w (a .s .transports) refl), omega (arith, laid w .ranges .visitors, b-ok w (a .s .visitors) refl)),
+    )
 
 take-requires-2 : tie.Need-take-requires-2
 unfolding kindOf
@@ -88,21 +94,27 @@ unfolding kindOf
 turn-requires-3 c κs = let s = c .before .before .before in
     let a = s .args in
     let w : Known (a .s) (a .book .now) (a .g) (a .r) addStanding
-    = record { good = s .pre .0; grids = s .pre .1 .0; done = s .pre .1 .1; kind = ap kindOf (c .before .match .keys8) } in
-    (span w standings (λ g. g .standing) refl refl, item w standings (λ g. g .standing) refl (a .r .a / 32)
-    (group-lt (a .s .meetings) (a .r .a) (a-ok w (a .s .meetings) refl)))
+    = record { good = s .pre .0; grids = s .pre .1 .0; done = s .pre .1 .1; kind = ap kindOf (c .before .match .keys8) } in (
+      span w standings (λ g. g .standing) refl refl,
+      item w standings (λ g. g .standing) refl (a .r .a / 32)
+          (group-lt (a .s .meetings) (a .r .a) (a-ok w (a .s .meetings) refl)),
+    )
 
 end-standing-requires : tie.Need-end-standing-requires
 unfolding kindOf
 end-standing-requires c κs = let s = c .before .before .before in
     let a = s .args in
     let w : Known (a .s) (a .book .now) (a .g) (a .r) endStanding
-    = record { good = s .pre .0; grids = s .pre .1 .0; done = s .pre .1 .1; kind = ap kindOf (c .before .match .keys9) } in
-    (
+    = record { good = s .pre .0; grids = s .pre .1 .0; done = s .pre .1 .1; kind = ap kindOf (c .before .match .keys9) } in (
       span w standings (λ g. g .standing) refl refl,
-      (span w attendCells (λ g. g .attend) refl refl,
-      (item w standings (λ g. g .standing) refl (a .r .a / 32) (group-lt (a .s .meetings) (a .r .a) (a-ok w (a .s .meetings) refl)), omega
-      (arith, laid w .ranges .meetings, a-ok w (a .s .meetings) refl))),
+      (
+        span w attendCells (λ g. g .attend) refl refl,
+        (
+          item w standings (λ g. g .standing) refl (a .r .a / 32) (group-lt (a .s .meetings) (a .r .a) (a-ok w (a .s .meetings) refl)),
+          omega
+              (arith, laid w .ranges .meetings, a-ok w (a .s .meetings) refl),
+        ),
+      ),
     )
 
 add-requires-3 : tie.Need-add-requires-3
@@ -110,9 +122,10 @@ unfolding kindOf
 add-requires-3 c κs = let s = c .before .before .before in
     let a = s .args in
     let w : Known (a .s) (a .book .now) (a .g) (a .r) addAttend
-    = record { good = s .pre .0; grids = s .pre .1 .0; done = s .pre .1 .1; kind = ap kindOf (c .before .match .keys10) } in
-    (span w attendCells (λ g. g .attend) refl refl,
-    (item w attendCells (λ g. g .attend) refl (a .r .b) (b-ok w (a .s .visitors) refl), omega (arith, laid w .ranges .meetings, a-ok w (a .s .meetings) refl)))
+    = record { good = s .pre .0; grids = s .pre .1 .0; done = s .pre .1 .1; kind = ap kindOf (c .before .match .keys10) } in (
+      span w attendCells (λ g. g .attend) refl refl,
+      (item w attendCells (λ g. g .attend) refl (a .r .b) (b-ok w (a .s .visitors) refl), omega (arith, laid w .ranges .meetings, a-ok w (a .s .meetings) refl)),
+    )
 
 take-requires-3 : tie.Need-take-requires-3
 unfolding kindOf
@@ -127,9 +140,10 @@ unfolding kindOf
 add-requires-4 c κs = let s = c .before .before .before in
     let a = s .args in
     let w : Known (a .s) (a .book .now) (a .g) (a .r) addConf
-    = record { good = s .pre .0; grids = s .pre .1 .0; done = s .pre .1 .1; kind = ap kindOf (c .before .match .keys12) } in
-    (span w confPairs (λ g. g .conf) refl refl,
-    (item w confPairs (λ g. g .conf) refl (a .r .a) (a-ok w (a .s .rooms) refl), omega (arith, laid w .ranges .meetings, b-ok w (a .s .meetings) refl)))
+    = record { good = s .pre .0; grids = s .pre .1 .0; done = s .pre .1 .1; kind = ap kindOf (c .before .match .keys12) } in (
+      span w confPairs (λ g. g .conf) refl refl,
+      (item w confPairs (λ g. g .conf) refl (a .r .a) (a-ok w (a .s .rooms) refl), omega (arith, laid w .ranges .meetings, b-ok w (a .s .meetings) refl)),
+    )
 
 drop-requires : tie.Need-drop-requires
 unfolding kindOf
@@ -144,9 +158,10 @@ unfolding kindOf
 add-requires-5 c κs = let s = c .before .before .before in
     let a = s .args in
     let w : Known (a .s) (a .book .now) (a .g) (a .r) addLunch
-    = record { good = s .pre .0; grids = s .pre .1 .0; done = s .pre .1 .1; kind = ap kindOf (c .before .match .keys14) } in
-    (span w lunchTriples (λ g. g .lunch) refl refl,
-    (item w lunchTriples (λ g. g .lunch) refl (a .r .b) (b-ok w (a .s .meetings) refl), omega (arith, laid w .ranges .dining, a-ok w (a .s .dining) refl)))
+    = record { good = s .pre .0; grids = s .pre .1 .0; done = s .pre .1 .1; kind = ap kindOf (c .before .match .keys14) } in (
+      span w lunchTriples (λ g. g .lunch) refl refl,
+      (item w lunchTriples (λ g. g .lunch) refl (a .r .b) (b-ok w (a .s .meetings) refl), omega (arith, laid w .ranges .dining, a-ok w (a .s .dining) refl)),
+    )
 
 take-requires-4 : tie.Need-take-requires-4
 unfolding kindOf

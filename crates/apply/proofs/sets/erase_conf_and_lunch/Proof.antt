@@ -25,7 +25,7 @@ drop-requires c κs = let s = c .before .before in
     let a = s .args in
     let e = ap (λ (g : Grids). g .conf) (s .pre .1 .0) in (
       span-of (a .s) (a .book .now) (s .pre .0) confPairs (a .g .conf) e (length (a .book .now)) (a .last) refl
-      (last-of (a .s) (a .g .conf) e (a .last) (s .pre .1 .1 .0)),
+          (last-of (a .s) (a .g .conf) e (a .last) (s .pre .1 .1 .0)),
       omega (arith, s .pre .0 .ranges .meetings, s .pre .1 .1 .1),
     )
 
