@@ -79,11 +79,13 @@ fn not_held(book: &[u32], s: Settings, g: Grids, session: u32, meeting: u32) -> 
     requires { ⌜ meeting < s .meetings ⌝ }
     ensures { λ r. ⌜ r ≡ notHeld s (stateOf (now (book .entry))) session meeting ⌝ }
 {
-    if conf_held(book, s, g, session, meeting) {
+    let date = date_of_session(s, Session(session));
+    let lunch = lunch_held(book, s, g, date.0, meeting);
+    let conf = conf_held(book, s, g, session, meeting);
+    if conf {
         return false;
     }
-    let date = date_of_session(s, Session(session));
-    !lunch_held(book, s, g, date.0, meeting)
+    !lunch
 }
 
 fn holds(book: &[u32], s: Settings, g: Grids, t: Test, who: u32, n: u32, slot: u32) -> bool

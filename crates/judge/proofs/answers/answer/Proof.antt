@@ -25,7 +25,7 @@ settled-requires c κs = search needs
 
 bookings-requires : tie.Need-bookings-requires
 unfolding kindOf
-bookings-requires c κs = let p = c .before .before .pre in let h = ready-at 3 (c .match .keys3) (p .1 .1 .1 .1) in (p .0, (p .1 .0, (h .b, (h .order, h .slot))))
+bookings-requires c κs = let p = c .before .before .pre in let h = ready-at 3 (c .match .keys3) (p .1 .1 .1 .1) in (p .0, (p .1 .0, (h .b, (omega (arith, h .order), omega (arith, h .order, h .slot)))))
 
 add-stay-requires : tie.Need-add-stay-requires
 unfolding kindOf
@@ -37,7 +37,7 @@ add-erase c = let p = c .before .before .before .pre in let h = ready-at 5 (c .b
 
 erase-requires : tie.Need-erase-requires
 unfolding kindOf
-erase-requires c κs = let p = c .before .before .before .pre in let h = ready-at 5 (c .before .match .keys5) (p .1 .1 .1 .1) in ground (p .0) hotelCells (ap (λ (g : Grids). g .hotel) (p .1 .0)) (h .slot) (h .a)
+erase-requires c κs = let p = c .before .before .before .pre in let h = ready-at 5 (c .before .match .keys5) (p .1 .1 .1 .1) in ground (p .0) hotelCells (ap (λ (g : Grids). g .hotel) (p .1 .0)) (omega (arith, h .order, h .slot)) (h .a)
 
 add-stay-requires-2 : tie.Need-add-stay-requires-2
 unfolding kindOf
@@ -49,7 +49,7 @@ add-erase-2 c = let p = c .before .before .before .pre in let h = ready-at 7 (c 
 
 erase-requires-2 : tie.Need-erase-requires-2
 unfolding kindOf
-erase-requires-2 c κs = let p = c .before .before .before .pre in let h = ready-at 7 (c .before .match .keys7) (p .1 .1 .1 .1) in ground (p .0) rideCells (ap (λ (g : Grids). g .ride) (p .1 .0)) (h .slot) (h .a)
+erase-requires-2 c κs = let p = c .before .before .before .pre in let h = ready-at 7 (c .before .match .keys7) (p .1 .1 .1 .1) in ground (p .0) rideCells (ap (λ (g : Grids). g .ride) (p .1 .0)) (omega (arith, h .order, h .slot)) (h .a)
 
 end-standing-requires : tie.Need-end-standing-requires
 unfolding kindOf
@@ -65,7 +65,7 @@ add-erase-3 c = let p = c .before .before .before .pre in let h = ready-at 11 (c
 
 erase-requires-3 : tie.Need-erase-requires-3
 unfolding kindOf
-erase-requires-3 c κs = let p = c .before .before .before .pre in let h = ready-at 11 (c .before .match .keys11) (p .1 .1 .1 .1) in ground (p .0) attendCells (ap (λ (g : Grids). g .attend) (p .1 .0)) (h .slot) (h .b)
+erase-requires-3 c κs = let p = c .before .before .before .pre in let h = ready-at 11 (c .before .match .keys11) (p .1 .1 .1 .1) in ground (p .0) attendCells (ap (λ (g : Grids). g .attend) (p .1 .0)) (omega (arith, h .order, h .slot)) (h .b)
 
 add-conf-requires : tie.Need-add-conf-requires
 unfolding kindOf
@@ -88,7 +88,7 @@ add-erase-4 c = let p = c .before .before .before .pre in let h = ready-at 15 (c
 
 erase-requires-4 : tie.Need-erase-requires-4
 unfolding kindOf
-erase-requires-4 c κs = let p = c .before .before .before .pre in let h = ready-at 15 (c .before .match .keys15) (p .1 .1 .1 .1) in ground (p .0) lunchTriples (ap (λ (g : Grids). g .lunch) (p .1 .0)) (h .slot) (h .b)
+erase-requires-4 c κs = let p = c .before .before .before .pre in let h = ready-at 15 (c .before .match .keys15) (p .1 .1 .1 .1) in ground (p .0) lunchTriples (ap (λ (g : Grids). g .lunch) (p .1 .0)) (omega (arith, h .order, h .slot)) (h .b)
 
 erase-all-requires : tie.Need-erase-all-requires
 unfolding kindOf
@@ -111,7 +111,7 @@ seats-left-requires c κs = let p = c .before .before .pre in let h = ready-at 1
 
 lowest-free-requires : tie.Need-lowest-free-requires
 unfolding kindOf
-lowest-free-requires c κs = let p = c .before .before .pre in let h = ready-at 20 (last-kind _ 19 (c .before .before .pre .1 .1 .0) (c .before .before .pre .1 .1 .1 .0) (c .match .rest)) (p .1 .1 .1 .1) in (p .0, (p .1 .0, (h .order, h .slot)))
+lowest-free-requires c κs = let p = c .before .before .pre in let h = ready-at 20 (last-kind _ 19 (c .before .before .pre .1 .1 .0) (c .before .before .pre .1 .1 .1 .0) (c .match .rest)) (p .1 .1 .1 .1) in (p .0, (p .1 .0, (omega (arith, h .order), h .slot)))
 
 found-or-requires-2 : tie.Need-found-or-requires-2
 found-or-requires-2 c κs = search needs
