@@ -20,6 +20,10 @@ fn main() {
     let largest = full_book(&mut rng, &sites::largest(), 50);
     let medium = full_book(&mut rng, &sites::medium(90), 50);
     table::head();
+    if std::env::args().any(|word| word == "kinds") {
+        steps::by_kinds("medium site", &medium);
+        return;
+    }
     checks::fresh(&sites::largest());
     checks::half_full(&largest);
     steps::measure("medium site, half full", &medium, 20_000);

@@ -82,6 +82,20 @@ fn one_request(name: &str, book: &[u32], requests: &[[u32; 7]]) {
     row(&format!("request, {name}"), proved, plain, micro, "one request with its check");
 }
 
+/// The steps of each kind alone: the requests of that kind out of the load, on the same book.
+pub fn by_kinds(name: &str, book: &[u32]) {
+    let settings = Settings::of_book(book).expect("a full book");
+    let requests = load(&settings, 100_000);
+    for kind in 1..=20 {
+        let of_kind: Vec<u32> = requests.iter().filter(|request| request[0] == kind).flatten().copied().collect();
+        let m = list_times(book, &of_kind);
+        let count = of_kind.len() / 7;
+        let each = |time: f64| format!("{:.0} ns", time / count as f64 * 1e9);
+        let (proved, plain) = (m.proved - m.proved_check, m.plain - m.plain_check);
+        row(&format!("steps, kind {kind}, {name}"), proved, plain, each, &format!("{count} requests"));
+    }
+}
+
 /// Two books that differ only in D, with the same requests, all on the dates that both have.
 pub fn by_dates() {
     let few = medium(90);

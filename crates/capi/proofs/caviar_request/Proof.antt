@@ -22,7 +22,7 @@ same-length c = search needs
 returns : tie.Need-returns
 returns c =
     let c1 = c .before .before .before in
-    let e = c1 .request .ensures ∙ ap (call _) (c1 .before .asked .ensures) in
+    let e = c1 .request .ensures .0 ∙ ap (call _) (c1 .before .asked .ensures) in
     record { answer = c .told .ensures ∙ ap (λ x. answerWords (x .answer)) e; book = ap (λ x. x .book) e }
 
 pub caviar-request-spec : {M : Type 1} → statement M
