@@ -1,0 +1,4 @@
+// Lines: hexadecimal, frame lines, the settings line, answer lines, and the stream of chunks.
+pub fn one() -> u32 {
+    1
+}
