@@ -1,4 +1,2 @@
 // Lines: hexadecimal, frame lines, the settings line, answer lines, and the stream of chunks.
-pub fn one() -> u32 {
-    1
-}
+pub mod hex;
