@@ -24,7 +24,7 @@ some-of true t x y = refl
 some-of false true x y = refl
 some-of false false x y = refl
 
-within-is : (a z b : ℕ) → within a z b ≡ true → (a ≤ b) × (b ≤ z)
+pub within-is : (a z b : ℕ) → within a z b ≡ true → (a ≤ b) × (b ≤ z)
 within-is a z b h = (leb-true a b (and-left (leb a b) _ h), leb-true b z (and-right (leb a b) _ h))
 
 -- the value of a digit is below 16, and one formula gives it for both kinds of digits

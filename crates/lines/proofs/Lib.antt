@@ -1,3 +1,4 @@
 pub mod Whole
 pub mod Hexes
 pub mod Puts
+pub mod Trips
