@@ -2,3 +2,4 @@ pub mod Whole
 pub mod Hexes
 pub mod Puts
 pub mod Trips
+pub mod Framing

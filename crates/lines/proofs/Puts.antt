@@ -40,3 +40,7 @@ put-more {out₀} {out} {at} bytes i h room p =
 
 pub put-all : {out₀ out : List ℕ} {at : ℕ} (bytes : List ℕ) (i : ℕ) → i ≡ length bytes → Put out₀ out at (take i bytes) → Put out₀ out at bytes
 put-all {out₀} {out} {at} bytes i e p = rw (e, take-length bytes) at p
+
+-- the bytes by another name
+pub put-as : {a b : List ℕ} {at : ℕ} {xs ys : List ℕ} → xs ≡ ys → Put a b at xs → Put a b at ys
+put-as {a} {b} {at} e p = rw e at p

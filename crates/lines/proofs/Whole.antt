@@ -15,14 +15,14 @@ use Rattle.model.specs.Bounded.{every, isSome}
 use Rattle.model.specs.Site.{settingsLength, validSettings}
 use Rattle.model.proofs.Search.{and-left, and-right}
 use Rattle.model.proofs.ReadBack.{valid-is}
-use Rattle.model.proofs.Places.{length-list}
 use Rattle.model.specs.State.{State, emptyState}
 use Rattle.model.specs.Machine.{Outcome}
 use Rattle.model.specs.Words.{bookLength}
 use Rattle.model.specs.Reading.{settingsOf}
 use Rattle.model.specs.Calls.{settingsGood}
 use Rattle.model.specs.declared.Answer.the-variants.{Refused}
-use Rattle.model.specs.Lines.{digitValue, shown, wholeWords, lineWords, longer as longerLine, linesOf, isFrame, answerLine, lineOutcome, answerLines, programWords, output, frames}
+use Rattle.model.specs.Lines.{digitValue, wholeWords, lineWords, longer as longerLine, linesOf, isFrame, answerLine, lineOutcome, answerLines, programWords, output, frames}
+use Rattle.lines.proofs.Framing.{words-length}
 use Rattle.lines.specs.Stream.{kept, Point, opening, later, over, Turn, silent, behind, opened, told, ended, longer, byte, run, closed, fed, joined}
 
 -- bytes without a byte 10
@@ -60,10 +60,6 @@ not-so false h = refl
 frame-short : (l : List ℕ) → isFrame l ≡ true → length l ≡ 56
 unfolding isFrame
 frame-short l h = eqb-true (length l) 56 (and-right (wholeWords l) _ h)
-
-words-length : (l : List ℕ) → length (lineWords l) ≡ length l / 8
-unfolding lineWords
-words-length l = length-list (λ k. shown (take 8 (drop (8 * k) l))) (length l / 8)
 
 settings-short : (l : List ℕ) → wholeWords l && settingsGood (lineWords l) ≡ true → length l ≤ 200
 unfolding settingsGood

@@ -1,2 +1,3 @@
 // Lines: hexadecimal, frame lines, the settings line, answer lines, and the stream of chunks.
 pub mod hex;
+pub mod line;
