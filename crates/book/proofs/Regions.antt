@@ -1,0 +1,122 @@
+-- The regions as grids: each starts where the one before ends, all lie in the book, and their numbers are small.
+-- Assumes nothing.
+use Prim.Native.Nat.{ℕ, suc, _+_, _*_, _/_, _-_, _≤_, _<_}
+use native.Mathlib.Nat.{mul-le-mul, div-lt-iff-lt-mul}
+use Rattle.book.specs.declared.units.Slot.{Slot}
+use Rattle.book.specs.declared.units.Slot.the-variants.{Dates, Sessions, Times}
+use Rattle.model.specs.Kinds.{slotsOf, dateOf}
+use native.Mathlib.Omega.{arith}
+use mathlib.Core.Path.{_≡_, refl, sym, _∙_, ap}
+use mathlib.Core.List.{List}
+use lib.ListN.{length}
+use Rattle.book.specs.declared.grid.Grid.{Grid}
+use Rattle.book.specs.Grids.{Fits, Small, end}
+use Rattle.book.specs.Grids.{gridOf, Laid}
+use Rattle.book.specs.Units.{unitOf}
+use Rattle.model.specs.declared.Settings.{Settings}
+use Rattle.book.specs.Ranges.{Ranges}
+use Rattle.model.specs.Site.{allSessions, allTimes}
+use Rattle.model.specs.Words.{Region, leaves, hotelCells, standings, attendCells, confPairs, lunchTriples, rideCells}
+use Rattle.model.specs.Words.{base, slots, items, width, size, bookLength, total, before, order}
+
+pub all-sessions : (S : Settings) → Ranges S → allSessions S ≤ 6400
+all-sessions S h = mul-le-mul {n₂ = 400} {m₂ = 16} (h .dates .1) (h .sessions .1)
+
+pub all-times : (S : Settings) → Ranges S → allTimes S ≤ 38400
+all-times S h = mul-le-mul {n₂ = 400} {m₂ = 96} (h .dates .1) (h .times .1)
+
+slots-le : (S : Settings) → Ranges S → (g : Region) → slots S g ≤ 38400
+slots-le S h leaves = omega (arith, h .dates)
+slots-le S h hotelCells = omega (arith, h .dates)
+slots-le S h standings = omega (arith, all-sessions S h)
+slots-le S h attendCells = omega (arith, all-sessions S h)
+slots-le S h confPairs = omega (arith, all-sessions S h)
+slots-le S h lunchTriples = omega (arith, h .dates)
+slots-le S h rideCells = omega (arith, all-times S h)
+
+items-le : (S : Settings) → Ranges S → (g : Region) → items S g ≤ 512
+items-le S h leaves = omega (arith, h .visitors)
+items-le S h hotelCells = omega (arith, h .hotels)
+items-le S h standings = omega (arith, h .meetings)
+items-le S h attendCells = omega (arith, h .visitors)
+items-le S h confPairs = omega (arith, h .rooms)
+items-le S h lunchTriples = omega (arith, h .meetings)
+items-le S h rideCells = omega (arith, h .transports)
+
+width-le : (g : Region) → (1 ≤ width g) × (width g ≤ 3)
+width-le leaves = (omega arith, omega arith)
+width-le hotelCells = (omega arith, omega arith)
+width-le standings = (omega arith, omega arith)
+width-le attendCells = (omega arith, omega arith)
+width-le confPairs = (omega arith, omega arith)
+width-le lunchTriples = (omega arith, omega arith)
+width-le rideCells = (omega arith, omega arith)
+
+size-le : (S : Settings) → Ranges S → (g : Region) → size S g ≤ 58982400
+unfolding size
+size-le S h g = mul-le-mul {n₂ = 19660800} {m₂ = 3} (mul-le-mul {n₂ = 38400} {m₂ = 512} (slots-le S h g) (items-le S h g)) (width-le g .1)
+
+pub book-le : (S : Settings) → Ranges S → bookLength S ≤ 1000000000
+unfolding bookLength
+book-le S h =
+    omega (arith, h .dining, size-le S h leaves, size-le S h hotelCells, size-le S h standings, size-le S h attendCells, size-le S h confPairs, size-le S h lunchTriples, size-le S h rideCells)
+
+-- a region ends where the next begins, and the last where the book ends
+end-le : (S : Settings) (g : Region) → base S g + size S g ≤ bookLength S
+unfolding base bookLength
+end-le S leaves = omega arith
+end-le S hotelCells = omega arith
+end-le S standings = omega arith
+end-le S attendCells = omega arith
+end-le S confPairs = omega arith
+end-le S lunchTriples = omega arith
+end-le S rideCells = omega arith
+
+pub base-next : (S : Settings) → (base S hotelCells ≡ end (gridOf S leaves)) × (base S standings ≡ end (gridOf S hotelCells)) × (base S attendCells ≡ end (gridOf S standings))
+    × (base S confPairs ≡ end (gridOf S attendCells)) × (base S lunchTriples ≡ end (gridOf S confPairs)) × (base S rideCells ≡ end (gridOf S lunchTriples))
+unfolding base size
+base-next S = (omega arith, omega arith, omega arith, omega arith, omega arith, omega arith)
+
+pub small : (S : Settings) → Ranges S → (g : Region) → Small (gridOf S g)
+small S h g =
+    record {
+      base = omega (arith, base-le);
+      slots = slots-le S h g;
+      items = items-le S h g;
+      width = width-le g .1;
+    }
+  where
+    base-le : base S g ≤ 1000000000
+    base-le = omega (arith, end-le S g, book-le S h)
+
+pub fits : (S : Settings) (b : List ℕ) → Laid S b → (g : Region) → Fits (gridOf S g) (length b)
+unfolding size
+fits S b l g =
+    record {
+      ends = omega (arith, end-le S g, l .long);
+      small = omega (arith, l .long, book-le S (l .ranges));
+      wide = width-le g .0;
+    }
+
+-- a grid with the numbers of a region
+pub grid-by : (S : Settings) (g : Region) (n : ℕ) → n ≡ base S g → _≡_ {A = Grid} (record { base = n; slots = slots S g; items = items S g; width = width g }) (gridOf S g)
+grid-by S g n e = ap (λ (n : ℕ). record { base = n; slots = slots S g; items = items S g; width = width g }) e
+
+-- the date of a slot is a date, and the word of a visitor a word of the row
+pub date-lt : (S : Settings) → Ranges S → (u : Slot) (i : ℕ) → i < slotsOf S (unitOf u) → dateOf S (unitOf u) i < S .dates
+date-lt S h Dates i l = l
+date-lt S h Sessions i l = div-lt-iff-lt-mul {k = S .sessions} (h .sessions .0) .1 l
+date-lt S h Times i l = div-lt-iff-lt-mul {k = S .times} (h .times .0) .1 l
+
+pub group-lt : (n v : ℕ) → v < n → v / 32 < (n + 31) / 32
+group-lt n v h = omega (arith, h)
+
+pub product3 : (g : Grid) → Small g → (g .slots * g .items ≤ 19660800) × (g .slots * g .items * g .width ≤ 58982400)
+product3 g s =
+    let a : g .slots * g .items ≤ 19660800 = mul-le-mul {n₂ = 38400} {m₂ = 512} (s .slots) (s .items) in
+    (a, mul-le-mul {n₂ = 19660800} {m₂ = 3} a (s .width))
+
+pub unit-le : (S : Settings) → Ranges S → (u : Slot) → slotsOf S (unitOf u) ≤ 38400
+unit-le S h Dates = omega (arith, h .dates)
+unit-le S h Sessions = omega (arith, all-sessions S h)
+unit-le S h Times = omega (arith, all-times S h)

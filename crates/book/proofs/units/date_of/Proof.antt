@@ -1,0 +1,41 @@
+use mathlib.Core.Path.{_≡_, refl, sym, _∙_, ap}
+use borrow.Author.Needs.{needs}
+use Rattle.book.proofs.units.date_of.Statement.{statement}
+use Rattle.book.proofs.units.date_of.Tie as tie
+
+enum-told : tie.Need-enum-told
+enum-told c = search needs
+
+enum-told-2 : tie.Need-enum-told-2
+enum-told-2 c = search needs
+
+date-of-session-requires : tie.Need-date-of-session-requires
+date-of-session-requires c κs = search needs
+
+enum-told-3 : tie.Need-enum-told-3
+enum-told-3 c = search needs
+
+date-of-time-requires : tie.Need-date-of-time-requires
+date-of-time-requires c κs = search needs
+
+returns : tie.Need-returns
+returns c = search needs
+
+returns-2 : tie.Need-returns-2
+returns-2 c = rw (c .before .enum-told2 .given .1) (c .date-of-session .ensures)
+
+returns-3 : tie.Need-returns-3
+returns-3 c = rw (c .before .enum-told3 .given .1) (c .date-of-time .ensures)
+
+pub date-of-spec : {M : Type 1} → statement M
+date-of-spec =
+    tie.close
+    (tie.spec
+    enum-told
+    enum-told-2
+    date-of-session-requires
+    enum-told-3
+    date-of-time-requires
+    returns
+    returns-2
+    returns-3)

@@ -1,0 +1,18 @@
+-- The units of slots, and the slots of a run of dates.
+-- Assumes nothing.
+use Prim.Native.Nat.{ℕ, _≤_, _<_}
+use Rattle.book.specs.declared.units.Slot.{Slot}
+use Rattle.book.specs.declared.units.Slot.the-variants.{Dates, Sessions, Times}
+use Rattle.model.specs.declared.Settings.{Settings}
+use Rattle.model.specs.Kinds.{Unit, dates, sessions, times, dateOf, slotsOf}
+
+abbrev pub unitOf : Slot → Unit
+unitOf Dates = dates
+unitOf Sessions = sessions
+unitOf Times = times
+
+-- r parts the slots of a unit: those before date d, and those from d on
+pub record Cut (S : Settings) (u : Slot) (d r : ℕ) : Type 0 where
+  pub most : r ≤ slotsOf S (unitOf u)
+  pub before : (i : ℕ) → i < r → dateOf S (unitOf u) i < d
+  pub after : (i : ℕ) → r ≤ i → i < slotsOf S (unitOf u) → d ≤ dateOf S (unitOf u) i

@@ -1,0 +1,99 @@
+//! Calls on a raw book, which may hold any words: questions 1 and 2, checking, laying (24, 25),
+//! one request, a list of requests, and laying with a list.
+
+use super::laws::broken;
+use super::{length, read, words};
+use crate::machine::{step, Answer, Request, Settings, State};
+
+fn refused(number: u32) -> Answer {
+    Answer::Refused { number, place: 0 }
+}
+
+/// 1. "Is the book at least 9 words, are limits and capacities in range, and is its length as
+///    laid out below?" The settings, or None for no.
+pub fn question_1(book: &[u32]) -> Option<Settings> {
+    let settings = Settings::of_book(book)?;
+    if length(&settings) == book.len() as u64 {
+        Some(settings)
+    } else {
+        None
+    }
+}
+
+/// Questions 1 and 2: the state that the book shows, or the refusal.
+pub fn open(book: &[u32]) -> Result<State, Answer> {
+    let settings = question_1(book).ok_or(refused(1))?;
+    if broken(settings.clone(), book).is_empty() {
+        Ok(read(settings, book).state)
+    } else {
+        Err(refused(2))
+    }
+}
+
+/// "Checking asks questions 1 and 2 alone and is done with value 0."
+pub fn check(book: &[u32]) -> Answer {
+    match open(book) {
+        Ok(_) => Answer::Done(0),
+        Err(refusal) => refusal,
+    }
+}
+
+/// "Refused, it keeps the book; done, it writes the settings, then zeros."
+pub fn lay(settings_words: &[u32], book: &mut [u32]) -> Answer {
+    let Some(settings) = Settings::from_words(settings_words) else { return refused(24) };
+    if length(&settings) != book.len() as u64 {
+        return refused(25);
+    }
+    book.fill(0);
+    book[..settings_words.len()].copy_from_slice(settings_words);
+    Answer::Done(0)
+}
+
+/// One request on a raw book: questions 1 and 2, then the machine's step from the state shown.
+pub fn request(book: &mut [u32], request: &Request) -> Answer {
+    match open(book) {
+        Err(refusal) => refusal,
+        Ok(mut state) => {
+            let answer = step(&mut state, request);
+            book.copy_from_slice(&words(&state));
+            answer
+        }
+    }
+}
+
+/// A list of requests, seven words each: min(list / 7, answers / 3) of them are answered in three
+/// words each. Done with that number; a book that 1 or 2 refuses gives that refusal alone.
+pub fn requests(book: &mut [u32], list: &[u32], answers: &mut [u32]) -> Answer {
+    match open(book) {
+        Err(refusal) => refusal,
+        Ok(mut state) => {
+            let done = answer_list(&mut state, list, answers);
+            book.copy_from_slice(&words(&state));
+            Answer::Done(done)
+        }
+    }
+}
+
+/// Lays the book and answers the list from fresh. A refused laying answers nothing.
+pub fn serve(settings: &[u32], book: &mut [u32], list: &[u32], answers: &mut [u32]) -> Answer {
+    match lay(settings, book) {
+        Answer::Done(_) => requests(book, list, answers),
+        refusal => refusal,
+    }
+}
+
+fn answer_list(state: &mut State, list: &[u32], answers: &mut [u32]) -> u32 {
+    let mut count = 0;
+    for (asked, answer) in list.chunks_exact(7).zip(answers.chunks_exact_mut(3)) {
+        let mut seven = [0; 7];
+        seven.copy_from_slice(asked);
+        answer.copy_from_slice(&step(state, &Request::from_words(seven)).words());
+        count += 1;
+    }
+    count
+}
+
+/// The words that the settings need; 0 for settings that 24 refuses.
+pub fn book_len(settings_words: &[u32]) -> u64 {
+    Settings::from_words(settings_words).map_or(0, |settings| length(&settings))
+}

@@ -1,0 +1,103 @@
+//! "Words of the book": the words that a state gives, and how many a site needs.
+
+pub mod calls;
+pub mod laws;
+pub mod reading;
+pub mod regions;
+
+use crate::machine::{Date, Session, Settings, State};
+use std::collections::BTreeMap;
+
+pub use calls::{book_len, check, lay, request, requests, serve};
+pub use laws::{broken, laws_broken, Rule};
+pub use reading::{read, shown};
+
+/// How many words the bits of a pool of members take: "32 to a word".
+pub fn pool_words(members: u32) -> u32 {
+    members.div_ceil(32)
+}
+
+/// The needed length of a site's book, region by region in the paper's order.
+pub fn length(settings: &Settings) -> u64 {
+    regions::regions(settings).iter().fold(settings.word_count() as u64, |sum, region| sum + region.length())
+}
+
+/// The words that "Words of the book" gives for the state.
+pub fn words(state: &State) -> Vec<u32> {
+    let s = &state.settings;
+    let mut out = s.words();
+    for date in dates(s) {
+        out.extend(bits(s.visitors, |visitor| state.leave.contains(&(date, visitor))));
+    }
+    for date in dates(s) {
+        out.extend((0..s.hotel_rooms).map(|room| hotel_cell(state, date, room)));
+    }
+    for session in sessions(s) {
+        out.extend(bits(s.meetings, |meeting| state.standing.contains(&(session, meeting))));
+    }
+    for session in sessions(s) {
+        out.extend(attend_cells(state, session));
+    }
+    for session in sessions(s) {
+        out.extend((0..s.conference_rooms).flat_map(|room| conf_pair(state, session, room)));
+    }
+    for date in dates(s) {
+        out.extend(lunch_triples(state, date));
+    }
+    for time in 0..s.times() {
+        out.extend((0..s.transports).map(|transport| ride_cell(state, time, transport)));
+    }
+    out
+}
+
+fn dates(s: &Settings) -> impl Iterator<Item = Date> {
+    (0..s.dates).map(Date)
+}
+
+fn sessions(s: &Settings) -> impl Iterator<Item = Session> {
+    (0..s.sessions()).map(Session)
+}
+
+/// "one bit a visitor, 32 to a word, visitor 0 lowest"; bits of no member stay 0.
+fn bits(members: u32, holds: impl Fn(u32) -> bool) -> Vec<u32> {
+    let mut row = vec![0u32; pool_words(members) as usize];
+    for member in (0..members).filter(|member| holds(*member)) {
+        row[(member / 32) as usize] += 1 << (member % 32);
+    }
+    row
+}
+
+/// "A hotel or ride cell holds the visitor plus 1, or 0 for none."
+fn hotel_cell(state: &State, date: Date, room: u32) -> u32 {
+    let mut of_room = state.hotel.range((date, room, 0)..=(date, room, u32::MAX));
+    of_room.next().map_or(0, |(_, _, visitor)| visitor + 1)
+}
+
+fn ride_cell(state: &State, time: u32, transport: u32) -> u32 {
+    let time = crate::machine::Time(time);
+    let mut of_transport = state.ride.range((time, transport, 0)..=(time, transport, u32::MAX));
+    of_transport.next().map_or(0, |(_, _, visitor)| visitor + 1)
+}
+
+/// "attend cells (session, visitor)": the meeting plus 1.
+fn attend_cells(state: &State, session: Session) -> Vec<u32> {
+    let entries = state.attend.range((session, 0, 0)..=(session, u32::MAX, u32::MAX));
+    let meeting_of: BTreeMap<u32, u32> = entries.map(|(_, meeting, visitor)| (*visitor, *meeting)).collect();
+    let cell = |visitor| meeting_of.get(&visitor).map_or(0, |meeting| meeting + 1);
+    (0..state.settings.visitors).map(cell).collect()
+}
+
+/// "conf pairs (session, room)": the meeting plus 1, then info.
+fn conf_pair(state: &State, session: Session, room: u32) -> [u32; 2] {
+    let mut of_room = state.conf.range((session, room, 0)..=(session, room, u32::MAX));
+    of_room.next().map_or([0, 0], |((_, _, meeting), info)| [meeting + 1, *info])
+}
+
+/// "lunch triples (date, meeting)": the dining room plus 1, then seats, then info.
+fn lunch_triples(state: &State, date: Date) -> Vec<u32> {
+    let entries = state.lunch.range((date, 0, 0)..=(date, u32::MAX, u32::MAX));
+    let lunch_of: BTreeMap<u32, [u32; 3]> =
+        entries.map(|((_, room, meeting), (seats, info))| (*meeting, [room + 1, *seats, *info])).collect();
+    let triple = |meeting| lunch_of.get(&meeting).copied().unwrap_or([0, 0, 0]);
+    (0..state.settings.meetings).flat_map(triple).collect()
+}

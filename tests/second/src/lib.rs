@@ -1,0 +1,13 @@
+//! The second program: the booking book written a second time, straight from the paper, with sets
+//! of tuples. It shares nothing with the engine. It is slow and plain on purpose: each function
+//! can be held beside the sentence of the paper that it copies.
+//!
+//! - `machine`: the diary machine, its questions 3 to 22 and its changes
+//! - `book`: the words of a book, reading them back, questions 1 and 2, laying, calls
+//! - `frames`: the line program as a function from bytes to bytes
+//! - `gen`: seeded settings, request lists, damaged books and damaged byte streams
+
+pub mod book;
+pub mod frames;
+pub mod gen;
+pub mod machine;

@@ -1,0 +1,135 @@
+//! "What a site fixes": nine limits, G seat capacities, and the three units.
+
+/// How many limits come before the capacities.
+pub const LIMITS: usize = 9;
+
+/// The greatest value of each limit, in the paper's order D P Q V M C G H K. The least is 1.
+pub const GREATEST: [u32; LIMITS] = [400, 16, 96, 512, 128, 64, 16, 512, 128];
+
+/// A seat capacity is 1..1000.
+pub const GREATEST_CAPACITY: u32 = 1000;
+
+#[derive(Clone, Copy, Debug, PartialEq, Eq, PartialOrd, Ord)]
+pub struct Date(pub u32);
+#[derive(Clone, Copy, Debug, PartialEq, Eq, PartialOrd, Ord)]
+pub struct Session(pub u32);
+#[derive(Clone, Copy, Debug, PartialEq, Eq, PartialOrd, Ord)]
+pub struct Time(pub u32);
+
+/// The settings. "per date" in the names where the paper says so.
+#[derive(Clone, Debug, PartialEq, Eq)]
+pub struct Settings {
+    pub dates: u32,
+    pub sessions_per_date: u32,
+    pub times_per_date: u32,
+    pub visitors: u32,
+    pub meetings: u32,
+    pub conference_rooms: u32,
+    pub dining_rooms: u32,
+    pub hotel_rooms: u32,
+    pub transports: u32,
+    /// One for each dining room.
+    pub capacities: Vec<u32>,
+}
+
+fn in_range(word: u32, greatest: u32) -> bool {
+    1 <= word && word <= greatest
+}
+
+impl Settings {
+    /// Question 24: "Are the settings of length 9 + G with all ranges kept?"
+    pub fn from_words(words: &[u32]) -> Option<Settings> {
+        let limits = words.get(..LIMITS)?;
+        let capacities = &words[LIMITS..];
+        let limits_kept = limits.iter().zip(GREATEST).all(|(word, greatest)| in_range(*word, greatest));
+        let capacities_kept = capacities.iter().all(|word| in_range(*word, GREATEST_CAPACITY));
+        let length_kept = capacities.len() as u64 == u64::from(limits[6]);
+        if !(limits_kept && capacities_kept && length_kept) {
+            return None;
+        }
+        Some(Settings {
+            dates: limits[0],
+            sessions_per_date: limits[1],
+            times_per_date: limits[2],
+            visitors: limits[3],
+            meetings: limits[4],
+            conference_rooms: limits[5],
+            dining_rooms: limits[6],
+            hotel_rooms: limits[7],
+            transports: limits[8],
+            capacities: capacities.to_vec(),
+        })
+    }
+
+    /// The settings at the head of a book that may hold anything.
+    pub fn of_book(book: &[u32]) -> Option<Settings> {
+        let dining_rooms = *book.get(..LIMITS)?.get(6)?;
+        let length = LIMITS as u64 + u64::from(dining_rooms);
+        if length > book.len() as u64 {
+            return None;
+        }
+        Settings::from_words(&book[..length as usize])
+    }
+
+    pub fn limits(&self) -> [u32; LIMITS] {
+        [
+            self.dates,
+            self.sessions_per_date,
+            self.times_per_date,
+            self.visitors,
+            self.meetings,
+            self.conference_rooms,
+            self.dining_rooms,
+            self.hotel_rooms,
+            self.transports,
+        ]
+    }
+
+    /// How many words the settings are: 9 + G.
+    pub fn word_count(&self) -> usize {
+        LIMITS + self.capacities.len()
+    }
+
+    /// The 9 + G numbers.
+    pub fn words(&self) -> Vec<u32> {
+        let mut words = self.limits().to_vec();
+        words.extend(&self.capacities);
+        words
+    }
+
+    pub fn capacity(&self, dining_room: u32) -> u32 {
+        self.capacities[dining_room as usize]
+    }
+
+    /// "sessions below D×P"
+    pub fn sessions(&self) -> u32 {
+        self.dates * self.sessions_per_date
+    }
+
+    /// "times below D×Q"
+    pub fn times(&self) -> u32 {
+        self.dates * self.times_per_date
+    }
+
+    /// "The date of session s is s / P"
+    pub fn date_of_session(&self, session: Session) -> Date {
+        Date(session.0 / self.sessions_per_date)
+    }
+
+    /// "and of time t is t / Q, both rounded down"
+    pub fn date_of_time(&self, time: Time) -> Date {
+        Date(time.0 / self.times_per_date)
+    }
+
+    /// The sessions whose date is this one.
+    pub fn sessions_of(&self, date: Date) -> impl Iterator<Item = Session> {
+        let first = date.0 * self.sessions_per_date;
+        (first..first + self.sessions_per_date).map(Session)
+    }
+
+    /// The times whose date is this one.
+    pub fn times_of(&self, date: Date) -> impl Iterator<Item = Time> {
+        let first = date.0 * self.times_per_date;
+        (first..first + self.times_per_date).map(Time)
+    }
+}

@@ -1,0 +1,126 @@
+//! The paper's own numbers: the example input, the rehearsal, and the two lengths.
+
+use second::book::{book_len, check, lay, words};
+use second::frames::{frames, trace, words_line};
+use second::machine::site::GREATEST;
+use second::machine::{run, step, Answer, Request, Settings, State};
+
+const REHEARSAL_SITE: [u32; 10] = [2, 2, 2, 3, 2, 2, 1, 2, 1, 4];
+
+const REHEARSAL: [([u32; 7], [u32; 3]); 16] = [
+    ([20, 0, 0, 0, 3, 0, 0], [0, 0, 0]),
+    ([4, 0, 1, 0, 1, 0, 0], [9, 0, 0]),
+    ([1, 0, 1, 0, 1, 0, 0], [0, 0, 0]),
+    ([4, 0, 1, 0, 1, 0, 0], [0, 0, 0]),
+    ([4, 0, 1, 0, 1, 0, 0], [11, 0, 0]),
+    ([4, 1, 1, 1, 1, 0, 0], [13, 1, 0]),
+    ([1, 0, 2, 1, 1, 0, 0], [0, 0, 0]),
+    ([4, 0, 2, 1, 1, 0, 0], [12, 1, 0]),
+    ([8, 0, 0, 1, 2, 0, 0], [0, 0, 0]),
+    ([10, 0, 2, 1, 2, 0, 0], [9, 1, 0]),
+    ([10, 0, 1, 1, 2, 0, 0], [0, 0, 0]),
+    ([14, 0, 0, 0, 0, 4, 7], [0, 0, 0]),
+    ([9, 0, 0, 1, 2, 0, 0], [19, 1, 0]),
+    ([2, 0, 1, 0, 1, 0, 0], [18, 0, 0]),
+    ([3, 0, 1, 0, 1, 0, 0], [0, 0, 4]),
+    ([9, 0, 0, 2, 2, 0, 0], [20, 2, 0]),
+];
+
+const EXAMPLE_IN: &[u8] = b"\
+00000002000000020000000200000003000000020000000200000001000000020000000100000004
+00000001000000000000000100000000000000010000000000000000
+zz
+";
+
+const EXAMPLE_OUT: &[u8] = b"\
+000000000000000000000000
+000000170000000000000000
+";
+
+fn rehearsal_state() -> State {
+    State::empty(Settings::from_words(&REHEARSAL_SITE).expect("the paper's settings"))
+}
+
+#[test]
+fn the_example_input_gives_the_example_output() {
+    assert_eq!(frames(EXAMPLE_IN), EXAMPLE_OUT);
+    let without_last_end = &EXAMPLE_IN[..EXAMPLE_IN.len() - 1];
+    assert_eq!(frames(without_last_end), EXAMPLE_OUT);
+}
+
+#[test]
+fn the_trace_shows_the_book_after_each_answer() {
+    let out = trace(EXAMPLE_IN);
+    let lines: Vec<&[u8]> = second::frames::lines(&out);
+    assert_eq!(lines.len(), 4);
+    assert_eq!(lines[0], &EXAMPLE_OUT[..24]);
+    assert_eq!(lines[1].len(), 64 * 8);
+    assert_eq!(lines[1], lines[3], "a refused line changes nothing");
+    assert_eq!(&lines[1][80..96], b"0000000200000002", "visitor 1 has leave on both dates");
+}
+
+#[test]
+fn the_sixteen_steps_of_the_rehearsal() {
+    let mut state = rehearsal_state();
+    for (request, answer) in REHEARSAL {
+        let given = step(&mut state, &Request::from_words(request));
+        assert_eq!(given.words(), answer, "{request:?}");
+    }
+    assert_eq!(check(&words(&state)), Answer::Done(0));
+}
+
+#[test]
+fn seats_and_last_session_at_their_ends() {
+    let mut state = rehearsal_state();
+    run(&mut state, &REHEARSAL.map(|(request, _)| Request::from_words(request))[..11]);
+    let ask = |w| step(&mut state.clone(), &Request::from_words(w)).words();
+    assert_eq!(ask([14, 0, 0, 0, 0, 5, 7]), [8, 0, 0], "seats 5 would give 8");
+    assert_eq!(ask([20, 0, 0, 0, 4, 0, 0]), [7, 0, 0], "last = 4 sessions gives 7");
+    assert_eq!(ask([20, 0, 0, 0, 3, 0, 0]), [0, 0, 0], "3 passes");
+}
+
+#[test]
+fn the_rehearsal_needs_64_words_and_the_largest_book_9401625() {
+    let mut largest = GREATEST.to_vec();
+    largest.extend([1000; 16]);
+    assert_eq!(book_len(&REHEARSAL_SITE), 64);
+    assert_eq!(book_len(&largest), 9_401_625);
+    assert_eq!(book_len(&largest[..24]), 0);
+    assert_eq!(words(&rehearsal_state()).len(), 64);
+}
+
+#[test]
+fn laying_writes_the_settings_then_zeros_or_keeps_the_book() {
+    let mut book = [7u32; 64];
+    assert_eq!(lay(&REHEARSAL_SITE[..9], &mut book).words(), [24, 0, 0]);
+    assert_eq!(lay(&REHEARSAL_SITE, &mut book[..63]).words(), [25, 0, 0]);
+    assert_eq!(book, [7u32; 64]);
+    assert_eq!(lay(&REHEARSAL_SITE, &mut book), Answer::Done(0));
+    assert_eq!(book.to_vec(), words(&rehearsal_state()));
+}
+
+/// The readings of lines that the paper's text decides.
+#[test]
+fn settings_lines_and_line_ends() {
+    let refused = |number: u32| format!("{number:08x}0000000000000000\n").into_bytes();
+    let settings = &EXAMPLE_IN[..81];
+    assert_eq!(frames(b""), refused(24));
+    assert_eq!(frames(b"\n"), refused(24));
+    assert_eq!(frames(&settings[..79]), refused(24));
+    assert_eq!(frames(&settings.to_ascii_uppercase()), b"", "no letters in these settings");
+    assert_eq!(frames(settings), b"");
+    assert_eq!(frames(&settings[..80]), b"", "the end of input ends the settings line");
+    assert_eq!(frames(&[settings, b"\n"].concat()), refused(23), "an empty line is no frame line");
+    assert_eq!(frames(&[settings, b"\n\n"].concat()), [refused(23), refused(23)].concat());
+    assert_eq!(frames(&[b"\r\n", settings].concat()), refused(24), "nothing after it is read");
+}
+
+/// 16,384 words pass and 16,385 do not.
+#[test]
+fn the_program_takes_books_up_to_16384_words() {
+    let most = [2, 1, 96, 1, 1, 1, 1, 19, 85, 1];
+    let over = [2, 1, 96, 1, 1, 1, 2, 19, 85, 1, 1];
+    assert_eq!((book_len(&most), book_len(&over)), (16_384, 16_385));
+    assert_eq!(frames(&words_line(&most)), b"");
+    assert_eq!(frames(&words_line(&over)), b"000000190000000000000000\n");
+}
