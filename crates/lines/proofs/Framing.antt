@@ -9,12 +9,13 @@ use mathlib.Core.List.{List, [], _∷_, _++_}
 use lib.Dec.{eqb}
 use lib.ListN.{length, take, drop, getD, set, length-set}
 use lib.Seq.{take-suc, take-suc-set}
-use borrow.Author.Tests.{eq-eqb, ne-eqb}
+use borrow.Author.Tests.{eqb-true, eq-eqb, ne-eqb}
 use Rattle.model.specs.declared.Request.{Request}
 use Rattle.model.specs.declared.Answer.{Answer}
 use Rattle.model.specs.declared.Answer.the-variants.{Done, Refused}
 use Rattle.model.specs.Machine.{answerWords, requestOf}
 use Rattle.model.specs.Lines.{isFrame, wordDigits, hexadecimal, lineWords, shown, wholeWords, answerLine}
+use Rattle.model.proofs.Search.{and-left, and-right}
 use Rattle.model.proofs.Places.{length-list, getD-list}
 use Rattle.lines.specs.Digits.{digitsOnly}
 use Rattle.lines.specs.Frame.{framed, number, place, value}
@@ -63,6 +64,18 @@ module _ (l : List ℕ) (n : length l ≡ 56) where
   unfolding isFrame
   is-frame h = simp (h, n)
 
+-- a test that is not true is false
+pub not-so : (t : Bool) → (t ≡ true → ⊥) → t ≡ false
+not-so true h = absurd (h refl)
+not-so false h = refl
+
+pub no-frame : (l : List ℕ) → (isFrame l ≡ true → ⊥) → isFrame l ≡ false
+no-frame l h = not-so (isFrame l) h
+
+pub frame-parts : (l : List ℕ) → isFrame l ≡ true → (length l ≡ 56) × (digitsOnly l ≡ true)
+unfolding isFrame
+frame-parts l h = (eqb-true (length l) 56 (and-right (wholeWords l) _ h), and-left (digitsOnly l) _ (and-left (wholeWords l) _ h))
+
 and-no : (t : Bool) → t && false ≡ false
 and-no true = refl
 and-no false = refl
@@ -76,7 +89,7 @@ module _ (l : List ℕ) where
   unfolding isFrame
   frame-long h = ap (λ (t : Bool). wholeWords l && t) (ne-eqb (length l) 56 h) ∙ and-no (wholeWords l)
 
-  framed-no : isFrame l ≡ false → Other ≡ framed l
+  pub framed-no : isFrame l ≡ false → Other ≡ framed l
   unfolding framed
   framed-no h = simp h
 

@@ -29,7 +29,7 @@ pub put-one : (out : List ℕ) (at b : ℕ) → at < length out → Put out (set
 put-one out at b h = record { kept = length-set out at b; wrote = rw (add-one, take-suc-set out at b h) }
 
 -- one more of the bytes
-pub put-more : {out₀ out : List ℕ} {at : ℕ} (bytes : List ℕ) (i : ℕ) → i < length bytes → at + length bytes ≤ length out₀
+pub put-more : {out₀ out : List ℕ} {at : ℕ} (bytes : List ℕ) (i : ℕ) → i < length bytes → at + i < length out₀
     → Put out₀ out at (take i bytes) → Put out₀ (set out (at + i) (getD bytes i 0)) at (take (i + 1) bytes)
 put-more {out₀} {out} {at} bytes i h room p =
     let e = length-take-le i bytes (omega arith) in

@@ -9,7 +9,7 @@ use mathlib.Core.Logic.{_⊎_, inl, inr, ⊎-elim}
 use native.Mathlib.Decide.{decLt}
 use lib.Dec.{leb, eqb}
 use lib.ListN.{length, take, drop}
-use lib.Seq.{take-all, take-append-le, take-take, length-take-le}
+use lib.Seq.{take-all, length-take-le}
 use borrow.Author.Tests.{eqb-true, eqb-false, ne-eqb, le-leb, lt-leb}
 use Rattle.model.specs.Bounded.{every, isSome}
 use Rattle.model.specs.Site.{settingsLength, validSettings}
@@ -22,13 +22,10 @@ use Rattle.model.specs.Reading.{settingsOf}
 use Rattle.model.specs.Calls.{settingsGood}
 use Rattle.model.specs.declared.Answer.the-variants.{Refused}
 use Rattle.model.specs.Lines.{digitValue, wholeWords, lineWords, longer as longerLine, linesOf, isFrame, answerLine, lineOutcome, answerLines, programWords, output, frames}
-use Rattle.lines.proofs.Framing.{words-length}
+use Rattle.lines.proofs.Framing.{words-length, not-so, frame-parts, no-frame}
+use Rattle.lines.proofs.Keeping.{kept-append}
+use Rattle.lines.specs.Post.{Free}
 use Rattle.lines.specs.Stream.{kept, Point, opening, later, over, Turn, silent, behind, opened, told, ended, longer, byte, run, closed, fed, joined}
-
--- bytes without a byte 10
-unfoldable pub Free : List ℕ → Type 0
-Free [] = Unit {0}
-Free (b ∷ bs) = (b ≡ 10 → ⊥) × Free bs
 
 free-snoc : (l : List ℕ) (b : ℕ) → Free l → (b ≡ 10 → ⊥) → Free (l ++ (b ∷ []))
 unfolding Free
@@ -50,16 +47,7 @@ unfolding linesOf Free
 lines-last b [] f = rw (ne-eqb b 10 (f .0))
 lines-last b (c ∷ l) f = rw (ne-eqb b 10 (f .0), lines-last c l (f .1))
 
--- a test that is not true is false
-not-so : (t : Bool) → (t ≡ true → ⊥) → t ≡ false
-not-so true h = absurd (h refl)
-not-so false h = refl
-
 -- Long lines
-
-frame-short : (l : List ℕ) → isFrame l ≡ true → length l ≡ 56
-unfolding isFrame
-frame-short l h = eqb-true (length l) 56 (and-right (wholeWords l) _ h)
 
 settings-short : (l : List ℕ) → wholeWords l && settingsGood (lineWords l) ≡ true → length l ≤ 200
 unfolding settingsGood
@@ -85,7 +73,7 @@ module _ (l : List ℕ) where
   outcome-kept x =
       ⊎-elim (λ e. ap (lineOutcome x) e)
       (λ h.
-      simp (not-so (isFrame (kept l)) (λ e. omega (arith, frame-short (kept l) e)), not-so (isFrame l) (λ e. omega (arith, frame-short l e))))
+      simp (no-frame (kept l) (λ e. omega (arith, frame-parts (kept l) e .0)), no-frame l (λ e. omega (arith, frame-parts l e .0))))
       same-or-long
 
   pub opened-kept : opened (kept l) ≡ opened l
@@ -94,13 +82,6 @@ module _ (l : List ℕ) where
       ⊎-elim (λ e. ap opened e)
       (λ h.
       simp (not-so (wholeWords (kept l) && settingsGood (lineWords (kept l))) (λ e. omega (arith, settings-short (kept l) e)), not-so (wholeWords l && settingsGood (lineWords l)) (λ e. omega (arith, settings-short l e))))
-      same-or-long
-
-  -- one byte more
-  pub kept-snoc : (b : ℕ) → kept (kept l ++ (b ∷ [])) ≡ kept (l ++ (b ∷ []))
-  kept-snoc b =
-      ⊎-elim (λ e. ap (λ (k : List ℕ). kept (k ++ (b ∷ []))) e)
-      (λ h. take-append-le 201 (kept l) (b ∷ []) (omega arith) ∙ take-take 201 201 l (omega arith) ∙ sym (take-append-le 201 l (b ∷ []) (omega arith)))
       same-or-long
 
 -- Runs
@@ -176,7 +157,7 @@ ended-later x l = ap told (outcome-kept l x)
 
 longer-later : (x : State) (l : List ℕ) (b : ℕ) → longer (later x (kept l)) b ≡ later x (kept (l ++ (b ∷ [])))
 unfolding longer
-longer-later x l b = ap (later x) (kept-snoc l b)
+longer-later x l b = ap (later x) (kept-append l (b ∷ []))
 
 free-none : Free []
 unfolding Free
@@ -249,7 +230,7 @@ ended-opening l = opened-kept l
 
 longer-opening : (l : List ℕ) (b : ℕ) → longer (opening (kept l)) b ≡ opening (kept (l ++ (b ∷ [])))
 unfolding longer
-longer-opening l b = ap opening (kept-snoc l b)
+longer-opening l b = ap opening (kept-append l (b ∷ []))
 
 -- the settings line of which l was read, and the rest of the input
 opening-none : (l : List ℕ) → Free l → closed (opening (kept l)) .out ≡ output (linesOf (l ++ []))

@@ -1,3 +1,4 @@
 pub mod Digits
 pub mod Stream
 pub mod Frame
+pub mod Post

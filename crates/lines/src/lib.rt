@@ -1,3 +1,5 @@
 // Lines: hexadecimal, frame lines, the settings line, answer lines, and the stream of chunks.
 pub mod hex;
 pub mod line;
+pub mod standin;
+pub mod stream;

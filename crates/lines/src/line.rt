@@ -6,7 +6,8 @@ ghost use lib.ListN.{length, take};
 ghost use Rattle.model.specs.Machine.{requestOf};
 ghost use Rattle.model.specs.Lines.{wholeWords, lineWords, answerLine};
 ghost use Rattle.lines.specs.Digits.{digitsOnly, Put, LineEnd};
-ghost use Rattle.lines.specs.Frame.{framed, number, place, value};
+ghost use Rattle.lines.specs.Post.{NextOf};
+ghost use Rattle.lines.specs.Frame.{framed, frameAhead, number, place, value};
 use model::Answer;
 use model::Request;
 
@@ -57,6 +58,40 @@ pub fn frame(line: &[u8]) -> Framed
         return Framed::Other;
     }
     Framed::Frame(request(line))
+}
+
+// What stands at the front of the input: a frame line, another line of some length, or a line that is not over.
+pub enum Next {
+    Frame(Request),
+    Other(usize),
+    Partial,
+}
+
+// Whether the input begins with a frame line: 56 digits and byte 10.
+pub fn frame_ahead(s: &[u8]) -> bool
+    ensures { λ r. ⌜ r ≡ frameAhead (now (s .entry)) ⌝ }
+{
+    if s.len() <= 56 {
+        return false;
+    }
+    if s[56] != 10 {
+        return false;
+    }
+    crate::hex::digits_only(&s[..56])
+}
+
+// The search for a line's end is left to lines that are no frames.
+pub fn look(s: &[u8]) -> Next
+    ensures { λ r. ⌜ NextOf (now (s .entry)) r ⌝ }
+{
+    if frame_ahead(s) {
+        return Next::Frame(request(&s[..56]));
+    }
+    let n = line_end(s);
+    if n == s.len() {
+        return Next::Partial;
+    }
+    Next::Other(n)
 }
 
 // Whether a line is whole words.

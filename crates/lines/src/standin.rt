@@ -1,0 +1,25 @@
+// Stands for the engine and for laying.
+use book::grid::Grids;
+use model::Answer;
+use model::Request;
+use model::Settings;
+ghost use mathlib.Core.Path.{_≡_};
+ghost use Rattle.model.specs.Machine.{step as machineStep};
+ghost use Rattle.model.specs.Reading.{stateOf};
+ghost use Rattle.model.specs.Calls.{called, lay as laying};
+ghost use Rattle.book.specs.Good.{Good, answered};
+ghost use Rattle.book.specs.Grids.{gridsOf};
+
+pub fn step(book: &mut [u32], s: Settings, g: Grids, r: Request) -> Answer
+    requires { ⌜ Good s (now book) ⌝ }
+    requires { ⌜ g ≡ gridsOf s ⌝ }
+    ensures { λ a. ⌜ answered a (now (book .exit)) ≡ called (machineStep (stateOf (now (book .entry))) r) ⌝ }
+{
+    Answer::Done(r.info)
+}
+
+pub fn lay(words: &[u32], book: &mut [u32]) -> Answer
+    ensures { λ a. ⌜ answered a (now (book .exit)) ≡ laying (now (words .entry)) (now (book .entry)) ⌝ }
+{
+    Answer::Done(0)
+}
