@@ -6,3 +6,4 @@ pub mod Framing
 pub mod Books
 pub mod Keeping
 pub mod Looking
+pub mod Turns

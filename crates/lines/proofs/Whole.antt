@@ -122,11 +122,11 @@ whole-cons p b bs =
     (append-assoc (byte p b .out) (run (byte p b .point) bs .out) (closed (run (byte p b .point) bs .point) .out))
 
 -- a byte 10, and any other
-byte-end : (p : Point) {b : ℕ} → b ≡ 10 → byte p b ≡ ended p
+pub byte-end : (p : Point) {b : ℕ} → b ≡ 10 → byte p b ≡ ended p
 unfolding byte
 byte-end p h = rw h
 
-byte-in : (p : Point) {b : ℕ} → (b ≡ 10 → ⊥) → byte p b ≡ silent (longer p b)
+pub byte-in : (p : Point) {b : ℕ} → (b ≡ 10 → ⊥) → byte p b ≡ silent (longer p b)
 unfolding byte
 byte-in p {b} h = rw (ne-eqb b 10 h)
 
@@ -151,7 +151,7 @@ answers-last : (x : State) (l : List ℕ) → answerLines x (l ∷ []) ≡ answe
 unfolding answerLines
 answers-last x l = append-nil (answerLine (lineOutcome x l .answer))
 
-ended-later : (x : State) (l : List ℕ) → ended (later x (kept l)) ≡ told (lineOutcome x l)
+pub ended-later : (x : State) (l : List ℕ) → ended (later x (kept l)) ≡ told (lineOutcome x l)
 unfolding ended
 ended-later x l = ap told (outcome-kept l x)
 
