@@ -7,3 +7,5 @@ pub mod Books
 pub mod Keeping
 pub mod Looking
 pub mod Turns
+pub mod Layings
+pub mod Streams

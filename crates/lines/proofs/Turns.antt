@@ -111,6 +111,10 @@ unfolding hexadecimal
 answer-length (Done v) = refl
 answer-length (Refused n p) = refl
 
+-- an answer line was written
+pub put-wrote : {out out′ : List ℕ} {at : ℕ} (a : Answer) → Put out out′ at (answerLine a) → take (at + 25) out′ ≡ take at out ++ answerLine a
+put-wrote {out} {out′} {at} a p = ap (λ (m : ℕ). take (at + m) out′) (sym (answer-length a)) ∙ p .wrote
+
 -- the part `&c[i..]`
 pub tail-is : (c : List ℕ) (i : ℕ) → take (length c - i) (drop i c) ≡ drop i c
 tail-is c i = take-all (length c - i) (drop i c) (omega (arith, length-drop i c))
@@ -136,8 +140,7 @@ module _ {S : Settings} {b b′ : List ℕ} (c : List ℕ) (i : ℕ) (t : Taken)
       let l = take (t .used - 1) (drop i c) in
       let o = lineOutcome (stateOf b) l in
       let n : t .used - 1 + 1 ≡ t .used = omega arith in
-      let w : take (at + 25) out′ ≡ take at out ++ answerLine (t .answer)
-      = ap (λ (m : ℕ). take (at + m) out′) (sym (answer-length (t .answer))) ∙ p .wrote in
+      let w : take (at + 25) out′ ≡ take at out ++ answerLine (t .answer) = put-wrote (t .answer) p in
       let a : t .answer ≡ o .answer = ap (λ (q : Called). q .answer) gives in
       let x : stateOf b′ ≡ o .state = after-line l g gives .shows in
       let d : drop (i + t .used) c ≡ drop (t .used - 1 + 1) (drop i c)

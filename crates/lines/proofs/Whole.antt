@@ -49,7 +49,7 @@ lines-last b (c ∷ l) f = rw (ne-eqb b 10 (f .0), lines-last c l (f .1))
 
 -- Long lines
 
-settings-short : (l : List ℕ) → wholeWords l && settingsGood (lineWords l) ≡ true → length l ≤ 200
+pub settings-short : (l : List ℕ) → wholeWords l && settingsGood (lineWords l) ≡ true → length l ≤ 200
 unfolding settingsGood
 settings-short l h =
     let w = lineWords l in

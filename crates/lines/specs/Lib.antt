@@ -2,3 +2,4 @@ pub mod Digits
 pub mod Stream
 pub mod Frame
 pub mod Post
+pub mod Laying

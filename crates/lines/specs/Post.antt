@@ -1,21 +1,21 @@
 -- What the functions of the stream promise, by name.
 -- Assumes nothing.
 use Prim.Native.Nat.{ℕ, _+_, _-_, _*_, _≤_, _<_}
-use mathlib.Core.Bool.{true, false}
+use mathlib.Core.Bool.{Bool, true, false, cond}
 use mathlib.Core.Path.{_≡_}
 use mathlib.Core.List.{List, [], _∷_, _++_}
 use lib.ListN.{length, take, drop, getD}
 use Rattle.model.specs.declared.Settings.{Settings}
 use Rattle.model.specs.State.{State}
-use Rattle.model.specs.Reading.{stateOf}
+use Rattle.model.specs.Reading.{settingsOf, stateOf}
 use Rattle.model.specs.Machine.{requestOf}
 use Rattle.model.specs.Calls.{called}
 use Rattle.model.specs.Lines.{isFrame, lineWords, lineOutcome}
 use Rattle.book.specs.Good.{Good, answered}
-use Rattle.book.specs.Grids.{gridsOf}
 use Rattle.lines.specs.Stream.{kept, Point, opening, later, over, Turn, behind, run}
 use Rattle.lines.specs.declared.line.Next.{Next}
 use Rattle.lines.specs.declared.line.Next.the-variants.{Frame, Other, Partial}
+use Rattle.lines.specs.declared.stream.Ended.{Ended}
 use Rattle.lines.specs.declared.stream.Held.{Held}
 use Rattle.lines.specs.declared.stream.Taken.{Taken}
 use Rattle.lines.specs.declared.stream.Phase.{Phase}
@@ -41,18 +41,45 @@ pointAt Over x l = over
 abbrev pub pointOf : Stream → List ℕ → Point
 pointOf s b = pointAt (s .phase) (stateOf (take (s .size) b)) (heldOf (s .held))
 
--- the stream's own order: what is held fits, and behind a good settings line the book is a good one
+-- behind a good settings line the book is a good one
+pub record Sized (p : Phase) (size : ℕ) (b : List ℕ) : Type 0 where
+  pub fits : size ≤ length b
+  pub good : p ≡ Later → Good (settingsOf (take size b)) (take size b)
+
+-- what a stream keeps
 pub record Going (s : Stream) (b : List ℕ) : Type 0 where
   pub holds : Holds (s .held) (heldOf (s .held))
-  pub fits : s .size ≤ length b
-  pub good : s .phase ≡ Later → Good (s .settings) (take (s .size) b)
-  pub grids : s .phase ≡ Later → s .grids ≡ gridsOf (s .settings)
+  pub sized : Sized (s .phase) (s .size) b
 
--- the turn t was taken: at most `room` bytes stand in `out` now
+-- the turn t was taken, and at most `room` bytes are written
 pub record Moved (t : Turn) (s : Stream) (b out : List ℕ) (wrote room : ℕ) : Type 0 where
   pub short : wrote ≤ room
   pub going : Going s b
   pub same : record { out = take wrote out; point = pointOf s b } ≡ t
+
+-- the stream before the first byte
+pub record Begun (s : Stream) : Type 0 where
+  pub holds : Holds (s .held) []
+  pub phase : s .phase ≡ Opening
+  pub size : s .size ≡ 0
+
+-- where the end of a line leads
+abbrev pub endPoint : Ended → List ℕ → Point
+endPoint e b = cond (e .more) (later (stateOf (take (e .size) b)) []) over
+
+pub record EndSized (e : Ended) (b : List ℕ) : Type 0 where
+  pub fits : e .size ≤ length b
+  pub good : e .more ≡ true → Good (settingsOf (take (e .size) b)) (take (e .size) b)
+
+pub record EndedOf (t : Turn) (e : Ended) (b out : List ℕ) (room : ℕ) : Type 0 where
+  pub short : e .wrote ≤ room
+  pub sized : EndSized e b
+  pub same : record { out = take (e .wrote) out; point = endPoint e b } ≡ t
+
+abbrev pub isLater : Phase → Bool
+isLater Opening = false
+isLater Later = true
+isLater Over = false
 
 -- no byte 10
 unfoldable pub Free : List ℕ → Type 0

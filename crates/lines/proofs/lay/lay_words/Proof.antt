@@ -1,0 +1,52 @@
+use borrow.Author.Needs.{needs}
+use Rattle.lines.proofs.lay.lay_words.Statement.{statement}
+use Rattle.lines.proofs.lay.lay_words.Tie as tie
+use Rattle.lines.proofs.lay.lay_words.Reads as reads
+use Rattle.lines.proofs.lay.lay_words.Lts as lts
+use Rattle.book.proofs.settings.book_len.Reads as book-len-reads
+use Rattle.lines.proofs.standin.lay.Reads as lay-reads
+
+-- src/lay.rt:27:9
+book-len-requires : tie.Need-book-len-requires
+book-len-requires c κs = search needs
+
+-- src/lay.rt:29:9
+returns : tie.Need-returns
+returns c = ?
+
+-- src/lay.rt:32:9
+returns-2 : tie.Need-returns-2
+returns-2 c = ?
+
+-- src/lay.rt:34:16
+slice-relend-prefix-lay : tie.Need-slice-relend-prefix-lay
+slice-relend-prefix-lay c = search needs
+
+-- src/lay.rt:34:16
+slice-aggregate-lay : tie.Need-slice-aggregate-lay
+slice-aggregate-lay c = ?
+
+-- src/lay.rt:34:5
+lay-requires : tie.Need-lay-requires
+lay-requires c κs = search needs
+
+-- src/lay.rt:23:1
+same-length : tie.Need-same-length
+same-length c = search needs
+
+-- src/lay.rt:23:1
+returns-3 : tie.Need-returns-3
+returns-3 c = ?
+
+pub lay-words-spec : {M : Type 1} → statement M
+lay-words-spec =
+    tie.close
+    (tie.spec
+    book-len-requires
+    returns
+    returns-2
+    slice-relend-prefix-lay
+    slice-aggregate-lay
+    lay-requires
+    same-length
+    returns-3)

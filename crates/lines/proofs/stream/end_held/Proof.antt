@@ -1,0 +1,41 @@
+use borrow.Author.Needs.{needs}
+use Rattle.lines.proofs.stream.end_held.Statement.{statement}
+use Rattle.lines.proofs.stream.end_held.Tie as tie
+use Rattle.lines.proofs.stream.end_held.Reads as reads
+use Rattle.lines.proofs.stream.end_held.Lts as lts
+use Rattle.lines.proofs.stream.end_line.Reads as end-line-reads
+
+-- src/stream.rt:319:33
+array-share-prefix-bytes : tie.Need-array-share-prefix-bytes
+array-share-prefix-bytes c = search needs
+
+-- src/stream.rt:319:33
+slice-aggregate-end-line : tie.Need-slice-aggregate-end-line
+slice-aggregate-end-line c = ?
+
+-- src/stream.rt:319:5
+end-line-requires : tie.Need-end-line-requires
+end-line-requires c κs = search needs
+
+-- src/stream.rt:310:1
+same-length : tie.Need-same-length
+same-length c = search needs
+
+-- src/stream.rt:310:1
+same-length-2 : tie.Need-same-length-2
+same-length-2 c = search needs
+
+-- src/stream.rt:310:1
+returns : tie.Need-returns
+returns c = search needs
+
+pub end-held-spec : {M : Type 1} → statement M
+end-held-spec =
+    tie.close
+    (tie.spec
+    array-share-prefix-bytes
+    slice-aggregate-end-line
+    end-line-requires
+    same-length
+    same-length-2
+    returns)

@@ -1,0 +1,72 @@
+use borrow.Author.Needs.{needs}
+use Rattle.lines.proofs.stream.end_line.Statement.{statement}
+use Rattle.lines.proofs.stream.end_line.Tie as tie
+use Rattle.lines.proofs.stream.end_line.Reads as reads
+use Rattle.lines.proofs.stream.end_line.Lts as lts
+use Rattle.lines.proofs.stream.respond.Reads as respond-reads
+use Rattle.lines.proofs.stream.settle.Reads as settle-reads
+
+-- src/stream.rt:233:34
+enum-told : tie.Need-enum-told
+enum-told c = search needs
+
+-- src/stream.rt:233:27
+settle-requires : tie.Need-settle-requires
+settle-requires c κs = search needs
+
+-- src/stream.rt:234:33
+enum-told-2 : tie.Need-enum-told-2
+enum-told-2 c = search needs
+
+-- src/stream.rt:234:25
+respond-requires : tie.Need-respond-requires
+respond-requires c κs = ?
+
+-- src/stream.rt:235:24
+enum-told-3 : tie.Need-enum-told-3
+enum-told-3 c = search needs
+
+-- src/stream.rt:226:1
+same-length : tie.Need-same-length
+same-length c = search needs
+
+-- src/stream.rt:226:1
+same-length-2 : tie.Need-same-length-2
+same-length-2 c = search needs
+
+-- src/stream.rt:226:1
+returns : tie.Need-returns
+returns c = ?
+
+-- src/stream.rt:226:1
+same-length-3 : tie.Need-same-length-3
+same-length-3 c = search needs
+
+-- src/stream.rt:226:1
+same-length-4 : tie.Need-same-length-4
+same-length-4 c = search needs
+
+-- src/stream.rt:226:1
+returns-2 : tie.Need-returns-2
+returns-2 c = ?
+
+-- src/stream.rt:226:1
+returns-3 : tie.Need-returns-3
+returns-3 c = ?
+
+pub end-line-spec : {M : Type 1} → statement M
+end-line-spec =
+    tie.close
+    (tie.spec
+    enum-told
+    settle-requires
+    enum-told-2
+    respond-requires
+    enum-told-3
+    same-length
+    same-length-2
+    returns
+    same-length-3
+    same-length-4
+    returns-2
+    returns-3)
