@@ -108,6 +108,9 @@ module _ (l : List ℕ) {b : List ℕ} where
   by-words h k =
       record { is = k .is ∙ ap (λ (t : Bool). layable (t && settingsGood (lineWords l)) (lineWords l)) (sym h); fresh = k .fresh }
 
+pub laid-is : {l b : List ℕ} {r q : Laid} → LaidBy l r b → r ≡ q → LaidBy l q b
+laid-is {l} {b} k e = rw e at k
+
 -- the settings line is over
 good-settings : (w : List ℕ) → settingsGood w ≡ true → validSettings (settingsOf w) ≡ true
 unfolding settingsGood

@@ -18,6 +18,8 @@ use Rattle.model.specs.Calls.{Called, called}
 use Rattle.model.specs.Lines.{answerLine, lineOutcome}
 use Rattle.model.proofs.Search.{both}
 use Rattle.book.specs.Good.{Good, answered}
+use Rattle.book.specs.Ranges.{Ranges}
+use Rattle.book.proofs.Goods.{good-laid}
 use Rattle.lines.specs.Digits.{Put, LineEnd}
 use Rattle.lines.specs.Stream.{kept, Turn, Point, opening, later, over, silent, behind, opened, told, ended, longer, byte, run, closed}
 use Rattle.lines.specs.Post.{heldOf, Holds, pointAt, pointOf, Sized, Going, Moved, Begun, endPoint, EndSized, EndedOf, isLater, Free, Leads, Told}
@@ -265,3 +267,7 @@ begun {s} {b} g =
   where
     not-later : Opening ≡ Later → ⊥
     not-later z = let q : _≡_ {A = ℕ} 0 1 = cc in omega arith
+
+-- the ranges of a good book's settings
+pub own-ranges : {S : Settings} {b : List ℕ} → S ≡ settingsOf b → Good (settingsOf b) b → Ranges S
+own-ranges e g = rw e (good-laid g .ranges)

@@ -1,3 +1,9 @@
+use Rattle.model.proofs.Search.{and-left}
+use mathlib.Core.Path.{_≡_, refl, sym, _∙_, ap}
+use borrow.Author.Tests.{not-true, not-false}
+use native.Mathlib.Omega.{arith}
+use lib.Seq.{length-take-le}
+use Rattle.lines.proofs.Layings.{by-not-whole, by-long, by-words}
 use borrow.Author.Needs.{needs}
 use Rattle.lines.proofs.lay.lay_line.Statement.{statement}
 use Rattle.lines.proofs.lay.lay_line.Tie as tie
@@ -13,11 +19,11 @@ whole-words-requires c κs = search needs
 
 -- src/lay.rt:43:9
 returns : tie.Need-returns
-returns c = ?
+returns c = by-not-whole _ (sym (c .before .whole-words .ensures) ∙ not-true _ (c .if1 .taken))
 
 -- src/lay.rt:47:9
 returns-2 : tie.Need-returns-2
-returns-2 c = ?
+returns-2 c = by-long _ (c .if2 .taken)
 
 -- src/lay.rt:50:22
 slice-aggregate-line-words : tie.Need-slice-aggregate-line-words
@@ -25,7 +31,7 @@ slice-aggregate-line-words c = search needs
 
 -- src/lay.rt:50:5
 line-words-requires : tie.Need-line-words-requires
-line-words-requires c κs = ?
+line-words-requires c κs = (and-left _ _ (sym (c .before .before .before .whole-words .ensures) ∙ not-false _ (c .before .before .if1 .left)), search needs)
 
 -- src/lay.rt:51:21
 array-share-prefix-words : tie.Need-array-share-prefix-words
@@ -33,7 +39,7 @@ array-share-prefix-words c = search needs
 
 -- src/lay.rt:51:21
 slice-aggregate-lay-words : tie.Need-slice-aggregate-lay-words
-slice-aggregate-lay-words c = ?
+slice-aggregate-lay-words c = sym (length-take-le _ _ (search needs))
 
 -- src/lay.rt:51:5
 lay-words-requires : tie.Need-lay-words-requires
@@ -45,7 +51,9 @@ same-length c = search needs
 
 -- src/lay.rt:38:1
 returns-3 : tie.Need-returns-3
-returns-3 c = ?
+returns-3 c =
+    by-words _ (sym (c .before .before .before .before .before .before .before .before .before .before .whole-words .ensures) ∙ not-false _ (c .before .before .before .before .before .before .before .before .before .if1 .left))
+    (rw (c .before .before .before .before .before .before .line-words .ensures) at (c .before .before .lay-words .ensures))
 
 pub lay-line-spec : {M : Type 1} → statement M
 lay-line-spec =

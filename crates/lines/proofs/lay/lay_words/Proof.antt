@@ -1,3 +1,7 @@
+use mathlib.Core.Path.{_≡_, refl, sym, _∙_, ap}
+use native.Mathlib.Omega.{arith}
+use lib.Seq.{length-take-le}
+use Rattle.lines.proofs.Layings.{laid-none, laid-large, laid-good}
 use borrow.Author.Needs.{needs}
 use Rattle.lines.proofs.lay.lay_words.Statement.{statement}
 use Rattle.lines.proofs.lay.lay_words.Tie as tie
@@ -12,11 +16,11 @@ book-len-requires c κs = search needs
 
 -- src/lay.rt:29:9
 returns : tie.Need-returns
-returns c = ?
+returns c = laid-none _ (c .before .book-len .ensures) (c .if1 .taken)
 
 -- src/lay.rt:32:9
 returns-2 : tie.Need-returns-2
-returns-2 c = ?
+returns-2 c = laid-large _ (c .before .before .book-len .ensures) (c .before .if1 .left) (c .if2 .taken)
 
 -- src/lay.rt:34:16
 slice-relend-prefix-lay : tie.Need-slice-relend-prefix-lay
@@ -24,7 +28,7 @@ slice-relend-prefix-lay c = search needs
 
 -- src/lay.rt:34:16
 slice-aggregate-lay : tie.Need-slice-aggregate-lay
-slice-aggregate-lay c = ?
+slice-aggregate-lay c = sym (length-take-le (c .before .before .before .book-len .result) (c .before .before .before .before .before .before .args .book .now) (omega arith))
 
 -- src/lay.rt:34:5
 lay-requires : tie.Need-lay-requires
@@ -36,7 +40,7 @@ same-length c = search needs
 
 -- src/lay.rt:23:1
 returns-3 : tie.Need-returns-3
-returns-3 c = ?
+returns-3 c = laid-good _ _ (c .before .before .before .before .before .before .book-len .ensures) (c .before .before .before .before .before .if1 .left) (c .before .before .before .before .if2 .left) (c .before .before .before .before .before .before .before .before .before .pre) (c .before .before .lay .ensures) (c .before .before .lay .kept .1 .0)
 
 pub lay-words-spec : {M : Type 1} → statement M
 lay-words-spec =

@@ -1,3 +1,4 @@
+use Rattle.lines.proofs.Streams.{own-ranges}
 use borrow.Author.Needs.{needs}
 use Rattle.lines.proofs.stream.answer_line.Statement.{statement}
 use Rattle.lines.proofs.stream.answer_line.Tie as tie
@@ -13,7 +14,7 @@ settings-requires c κs = search needs
 
 -- src/stream.rt:182:9
 grids-of-requires : tie.Need-grids-of-requires
-grids-of-requires c κs = ?
+grids-of-requires c κs = own-ranges (c .settings .ensures) (c .before .before .before .before .pre)
 
 -- src/stream.rt:183:5
 answer-requires : tie.Need-answer-requires

@@ -1,3 +1,4 @@
+use Rattle.lines.proofs.Streams.{own-ranges}
 use borrow.Author.Needs.{needs}
 use Rattle.lines.proofs.stream.answer_lines.Statement.{statement}
 use Rattle.lines.proofs.stream.answer_lines.Tie as tie
@@ -13,7 +14,7 @@ settings-requires c κs = search needs
 
 -- src/stream.rt:173:9
 grids-of-requires : tie.Need-grids-of-requires
-grids-of-requires c κs = ?
+grids-of-requires c κs = own-ranges (c .settings .ensures) (c .before .before .before .before .before .pre .0)
 
 -- src/stream.rt:174:5
 answers-requires : tie.Need-answers-requires
@@ -29,7 +30,7 @@ same-length-2 c = search needs
 
 -- src/stream.rt:167:1
 returns : tie.Need-returns
-returns c = ?
+returns c = rw (c .before .before .before .before .before .before .before .before .settings .ensures) at (c .before .before .before .before .answers .ensures)
 
 pub answer-lines-spec : {M : Type 1} → statement M
 answer-lines-spec =

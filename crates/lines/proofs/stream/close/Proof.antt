@@ -1,3 +1,11 @@
+use Prim.Native.Nat.{_<_}
+use mathlib.Core.Bool.{true}
+use lib.ListN.{length, take}
+use Rattle.model.specs.Reading.{stateOf}
+use Rattle.lines.specs.Post.{heldOf, isLater}
+use mathlib.Core.Path.{_≡_, refl, sym, _∙_, ap}
+use mathlib.Core.Logic.{⊎-elim}
+use Rattle.lines.proofs.Streams.{ended-as, ended-closed, closed-silent}
 use borrow.Author.Needs.{needs}
 use Rattle.lines.proofs.stream.close.Statement.{statement}
 use Rattle.lines.proofs.stream.close.Tie as tie
@@ -6,13 +14,16 @@ use Rattle.lines.proofs.stream.close.Lts as lts
 use Rattle.lines.proofs.stream.end_held.Reads as end-held-reads
 use Rattle.lines.proofs.stream.is_later.Reads as is-later-reads
 
+begun-line : (c : tie.After-slice-known4) → isLater (c .before .before .before .before .before .before .before .before .before .before .before .before .args .stream .phase) ≡ true → 0 < length (heldOf (c .before .before .before .before .before .before .before .before .before .before .before .before .args .stream .held))
+begun-line c h = ?
+
 -- src/stream.rt:353:8
 is-later-requires : tie.Need-is-later-requires
 is-later-requires c κs = search needs
 
 -- src/stream.rt:355:13
 returns : tie.Need-returns
-returns c = ?
+returns c = closed-silent _ _ (c .before .before .before .before .before .before .before .pre .1 .0) (sym (c .before .before .before .is-later .ensures) ∙ c .before .before .if1 .taken) (c .if2 .taken)
 
 -- src/stream.rt:362:5
 end-held-requires : tie.Need-end-held-requires
@@ -28,7 +39,7 @@ same-length-2 c = search needs
 
 -- src/stream.rt:344:1
 returns-2 : tie.Need-returns-2
-returns-2 c = ?
+returns-2 c = ended-as (ended-closed (c .before .before .before .before .before .before .before .before .before .before .before .before .args .stream .phase) (stateOf (take (c .before .before .before .before .before .before .before .before .before .before .before .before .args .stream .size) (c .before .before .before .before .before .before .before .before .before .before .before .before .args .book .now))) (heldOf (c .before .before .before .before .before .before .before .before .before .before .before .before .args .stream .held)) (begun-line c)) (c .before .before .before .before .end-held .ensures)
 
 pub close-spec : {M : Type 1} → statement M
 close-spec =

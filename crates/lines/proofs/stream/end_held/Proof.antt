@@ -1,3 +1,6 @@
+use mathlib.Core.Path.{_≡_, refl, sym, _∙_, ap}
+use native.Mathlib.Omega.{arith}
+use lib.Seq.{length-take-le}
 use borrow.Author.Needs.{needs}
 use Rattle.lines.proofs.stream.end_held.Statement.{statement}
 use Rattle.lines.proofs.stream.end_held.Tie as tie
@@ -11,7 +14,7 @@ array-share-prefix-bytes c = search needs
 
 -- src/stream.rt:319:33
 slice-aggregate-end-line : tie.Need-slice-aggregate-end-line
-slice-aggregate-end-line c = ?
+slice-aggregate-end-line c = sym (length-take-le (c .before .before .before .before .before .args .held .len) (c .before .before .before .before .before .args .held .bytes) (let h = c .before .before .before .before .before .pre .1 .1 .0 in omega (arith, h .few, h .long)))
 
 -- src/stream.rt:319:5
 end-line-requires : tie.Need-end-line-requires

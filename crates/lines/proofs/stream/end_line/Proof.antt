@@ -1,3 +1,6 @@
+use lib.ListN.{take}
+use Rattle.model.specs.Reading.{stateOf}
+use Rattle.lines.proofs.Streams.{ended-as, turn-opening, turn-later, turn-over}
 use borrow.Author.Needs.{needs}
 use Rattle.lines.proofs.stream.end_line.Statement.{statement}
 use Rattle.lines.proofs.stream.end_line.Tie as tie
@@ -20,7 +23,7 @@ enum-told-2 c = search needs
 
 -- src/stream.rt:234:25
 respond-requires : tie.Need-respond-requires
-respond-requires c κs = ?
+respond-requires c κs = (c .before .before .before .before .before .before .before .pre .1 .0 .fits, (c .before .before .before .before .before .before .before .pre .1 .0 .good (c .before .before .enum-told2 .given .1), c .before .before .before .before .before .before .before .pre .1 .1))
 
 -- src/stream.rt:235:24
 enum-told-3 : tie.Need-enum-told-3
@@ -36,7 +39,7 @@ same-length-2 c = search needs
 
 -- src/stream.rt:226:1
 returns : tie.Need-returns
-returns c = ?
+returns c = ended-as (turn-opening (stateOf (take (c .before .before .before .before .before .before .before .before .before .before .before .before .args .size) (c .before .before .before .before .before .before .before .before .before .before .before .before .args .book .now))) (c .before .before .before .before .before .before .before .before .before .before .before .before .args .line .now) (c .before .before .before .before .before .before .before .before .before .before .before .before .args .out .now) (c .before .before .before .before .before .before .before .before .before .before .before .before .args .at) (c .before .before .before .before .before .before .before .enum-told .given .1)) (c .before .before .before .before .settle .ensures)
 
 -- src/stream.rt:226:1
 same-length-3 : tie.Need-same-length-3
@@ -48,11 +51,11 @@ same-length-4 c = search needs
 
 -- src/stream.rt:226:1
 returns-2 : tie.Need-returns-2
-returns-2 c = ?
+returns-2 c = ended-as (turn-later (stateOf (take (c .before .before .before .before .before .before .before .before .before .before .before .before .args .size) (c .before .before .before .before .before .before .before .before .before .before .before .before .args .book .now))) (c .before .before .before .before .before .before .before .before .before .before .before .before .args .line .now) (c .before .before .before .before .before .before .before .before .before .before .before .before .args .out .now) (c .before .before .before .before .before .before .before .before .before .before .before .before .args .at) (c .before .before .before .before .before .before .before .enum-told2 .given .1)) (c .before .before .before .before .respond .ensures)
 
 -- src/stream.rt:226:1
 returns-3 : tie.Need-returns-3
-returns-3 c = ?
+returns-3 c = turn-over _ _ _ _ (c .enum-told3 .given .1)
 
 pub end-line-spec : {M : Type 1} → statement M
 end-line-spec =

@@ -1,3 +1,9 @@
+use Prim.Native.Nat.{_≤_}
+use lib.ListN.{length}
+use mathlib.Core.Path.{_≡_, refl, sym, _∙_, ap}
+use native.Mathlib.Omega.{arith}
+use lib.Seq.{length-take-le}
+use Rattle.lines.proofs.Streams.{holds-on, all-held, line-held}
 use borrow.Author.Needs.{needs}
 use Rattle.lines.proofs.stream.feed.Statement.{statement}
 use Rattle.lines.proofs.stream.feed.Tie as tie
@@ -14,7 +20,7 @@ line-end-requires c κs = search needs
 
 -- src/stream.rt:293:29
 slice-aggregate-hold : tie.Need-slice-aggregate-hold
-slice-aggregate-hold c = ?
+slice-aggregate-hold c = sym (length-take-le (c .before .line-end .result) (c .before .before .before .before .before .before .args .chunk .now) (c .before .line-end .ensures .within))
 
 -- src/stream.rt:293:9
 hold-requires : tie.Need-hold-requires
@@ -22,11 +28,14 @@ hold-requires c κs = search needs
 
 -- src/stream.rt:295:9
 returns : tie.Need-returns
-returns c = ?
+returns c = all-held (c .before .before .before .before .before .before .before .before .args .stream) (c .before .before .before .before .before .before .before .before .args .book .now) (c .before .before .before .before .before .before .before .before .args .chunk .now) (c .before .before .before .before .before .before .before .before .pre .1 .0) (c .before .before .before .line-end .ensures) (c .before .hold .ensures) (c .if1 .taken)
+
+room : (c : tie.After-end-held-arg2) → 25 ≤ length (c .before .before .before .before .before .before .before .before .before .before .args .out .now)
+room c = let w = c .before .before .before .before .before .line-end .ensures .within in let n = c .before .before .if1 .left in omega (arith, c .before .before .before .before .before .before .before .before .before .before .pre .1 .1)
 
 -- src/stream.rt:304:9
 end-held-requires : tie.Need-end-held-requires
-end-held-requires c κs = ?
+end-held-requires c κs = (c .before .before .before .before .before .before .before .before .before .before .pre .0, (c .before .before .before .before .before .before .before .before .before .before .pre .1 .0 .sized, (holds-on (c .before .before .before .before .before .before .before .before .before .before .args .stream) (c .before .before .before .before .before .before .before .before .before .before .args .book .now) (c .before .before .before .before .before .before .before .before .before .before .args .chunk .now) (c .before .before .before .before .before .before .before .before .before .before .pre .1 .0) (c .before .before .before .before .before .line-end .ensures) (c .before .before .before .hold .ensures), room c)))
 
 -- src/stream.rt:305:16
 add-next : tie.Need-add-next
@@ -58,7 +67,10 @@ same-length-2 c = search needs
 
 -- src/stream.rt:283:1
 returns-2 : tie.Need-returns-2
-returns-2 c = ?
+returns-2 c =
+    let d = c .before .before .before .before .before .before .before .before .before .before .before .before .before .before .before .before .before .before .before .before .before .before .before in
+    line-held (d .args .stream) (d .args .book .now) (d .args .chunk .now) (d .pre .1 .0) (c .before .before .before .before .before .before .before .before .before .before .before .before .before .before .before .before .before .before .line-end .ensures) (c .before .before .before .before .before .before .before .before .before .before .before .before .before .before .before .before .hold .ensures)
+    (c .before .before .before .before .before .before .before .before .before .before .before .before .end-held .result) (c .before .before .before .before .before .before .before .before .before .before .before .before .before .before .before .if1 .left) (c .before .before .before .before .before .before .before .before .before .before .before .before .end-held .ensures) (c .before .before .before .before .go-on .ensures)
 
 pub feed-spec : {M : Type 1} → statement M
 feed-spec =

@@ -1,3 +1,7 @@
+use mathlib.Core.Path.{_≡_, refl, sym, _∙_, ap}
+use borrow.Author.Tests.{not-true, not-false}
+use lib.Seq.{length-take-le}
+use Rattle.lines.proofs.Streams.{rest-over, rest-later}
 use borrow.Author.Needs.{needs}
 use Rattle.lines.proofs.stream.go_on.Statement.{statement}
 use Rattle.lines.proofs.stream.go_on.Tie as tie
@@ -13,7 +17,7 @@ nothing-requires c κs = search needs
 
 -- src/stream.rt:260:9
 returns : tie.Need-returns
-returns c = ?
+returns c = rest-over (c .before .before .before .before .before .before .args .e) (c .before .before .before .before .before .before .args .chunk .now) (not-true _ (c .before .if1 .taken)) (c .nothing .ensures)
 
 -- src/stream.rt:270:26
 slice-relend-prefix-answer-lines : tie.Need-slice-relend-prefix-answer-lines
@@ -21,11 +25,11 @@ slice-relend-prefix-answer-lines c = search needs
 
 -- src/stream.rt:270:26
 slice-aggregate-answer-lines : tie.Need-slice-aggregate-answer-lines
-slice-aggregate-answer-lines c = ?
+slice-aggregate-answer-lines c = sym (length-take-le (c .before .before .before .before .before .before .args .e .size) (c .before .before .before .before .before .before .args .book .now) (c .before .before .before .before .before .before .pre .0 .fits))
 
 -- src/stream.rt:270:9
 answer-lines-requires : tie.Need-answer-lines-requires
-answer-lines-requires c κs = ?
+answer-lines-requires c κs = (c .before .before .before .before .before .before .before .pre .0 .good (not-false _ (c .before .before .if1 .left)), c .before .before .before .before .before .before .before .pre .1)
 
 -- src/stream.rt:274:24
 nothing-requires-2 : tie.Need-nothing-requires-2
@@ -57,7 +61,7 @@ same-length-2 c = search needs
 
 -- src/stream.rt:253:1
 returns-2 : tie.Need-returns-2
-returns-2 c = ?
+returns-2 c = rest-later (c .before .before .before .before .before .before .before .before .before .before .before .before .before .before .before .args .book .now) (c .before .before .before .before .before .before .before .before .before .before .before .before .before .before .before .args .e) (c .before .before .before .before .before .before .before .before .before .before .before .before .before .before .before .args .chunk .now) (not-false _ (c .before .before .before .before .before .before .before .before .before .before .if1 .left)) (c .before .before .before .before .before .before .before .before .before .before .before .before .before .before .before .pre .0 .fits) (c .before .before .before .before .before .before .before .answer-lines .ensures) (c .before .before .before .before .before .before .before .answer-lines .kept .0) (rw (c .before .before .nothing2 .ensures .same) at (c .hold .ensures))
 
 pub go-on-spec : {M : Type 1} → statement M
 go-on-spec =

@@ -1,3 +1,6 @@
+use mathlib.Core.Path.{_≡_, refl, sym, _∙_, ap}
+use lib.Seq.{length-take-le}
+use Rattle.lines.proofs.Streams.{responded}
 use borrow.Author.Needs.{needs}
 use Rattle.lines.proofs.stream.respond.Statement.{statement}
 use Rattle.lines.proofs.stream.respond.Tie as tie
@@ -12,7 +15,7 @@ slice-relend-prefix-answer-line c = search needs
 
 -- src/stream.rt:193:25
 slice-aggregate-answer-line : tie.Need-slice-aggregate-answer-line
-slice-aggregate-answer-line c = ?
+slice-aggregate-answer-line c = sym (length-take-le (c .before .before .before .before .args .size) (c .before .before .before .before .args .book .now) (c .before .before .before .before .pre .0))
 
 -- src/stream.rt:193:9
 answer-line-requires : tie.Need-answer-line-requires
@@ -36,7 +39,7 @@ same-length-2 c = search needs
 
 -- src/stream.rt:187:1
 returns : tie.Need-returns
-returns c = ?
+returns c = responded (c .before .before .before .before .before .before .before .before .before .before .before .args .book .now) (c .before .before .before .before .before .before .before .before .before .before .before .args .line .now) (c .before .before .before .before .before .before .before .before .before .before .before .args .size) (c .before .before .before .before .before .before .before .before .before .before .before .pre .0) (c .before .before .before .before .before .before .before .before .before .before .before .pre .1 .0) (c .before .before .before .before .before .before .answer-line .ensures) (c .before .before .before .before .before .before .answer-line .kept .0) (c .before .before .put-answer .ensures)
 
 pub respond-spec : {M : Type 1} → statement M
 respond-spec =

@@ -1,3 +1,4 @@
+use Rattle.lines.proofs.Layings.{laid-is, settled-book, settled-refused}
 use borrow.Author.Needs.{needs}
 use Rattle.lines.proofs.stream.settle.Statement.{statement}
 use Rattle.lines.proofs.stream.settle.Tie as tie
@@ -32,7 +33,7 @@ same-length c = search needs
 
 -- src/stream.rt:203:1
 returns : tie.Need-returns
-returns c = ?
+returns c = settled-book _ _ _ (laid-is (c .before .before .before .before .before .lay-line .ensures) (c .before .size .given .1))
 
 -- src/stream.rt:203:1
 same-length-2 : tie.Need-same-length-2
@@ -44,7 +45,7 @@ same-length-3 c = search needs
 
 -- src/stream.rt:203:1
 returns-2 : tie.Need-returns-2
-returns-2 c = ?
+returns-2 c = settled-refused _ _ (laid-is (c .before .before .before .before .before .before .before .before .before .lay-line .ensures) (c .before .before .before .before .before .number .given .1)) (c .before .before .put-answer .ensures)
 
 pub settle-spec : {M : Type 1} → statement M
 settle-spec =
