@@ -254,6 +254,9 @@ closed-silent s b g h z =
       same = closed-none x ∙ sym (ap (λ (p : Phase). closed (pointAt p x (heldOf (s .held)))) l ∙ ap (λ (k : List ℕ). closed (later x k)) n);
     }
 
+pub held-some : (h : Held) → Holds h (heldOf h) → (h .len ≡ 0 → ⊥) → 0 < length (heldOf h)
+held-some h k n = omega (arith, k .few, k .long, length-take-le (h .len) (h .bytes) (omega (arith, k .few, k .long)))
+
 -- the stream before the first byte
 pub begun : {s : Stream} {b : List ℕ} → Begun s → Going s b × (pointOf s b ≡ opening [])
 begun {s} {b} g =

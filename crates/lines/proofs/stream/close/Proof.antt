@@ -1,3 +1,4 @@
+use Rattle.model.proofs.Search.{both}
 use Prim.Native.Nat.{_<_}
 use mathlib.Core.Bool.{true}
 use lib.ListN.{length, take}
@@ -5,7 +6,7 @@ use Rattle.model.specs.Reading.{stateOf}
 use Rattle.lines.specs.Post.{heldOf, isLater}
 use mathlib.Core.Path.{_≡_, refl, sym, _∙_, ap}
 use mathlib.Core.Logic.{⊎-elim}
-use Rattle.lines.proofs.Streams.{ended-as, ended-closed, closed-silent}
+use Rattle.lines.proofs.Streams.{held-some, ended-as, ended-closed, closed-silent}
 use borrow.Author.Needs.{needs}
 use Rattle.lines.proofs.stream.close.Statement.{statement}
 use Rattle.lines.proofs.stream.close.Tie as tie
@@ -15,7 +16,12 @@ use Rattle.lines.proofs.stream.end_held.Reads as end-held-reads
 use Rattle.lines.proofs.stream.is_later.Reads as is-later-reads
 
 begun-line : (c : tie.After-slice-known4) → isLater (c .before .before .before .before .before .before .before .before .before .before .before .before .args .stream .phase) ≡ true → 0 < length (heldOf (c .before .before .before .before .before .before .before .before .before .before .before .before .args .stream .held))
-begun-line c h = ?
+begun-line c h =
+    let g = c .before .before .before .before .before .before .before .before .before .before .before .before .pre .1 .0 .holds in
+    ⊎-elim
+    (λ w. held-some (c .before .before .before .before .before .before .before .before .before .before .before .before .args .stream .held) g (w .2 .left))
+    (λ w. both h (sym (c .before .before .before .before .before .before .before .before .is-later .ensures) ∙ w .left))
+    (c .before .before .before .before .before .before .before .if1 .came)
 
 -- src/stream.rt:353:8
 is-later-requires : tie.Need-is-later-requires
