@@ -1,4 +1,5 @@
 // The regions of the book as grids: every access to a cell goes through one index function.
+use crate::settings::settings_len;
 use model::Settings;
 ghost use mathlib.Core.Path.{_≡_};
 ghost use Prim.Native.Nat.{_+_, _*_, _/_, _≤_, _<_};
@@ -61,7 +62,7 @@ fn leave_grid(s: Settings) -> Grid
     ensures { λ r. ⌜ r ≡ gridOf s leaves ⌝ }
 {
     Grid {
-        base: 9 + (s.dining as usize),
+        base: settings_len(s),
         slots: s.dates,
         items: (s.visitors + 31) / 32,
         width: 1,

@@ -1,8 +1,9 @@
 //! The generator reaches what it is for: every kind done, every number 3 to 22 over lists, 1 and
 //! 2 over calls on raw books, 24 and 25 over layings, 23 over lines.
 
-use second::book::{self, check, lay, length, words};
+use second::book::{self, check, lay, length, words, Rule};
 use second::frames::{frames, lines};
+use second::gen::cases::{self, Case};
 use second::gen::requests::opening;
 use second::gen::sites::bad_settings;
 use second::gen::{clean_stream, damaged_stream, deep_state, junk_book, list, site, tables, Mix, Rng, Size};
@@ -129,6 +130,24 @@ fn streams_reach_23_to_25() {
     }
     println!("seed {}: lines by number {numbers:?}", SEED + 4);
     assert!([0, 23, 24, 25].into_iter().all(|number| numbers[&number] > 10));
+}
+
+/// The single cases for the specification check: 0 to 2, 24 and 25 occur, and every input is short.
+#[test]
+fn cases_hold_every_sort() {
+    let mut numbers = BTreeMap::new();
+    let all = cases::cases(SEED + 5);
+    for case in &all {
+        match case {
+            Case::Check { answer, .. } | Case::Call { answer, .. } | Case::Lay { answer, .. } => {
+                count(&mut numbers, answer.number())
+            }
+            Case::Input { input, output } => assert_eq!(frames(input), *output),
+        }
+    }
+    println!("seed {}: {} cases, by number {numbers:?}", SEED + 5, all.len());
+    assert!([0, 1, 2, 24, 25].into_iter().all(|number| numbers[&number] >= 4));
+    assert!(numbers[&2] as usize >= 2 * Rule::breakable().count());
 }
 
 #[test]

@@ -1,8 +1,8 @@
-//! `tables SEED` writes random tables for the specification check.
+//! `tables SEED` writes random tables and single cases for the specification check.
 
-use second::gen::tables::{tables, text};
+use second::gen::{cases, tables};
 
 fn main() {
     let seed = std::env::args().nth(1).and_then(|word| word.parse().ok()).unwrap_or(1);
-    print!("{}", text(&tables(seed)));
+    print!("{}{}", tables::text(&tables::tables(seed)), cases::text(&cases::cases(seed)));
 }

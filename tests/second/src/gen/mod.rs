@@ -2,6 +2,7 @@
 //! seed gives the same material on every machine.
 
 pub mod books;
+pub mod cases;
 pub mod requests;
 pub mod rng;
 pub mod sites;

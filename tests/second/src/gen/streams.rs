@@ -4,10 +4,16 @@ use super::requests::{list_from_fresh, Mix};
 use super::sites::{bad_settings, large_settings, site_within, Size};
 use super::Rng;
 use crate::frames::{words_line, MOST_WORDS};
+use crate::machine::Settings;
 
 /// A good settings line and so many good frame lines.
 pub fn clean_stream(rng: &mut Rng, length: usize) -> Vec<u8> {
     let settings = site_within(rng, Size::Any, MOST_WORDS);
+    stream_of(rng, settings, length)
+}
+
+/// The same for a given site.
+pub fn stream_of(rng: &mut Rng, settings: Settings, length: usize) -> Vec<u8> {
     let mut out = words_line(&settings.words());
     let requests = list_from_fresh(rng, settings, length, Mix::USUAL);
     for request in requests {
@@ -19,6 +25,11 @@ pub fn clean_stream(rng: &mut Rng, length: usize) -> Vec<u8> {
 /// A stream with damage: some lines, the settings line, or the end of input.
 pub fn damaged_stream(rng: &mut Rng, length: usize) -> Vec<u8> {
     let clean = clean_stream(rng, length);
+    damage(rng, &clean)
+}
+
+/// Damages a clean stream.
+pub fn damage(rng: &mut Rng, clean: &[u8]) -> Vec<u8> {
     let mut lines: Vec<Vec<u8>> = clean.split_inclusive(|byte| *byte == 10).map(<[u8]>::to_vec).collect();
     if rng.percent(25) {
         lines[0] = damaged_settings_line(rng, &lines[0]);

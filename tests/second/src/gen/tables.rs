@@ -73,9 +73,13 @@ fn next(rng: &mut Rng, state: &State, seen: &Seen, turn: usize) -> Request {
     }
 }
 
+/// Numbers in base ten with a blank between two.
+pub fn join<Number: ToString>(numbers: &[Number]) -> String {
+    numbers.iter().map(Number::to_string).collect::<Vec<_>>().join(" ")
+}
+
 /// The tables as plain text, one line an item: site, step, book.
 pub fn text(tables: &[Table]) -> String {
-    let join = |words: &[u32]| words.iter().map(u32::to_string).collect::<Vec<_>>().join(" ");
     let mut out = String::new();
     for table in tables {
         out += &format!("site {}\n", join(&table.settings.words()));

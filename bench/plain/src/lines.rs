@@ -1,0 +1,194 @@
+//! The line program: chunks of bytes in, answer lines out. A whole frame line in the chunk is
+//! decoded where it lies; only pieces of lines at the ends of chunks are copied.
+
+use crate::calls::{lay, step};
+use crate::site::{Answer, Request, Site};
+
+const MOST_WORDS: usize = 16_384;
+const FRAME: usize = 56;
+/// No line of more bytes can be good: 25 settings words and one byte more.
+const KEPT: usize = 201;
+const LINE_END: u8 = 10;
+
+/// By byte: the digit's value, or NO_DIGIT.
+const NO_DIGIT: u8 = 0x80;
+static DIGITS: [u8; 256] = digits();
+/// By byte value: its two hexadecimal digits.
+static PAIRS: [[u8; 2]; 256] = pairs();
+
+const fn digits() -> [u8; 256] {
+    let mut table = [NO_DIGIT; 256];
+    let mut value = 0;
+    while value < 16 {
+        table[b"0123456789abcdef"[value] as usize] = value as u8;
+        value += 1;
+    }
+    table
+}
+
+const fn pairs() -> [[u8; 2]; 256] {
+    let hex = b"0123456789abcdef";
+    let mut table = [[0; 2]; 256];
+    let mut byte = 0;
+    while byte < 256 {
+        table[byte] = [hex[byte >> 4], hex[byte & 15]];
+        byte += 1;
+    }
+    table
+}
+
+/// Eight digits as a word; the second is NO_DIGIT or more when one of them is none.
+#[inline(always)]
+fn word(digits: &[u8; 8]) -> (u32, u8) {
+    let mut value = 0u32;
+    let mut any = 0;
+    for byte in digits {
+        let digit = DIGITS[*byte as usize];
+        any |= digit;
+        value = value << 4 | u32::from(digit & 15);
+    }
+    (value, any)
+}
+
+/// The seven words of a frame line.
+#[inline(always)]
+fn frame(line: &[u8; FRAME]) -> Option<[u32; 7]> {
+    let mut words = [0; 7];
+    let mut any = 0;
+    for (out, digits) in words.iter_mut().zip(line.as_chunks::<8>().0) {
+        let (value, flags) = word(digits);
+        any |= flags;
+        *out = value;
+    }
+    if any < NO_DIGIT {
+        Some(words)
+    } else {
+        None
+    }
+}
+
+#[inline(always)]
+fn put_answer(answer: &Answer, out: &mut Vec<u8>) {
+    let mut line = [LINE_END; 25];
+    let bytes = answer.words().map(u32::to_be_bytes);
+    for (pair, byte) in line.chunks_exact_mut(2).zip(bytes.as_flattened()) {
+        pair.copy_from_slice(&PAIRS[*byte as usize]);
+    }
+    out.extend_from_slice(&line);
+}
+
+enum Phase {
+    Settings,
+    Requests { site: Box<Site>, book: Vec<u32> },
+    Over,
+}
+
+pub struct Program {
+    phase: Phase,
+    /// The piece of a line that earlier chunks brought, at most KEPT bytes of it.
+    piece: Vec<u8>,
+    /// A line has begun that has not ended.
+    open: bool,
+}
+
+impl Default for Program {
+    fn default() -> Program {
+        Program { phase: Phase::Settings, piece: Vec::with_capacity(KEPT), open: false }
+    }
+}
+
+impl Program {
+    /// Takes a chunk and writes the answers of the lines that end in it.
+    pub fn feed(&mut self, mut chunk: &[u8], out: &mut Vec<u8>) {
+        if !self.open {
+            chunk = self.whole_frames(chunk, out);
+        }
+        while !chunk.is_empty() && !self.is_over() {
+            let Some(end) = chunk.iter().position(|byte| *byte == LINE_END) else {
+                self.keep(chunk);
+                return;
+            };
+            self.keep(&chunk[..end]);
+            self.end_line(out);
+            chunk = self.whole_frames(&chunk[end + 1..], out);
+        }
+    }
+
+    /// The end of input ends a line that has begun; no settings line at all is 24.
+    pub fn finish(&mut self, out: &mut Vec<u8>) {
+        if self.open || matches!(self.phase, Phase::Settings) {
+            self.end_line(out);
+        }
+    }
+
+    /// Nothing more is read after a refused settings line.
+    pub fn is_over(&self) -> bool {
+        matches!(self.phase, Phase::Over)
+    }
+
+    /// Answers good frame lines at the front of the chunk and gives the rest.
+    #[inline]
+    fn whole_frames<'a>(&mut self, mut chunk: &'a [u8], out: &mut Vec<u8>) -> &'a [u8] {
+        let Phase::Requests { site, book } = &mut self.phase else { return chunk };
+        while let Some((line, rest)) = chunk.split_first_chunk::<FRAME>() {
+            if rest.first() != Some(&LINE_END) {
+                break;
+            }
+            let Some(words) = frame(line) else { break };
+            put_answer(&step(site, book, &Request::new(words)), out);
+            chunk = &rest[1..];
+        }
+        chunk
+    }
+
+    fn keep(&mut self, bytes: &[u8]) {
+        let room = KEPT - self.piece.len();
+        self.piece.extend_from_slice(&bytes[..bytes.len().min(room)]);
+        self.open = true;
+    }
+
+    fn end_line(&mut self, out: &mut Vec<u8>) {
+        match &mut self.phase {
+            Phase::Settings => self.phase = settings_line(&self.piece, out),
+            Phase::Requests { site, book } => {
+                let words = <&[u8; FRAME]>::try_from(&self.piece[..]).ok().and_then(frame);
+                let answer = match words {
+                    Some(words) => step(site, book, &Request::new(words)),
+                    None => Answer::refused(23, 0),
+                };
+                put_answer(&answer, out);
+            }
+            Phase::Over => {}
+        }
+        self.piece.clear();
+        self.open = false;
+    }
+}
+
+/// 24 before 25; silent when good.
+fn settings_line(line: &[u8], out: &mut Vec<u8>) -> Phase {
+    let (groups, rest) = line.as_chunks::<8>();
+    let words: Vec<(u32, u8)> = groups.iter().map(word).collect();
+    let whole = rest.is_empty() && words.iter().all(|(_, any)| *any < NO_DIGIT);
+    let settings: Vec<u32> = words.iter().map(|(value, _)| *value).collect();
+    let refusal = match Site::new(&settings) {
+        Some(site) if whole && site.length <= MOST_WORDS => {
+            let mut book = vec![0; site.length];
+            lay(&settings, &mut book);
+            return Phase::Requests { site: Box::new(site), book };
+        }
+        Some(_) if whole => 25,
+        _ => 24,
+    };
+    put_answer(&Answer::refused(refusal, 0), out);
+    Phase::Over
+}
+
+/// The whole program on a whole input.
+pub fn frames(input: &[u8]) -> Vec<u8> {
+    let mut program = Program::default();
+    let mut out = Vec::new();
+    program.feed(input, &mut out);
+    program.finish(&mut out);
+    out
+}

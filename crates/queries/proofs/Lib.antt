@@ -1,0 +1,4 @@
+pub mod Shows
+pub mod Free
+pub mod Runs
+pub mod Loops

@@ -1,0 +1,152 @@
+-- Counts over the slots of a run of dates, and the members of a date.
+-- Assumes nothing.
+use Prim.Native.Nat.{ℕ, zero, suc, _+_, _*_, _/_, _%_, _-_, _≤_, _<_}
+use mathlib.Core.Path.{_≡_, refl, sym, _∙_, ap, ap₂, subst}
+use mathlib.Core.Bool.{Bool, true, false, not, _&&_, true≢false, false≢true}
+use mathlib.Core.List.{List}
+use native.Mathlib.Nat.{mul-one}
+use native.Mathlib.Omega.{arith}
+use lib.Dec.{leb, ltb, eqb}
+use lib.ListN.{length, getD, take, drop, length-take, length-drop}
+use lib.Seq.{getD-drop, getD-take}
+use borrow.Author.Tests.{le-leb, lt-ltb, lt-leb, le-ltb, leb-true, leb-false, ltb-true}
+use Rattle.model.specs.declared.Settings.{Settings}
+use Rattle.model.specs.Bounded.{any, bit, one, sumFrom, sum, count, count2, within}
+use Rattle.model.specs.Site.{allSessions, allTimes, dateOfSession, dateOfTime}
+use Rattle.model.specs.State.{State, Pairs, hotels, rides, attends, booked}
+use Rattle.model.specs.Questions.{bookings, limitA}
+use Rattle.model.specs.Words.{Region, leaves, hotelCells, attendCells, rideCells, groups}
+use Rattle.model.specs.Reading.{stateOf, readState}
+use Rattle.model.proofs.Search.{bool-eq, and-true, both}
+use Rattle.book.specs.declared.grid.Grid.{Grid}
+use Rattle.book.specs.declared.units.Slot.{Slot}
+use Rattle.book.specs.declared.units.Slot.the-variants.{Sessions, Times}
+use Rattle.book.specs.Grids.{cellAt, gridOf, place, Index}
+use Rattle.book.specs.Rows.{rowCount}
+use Rattle.book.specs.Good.{Good}
+use Rattle.book.specs.Units.{Cut}
+use Rattle.book.proofs.Counts.{sum-last, sum-part, sum-same, sum-zero, count-same, count-le}
+use Rattle.book.proofs.Cuts.{between-cuts}
+use Rattle.book.proofs.Entries.{booked-eqb}
+use Rattle.book.proofs.Goods.{good-state, good-sound, good-cell}
+use Rattle.pool.specs.Pool.{member}
+use Rattle.pool.proofs.Counts.{count-upto}
+use Rattle.queries.specs.Shown.{rowsCount, columnCount}
+use Rattle.queries.proofs.Shows.{leave-bit, count-cell}
+
+-- one more term of a sum from lo on
+pub sum-next : (f : ℕ → ℕ) (lo i : ℕ) → lo ≤ i → sumFrom f lo (i + 1 - lo) ≡ sumFrom f lo (i - lo) + f i
+sum-next f lo i h =
+    let e : i + 1 - lo ≡ suc (i - lo) = omega arith in
+    let k : lo + (i - lo) ≡ i = omega arith in
+    ap (sumFrom f lo) e ∙ sum-last f lo (i - lo) ∙ ap (λ (j : ℕ). sumFrom f lo (i - lo) + f j) k
+
+pub sum-start : (f : ℕ → ℕ) (lo : ℕ) → 0 ≡ sumFrom f lo (lo - lo)
+sum-start f lo = let e : lo - lo ≡ 0 = omega arith in sym (ap (sumFrom f lo) e)
+
+sum-most : (f : ℕ → ℕ) (k i n : ℕ) → ((j : ℕ) → f j ≤ k) → sumFrom f i n ≤ n * k
+sum-most f k i zero h = omega arith
+sum-most f k i (suc n) h = let e : suc n * k ≡ k + n * k = omega arith in omega (arith, e, h i, sum-most f k (suc i) n h)
+
+-- counts are few enough to be added
+pub rows-le : (g : Grid) (b : List ℕ) (w lo hi : ℕ) → g .items ≤ 512 → rowsCount g b w lo hi ≤ (hi - lo) * 512
+unfolding rowsCount rowCount
+rows-le g b w lo hi h = sum-most (λ i. rowCount g b i w) 512 lo (hi - lo) (λ i. omega (arith, count-le (λ j. eqb (cellAt g b i j) w) 0 (g .items)))
+
+pub column-le : (g : Grid) (b : List ℕ) (j lo hi : ℕ) → columnCount g b j lo hi ≤ hi - lo
+unfolding columnCount
+column-le g b j lo hi = count-le (λ i. not (eqb (cellAt g b i j) 0)) lo (hi - lo)
+
+-- a count of pairs whose first part lies in a run
+module _ (t : ℕ → Bool) (q : ℕ → ℕ → Bool) (f : ℕ → ℕ) (lo hi n m : ℕ) (l : lo ≤ hi) (h : hi ≤ n)
+    (in-run : (i : ℕ) → i < n → t i ≡ leb lo i && ltb i hi) (each : (i : ℕ) → i < n → count (q i) m ≡ f i) where
+  outside : (i : ℕ) → t i ≡ false → count (λ j. t i && q i j) m ≡ 0
+  outside i e = sum-zero (λ j. one (t i && q i j)) 0 m (λ j a b. ap (λ (b : Bool). one (b && q i j)) e)
+
+  inside : (i : ℕ) → i < n → t i ≡ true → count (λ j. t i && q i j) m ≡ f i
+  inside i k e = count-same (λ j. t i && q i j) (q i) m (λ j b. ap (λ (b : Bool). b && q i j) e) ∙ each i k
+
+  pub count-run : count2 (λ i j. t i && q i j) n m ≡ sumFrom f lo (hi - lo)
+  count-run =
+      sum-part (λ i. count (λ j. t i && q i j) m) lo hi n l h
+      (λ i k. outside i (in-run i (omega arith) ∙ ap (λ (b : Bool). b && ltb i hi) (lt-leb lo i k)))
+      (λ i k g. outside i (in-run i g ∙ off i k))
+      ∙ sum-same (λ i. count (λ j. t i && q i j) m) f lo (hi - lo)
+      (λ i k g. inside i (omega arith) (in-run i (omega arith) ∙ and-true (le-leb lo i k) (lt-ltb i hi (omega arith))))
+    where
+      off : (i : ℕ) → hi ≤ i → leb lo i && ltb i hi ≡ false
+      off i k = rw (le-leb lo i (omega arith), le-ltb i hi k)
+
+-- a later date's cut is no lower
+pub cut-order : (S : Settings) (u : Slot) (d e lo hi : ℕ) → Cut S u d lo → Cut S u e hi → d ≤ e → lo ≤ hi
+cut-order S u d e lo hi a b h = go (leb lo hi) refl
+  where
+    go : (t : Bool) → leb lo hi ≡ t → lo ≤ hi
+    go true q = leb-true lo hi q
+    go false q =
+        let l : hi < lo = leb-false lo hi q in
+        absurd (omega (arith, a .before hi l, b .after hi (omega arith) (omega (arith, a .most)), h))
+
+-- the bookings of a visitor on a run of dates, by the cuts of times and sessions
+module _ (S : Settings) (b : List ℕ) (good : Good S b) (v from to t0 t1 s0 s1 : ℕ) (hv : v < S .visitors) (hf : from ≤ to) (ht : to < S .dates)
+    (ta : Cut S Times from t0) (tb : Cut S Times (to + 1) t1) (sa : Cut S Sessions from s0) (sb : Cut S Sessions (to + 1) s1) where
+  abbrev x : State
+  x = readState S b
+
+  nights : count2 (λ d r. within from to d && x .hotel d r v) (S .dates) (S .hotels) ≡ rowsCount (gridOf S hotelCells) b (v + 1) from (to + 1)
+  unfolding rowsCount rowCount
+  nights =
+      count-run (within from to) (λ d r. booked x hotels d r v) (λ d. rowCount (gridOf S hotelCells) b d (v + 1)) from (to + 1) (S .dates) (S .hotels)
+      (omega arith) (omega arith) (λ d k. ap (λ (t : Bool). leb from d && t) (last d))
+      (λ d k. count-same (λ r. booked x hotels d r v) (λ r. eqb (cellAt (gridOf S hotelCells) b d r) (v + 1)) (S .hotels) (λ r g. booked-eqb S b hotels d k g hv))
+    where
+      last : (d : ℕ) → leb d to ≡ ltb d (to + 1)
+      last d = bool-eq _ _ (λ e. lt-ltb d (to + 1) (omega (arith, leb-true d to e))) (λ e. le-leb d to (omega (arith, ltb-true d (to + 1) e)))
+
+  taxis : t0 ≤ t1 → count2 (λ t k. within from to (dateOfTime S t) && x .ride t k v) (allTimes S) (S .transports) ≡ rowsCount (gridOf S rideCells) b (v + 1) t0 t1
+  unfolding rowsCount rowCount
+  taxis l =
+      count-run (λ t. within from to (dateOfTime S t)) (λ t k. booked x rides t k v) (λ t. rowCount (gridOf S rideCells) b t (v + 1)) t0 t1 (allTimes S) (S .transports)
+      l (tb .most) (λ t k. between-cuts S Times from to t0 t1 ta tb t k)
+      (λ t k. count-same (λ r. booked x rides t r v) (λ r. eqb (cellAt (gridOf S rideCells) b t r) (v + 1)) (S .transports) (λ r g. booked-eqb S b rides t k g hv))
+
+  seated : s0 ≤ s1 → count2 (λ s m. within from to (dateOfSession S s) && x .attend s m v) (allSessions S) (S .meetings) ≡ columnCount (gridOf S attendCells) b v s0 s1
+  unfolding columnCount
+  seated l =
+      count-run (λ s. within from to (dateOfSession S s)) (λ s m. booked x attends s m v) (λ s. one (not (eqb (cellAt (gridOf S attendCells) b s v) 0))) s0 s1 (allSessions S) (S .meetings)
+      l (sb .most) (λ s k. between-cuts S Sessions from to s0 s1 sa sb s k)
+      (λ s k. count-same (λ m. booked x attends s m v) (λ m. eqb (cellAt (gridOf S attendCells) b s v) (m + 1)) (S .meetings) (λ m g. booked-eqb S b attends s k g hv)
+      ∙ count-cell (cellAt (gridOf S attendCells) b s v) (S .meetings) (good-cell good attends s v k hv))
+
+  pub bookings-is : t0 ≤ t1 → s0 ≤ s1
+      → rowsCount (gridOf S hotelCells) b (v + 1) from (to + 1) + rowsCount (gridOf S rideCells) b (v + 1) t0 t1 + columnCount (gridOf S attendCells) b v s0 s1
+      ≡ bookings (stateOf b) v from to
+  unfolding bookings readState
+  bookings-is l k =
+      rw (good-state good) (sym (ap₂ _+_ (ap₂ _+_ nights (taxis l)) (seated k)))
+
+-- the members of a date are the bits of its row
+module _ (S : Settings) (b : List ℕ) (good : Good S b) (d r : ℕ) (h : d < S .dates) (at : Index (gridOf S leaves) d 0 r) where
+  abbrev words : ℕ
+  words = groups (S .visitors)
+
+  start : (j : ℕ) → r + j ≡ place (gridOf S leaves) d j 0
+  start j = omega (arith, at .at, mul-one (d * words + 0), mul-one (d * words + j))
+
+  member-is : (row : List ℕ) → row ≡ take words (drop r b) → (v : ℕ) → v / 32 < words → member row v ≡ stateOf b .leave d v
+  unfolding cellAt
+  member-is row e v k =
+      ap (λ (w : ℕ). bit w (v % 32))
+      (ap (λ (q : List ℕ). getD q (v / 32) 0) e ∙ getD-take words (drop r b) (v / 32) 0 k ∙ getD-drop r b (v / 32) 0 ∙ ap (λ (n : ℕ). getD b n 0) (start (v / 32)))
+      ∙ sym (leave-bit S b good d v h k)
+
+  none-past : (v : ℕ) → S .visitors ≤ v → (t : Bool) → stateOf b .leave d v ≡ t → t ≡ false
+  unfolding readState
+  none-past v k false q = refl
+  none-past v k true q = absurd (omega (arith, k, good-sound good .leaves d v (sym (ap (λ (x : State). x .leave d v) (good-state good)) ∙ q) .1))
+
+  pub members-is : (row : List ℕ) → row ≡ take words (drop r b) → length row ≡ words → count (member row) (length row * 32) ≡ count (λ v. stateOf b .leave d v) (S .visitors)
+  members-is row e n =
+      ap (λ (k : ℕ). count (member row) (k * 32)) n
+      ∙ count-same (member row) (λ v. stateOf b .leave d v) (words * 32) (λ v k. member-is row e v (omega arith))
+      ∙ count-upto (λ v. stateOf b .leave d v) (S .visitors) (words * 32) (omega arith) (λ v k l. none-past v k (stateOf b .leave d v) refl)

@@ -1,0 +1,80 @@
+// The hotel, ride and attend entries of a visitor on a run of dates.
+use book::grid::Grid;
+use book::grid::Grids;
+use book::grid::cell;
+use book::rows::row_count;
+use book::units::Slot;
+use book::units::first_on;
+use model::Settings;
+ghost use mathlib.Core.Path.{_≡_};
+ghost use Prim.Native.Nat.{_-_, _≤_, _<_};
+ghost use mathlib.Core.Bool.{not};
+ghost use lib.Dec.{eqb};
+ghost use lib.ListN.{length};
+ghost use Rattle.model.specs.Bounded.{one};
+ghost use Rattle.model.specs.Questions.{bookings as bookingsIn};
+ghost use Rattle.model.specs.Reading.{stateOf};
+ghost use Rattle.book.specs.Grids.{Fits, gridsOf};
+ghost use Rattle.book.specs.Good.{Good};
+ghost use Rattle.queries.specs.Shown.{rowsCount, columnCount};
+
+// How many cells of the slots lo..hi, hi left out, hold w.
+fn rows_count(book: &[u32], g: Grid, w: u32, lo: u32, hi: u32) -> u32
+    requires { ⌜ Fits g (length (now book)) ⌝ }
+    requires { ⌜ (lo ≤ hi) × (hi ≤ g .slots) × (g .slots ≤ 38400) × (g .items ≤ 512) ⌝ }
+    ensures { λ r. ⌜ r ≡ rowsCount g (now (book .entry)) w lo hi ⌝ }
+{
+    let mut n: u32 = 0;
+    let mut i = lo;
+    while i < hi {
+        n += row_count(book, g, i, w);
+        i += 1;
+    }
+    n
+}
+
+fn full(w: u32) -> u32
+    ensures { λ r. ⌜ r ≡ one (not (eqb w 0)) ⌝ }
+{
+    if w == 0 {
+        return 0;
+    }
+    1
+}
+
+// In how many of the slots lo..hi, hi left out, the item's cell is full.
+fn column_count(book: &[u32], g: Grid, item: u32, lo: u32, hi: u32) -> u32
+    requires { ⌜ Fits g (length (now book)) ⌝ }
+    requires { ⌜ item < g .items ⌝ }
+    requires { ⌜ (lo ≤ hi) × (hi ≤ g .slots) × (g .slots ≤ 38400) ⌝ }
+    ensures { λ r. ⌜ r ≡ columnCount g (now (book .entry)) item lo hi ⌝ }
+{
+    let mut n: u32 = 0;
+    let mut i = lo;
+    while i < hi {
+        n += full(cell(book, g, i, item));
+        i += 1;
+    }
+    n
+}
+
+// The entries of the visitor on the dates from..to.
+pub fn bookings(book: &[u32], s: Settings, g: Grids, visitor: u32, from: u32, to: u32) -> u32
+    requires { ⌜ Good s (now book) ⌝ }
+    requires { ⌜ g ≡ gridsOf s ⌝ }
+    requires { ⌜ visitor < s .visitors ⌝ }
+    requires { ⌜ from ≤ to ⌝ }
+    requires { ⌜ to < s .dates ⌝ }
+    ensures { λ r. ⌜ r ≡ bookingsIn (stateOf (now (book .entry))) visitor from to ⌝ }
+{
+    let times = g.ride.slots;
+    let sessions = g.attend.slots;
+    let t0 = first_on(s, Slot::Times, times, from);
+    let t1 = first_on(s, Slot::Times, times, to + 1);
+    let s0 = first_on(s, Slot::Sessions, sessions, from);
+    let s1 = first_on(s, Slot::Sessions, sessions, to + 1);
+    let nights = rows_count(book, g.hotel, visitor + 1, from, to + 1);
+    let rides = rows_count(book, g.ride, visitor + 1, t0, t1);
+    let meetings = column_count(book, g.attend, visitor, s0, s1);
+    nights + rides + meetings
+}

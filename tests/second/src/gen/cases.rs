@@ -1,0 +1,145 @@
+//! Single cases for the specification check, beside the tables of steps: checked books (each rule
+//! broken alone, lawful, junk), calls on raw books, layings, and whole inputs of the line program.
+
+use super::books::{damaged, junk_book};
+use super::requests::{deep_state, one, Mix};
+use super::sites::{bad_settings, large_settings, site, Size};
+use super::streams::{damage, stream_of};
+use super::tables::join;
+use super::Rng;
+use crate::book::{self, length, words, Rule};
+use crate::frames::{frames, words_line};
+use crate::machine::{Answer, Request, State};
+use std::collections::BTreeMap;
+
+/// How many of each sort there are: books for each rule that a book can break, then the others.
+const BOOKS_A_RULE: usize = 2;
+const JUNK: usize = 20;
+const CALLS: usize = 30;
+const LAYINGS: usize = 12;
+const STREAMS: usize = 16;
+
+/// A prover computes these, so books and inputs stay short.
+const MOST_WORDS: usize = 150;
+const MOST_BYTES: usize = 600;
+
+pub enum Case {
+    Check { book: Vec<u32>, answer: Answer },
+    Call { before: Vec<u32>, request: Request, answer: Answer, after: Vec<u32> },
+    Lay { settings: Vec<u32>, before: Vec<u32>, answer: Answer, after: Vec<u32> },
+    Input { input: Vec<u8>, output: Vec<u8> },
+}
+
+pub fn cases(seed: u64) -> Vec<Case> {
+    let mut rng = Rng::new(seed ^ 0xca5e);
+    let mut all = broken_rules(&mut rng);
+    all.extend((0..JUNK).map(|_| checked(short_junk(&mut rng))));
+    all.extend((0..CALLS).map(|turn| called(&mut rng, turn % 3 == 0)));
+    all.extend((0..LAYINGS).map(|turn| laid(&mut rng, turn % 3)));
+    all.extend((0..STREAMS).map(|turn| input(&mut rng, turn)));
+    all
+}
+
+fn small_state(rng: &mut Rng) -> State {
+    loop {
+        let settings = site(rng, Size::Table);
+        if length(&settings) <= MOST_WORDS as u64 {
+            return deep_state(rng, settings, 20);
+        }
+    }
+}
+
+fn short_junk(rng: &mut Rng) -> Vec<u32> {
+    loop {
+        let book = junk_book(rng);
+        if book.len() <= MOST_WORDS {
+            return book;
+        }
+    }
+}
+
+fn checked(book: Vec<u32>) -> Case {
+    let answer = book::check(&book);
+    Case::Check { book, answer }
+}
+
+/// Lawful books, and books of the same states with one rule broken, until every rule has its number.
+fn broken_rules(rng: &mut Rng) -> Vec<Case> {
+    let mut all = Vec::new();
+    let mut wanted: BTreeMap<Rule, usize> = Rule::breakable().map(|rule| (rule, BOOKS_A_RULE)).collect();
+    while !wanted.is_empty() {
+        let state = small_state(rng);
+        all.push(checked(words(&state)));
+        for (rule, left) in &mut wanted {
+            if let Some(book) = damaged(rng, &state, *rule) {
+                all.push(checked(book));
+                *left -= 1;
+            }
+        }
+        wanted.retain(|_, left| *left > 0);
+    }
+    all
+}
+
+fn called(rng: &mut Rng, raw: bool) -> Case {
+    let state = small_state(rng);
+    let before = if raw { short_junk(rng) } else { words(&state) };
+    let request = one(rng, &state, Mix::USUAL);
+    let mut after = before.clone();
+    let answer = book::request(&mut after, &request);
+    Case::Call { before, request, answer, after }
+}
+
+/// In turn a good laying, bad settings, and a lent book of a wrong length.
+fn laid(rng: &mut Rng, turn: usize) -> Case {
+    let state = small_state(rng);
+    let settings = if turn == 1 { bad_settings(rng) } else { state.settings.words() };
+    let lent = length(&state.settings) as usize + if turn == 2 { 1 } else { 0 };
+    let before = vec![rng.below(9); lent];
+    let mut after = before.clone();
+    let answer = book::lay(&settings, &mut after);
+    Case::Lay { settings, before, answer, after }
+}
+
+fn input(rng: &mut Rng, turn: usize) -> Case {
+    let input = match turn {
+        0 => Vec::new(),
+        1 => vec![10],
+        2 => words_line(&large_settings(rng).words()),
+        3 => words_line(&bad_settings(rng)),
+        _ => short_stream(rng),
+    };
+    let output = frames(&input);
+    Case::Input { input, output }
+}
+
+fn short_stream(rng: &mut Rng) -> Vec<u8> {
+    loop {
+        let settings = small_state(rng).settings;
+        let clean = stream_of(rng, settings, 6);
+        let stream = if rng.percent(70) { damage(rng, &clean) } else { clean };
+        if stream.len() <= MOST_BYTES {
+            return stream;
+        }
+    }
+}
+
+/// The cases as plain text, one line each; `->` comes before what is answered, `:` between lists.
+pub fn text(cases: &[Case]) -> String {
+    let mut out = String::new();
+    for case in cases {
+        out += &match case {
+            Case::Check { book, answer } => format!("check {} -> {}\n", join(book), join(&answer.words())),
+            Case::Call { before, request, answer, after } => {
+                let asked = join(&request.words());
+                format!("call {} : {asked} -> {} : {}\n", join(before), join(&answer.words()), join(after))
+            }
+            Case::Lay { settings, before, answer, after } => {
+                let asked = join(settings);
+                format!("lay {asked} : {} -> {} : {}\n", join(before), join(&answer.words()), join(after))
+            }
+            Case::Input { input, output } => format!("input {} -> {}\n", join(input), join(output)),
+        };
+    }
+    out
+}
