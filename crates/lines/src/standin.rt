@@ -6,7 +6,7 @@ use model::Settings;
 ghost use mathlib.Core.Path.{_≡_};
 ghost use Rattle.model.specs.Machine.{step as machineStep};
 ghost use Rattle.model.specs.Reading.{stateOf};
-ghost use Rattle.model.specs.Calls.{called, lay as laying};
+ghost use Rattle.model.specs.Calls.{called};
 ghost use Rattle.book.specs.Good.{Good, answered};
 ghost use Rattle.book.specs.Grids.{gridsOf};
 
@@ -16,10 +16,4 @@ pub fn step(book: &mut [u32], s: Settings, g: Grids, r: Request) -> Answer
     ensures { λ a. ⌜ answered a (now (book .exit)) ≡ called (machineStep (stateOf (now (book .entry))) r) ⌝ }
 {
     Answer::Done(r.info)
-}
-
-pub fn lay(words: &[u32], book: &mut [u32]) -> Answer
-    ensures { λ a. ⌜ answered a (now (book .exit)) ≡ laying (now (words .entry)) (now (book .entry)) ⌝ }
-{
-    Answer::Done(0)
 }

@@ -8,7 +8,6 @@ use Rattle.lines.proofs.lay.lay_words.Tie as tie
 use Rattle.lines.proofs.lay.lay_words.Reads as reads
 use Rattle.lines.proofs.lay.lay_words.Lts as lts
 use Rattle.book.proofs.settings.book_len.Reads as book-len-reads
-use Rattle.lines.proofs.standin.lay.Reads as lay-reads
 
 -- src/lay.rt:27:9
 book-len-requires : tie.Need-book-len-requires
