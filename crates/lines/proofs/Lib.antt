@@ -9,3 +9,4 @@ pub mod Looking
 pub mod Turns
 pub mod Layings
 pub mod Streams
+pub mod Program

@@ -258,8 +258,8 @@ pub held-some : (h : Held) → Holds h (heldOf h) → (h .len ≡ 0 → ⊥) →
 held-some h k n = omega (arith, k .few, k .long, length-take-le (h .len) (h .bytes) (omega (arith, k .few, k .long)))
 
 -- the stream before the first byte
-pub begun : {s : Stream} {b : List ℕ} → Begun s → Going s b × (pointOf s b ≡ opening [])
-begun {s} {b} g =
+pub begun : {s : Stream} (b : List ℕ) → Begun s → Going s b × (pointOf s b ≡ opening [])
+begun {s} b g =
     let h = g .holds in (
       record {
         holds = record { long = h .long; few = h .few; same = refl };
