@@ -1,8 +1,8 @@
 // The settings line: the book that it lays.
-use book::lay::lay;
-use book::settings::book_len;
 use crate::line::line_words;
 use crate::line::whole_words;
+use book::lay::lay;
+use book::settings::book_len;
 ghost use mathlib.Core.Path.{_≡_};
 ghost use Prim.Native.Nat.{_≤_};
 ghost use lib.ListN.{length};

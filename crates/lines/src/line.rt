@@ -138,7 +138,10 @@ pub fn value_of(a: Answer) -> u32
 {
     match a {
         Answer::Done(v) => v,
-        Answer::Refused { number: _, place: _ } => 0,
+        Answer::Refused {
+            number: _,
+            place: _,
+        } => 0,
     }
 }
 

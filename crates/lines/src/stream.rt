@@ -1,16 +1,16 @@
 // The stream: a chunk of input in, answer lines out, and what is held of a line that the chunk's end cuts.
-use book::grid::Grids;
-use book::grid::grids_of;
-use book::settings::settings;
 use crate::lay::Laid;
 use crate::lay::lay_line;
 use crate::line::Framed;
-use crate::line::frame;
 use crate::line::Next;
+use crate::line::frame;
 use crate::line::line_end;
 use crate::line::look;
 use crate::line::put_answer;
 use crate::standin::step;
+use book::grid::Grids;
+use book::grid::grids_of;
+use book::settings::settings;
 use model::Answer;
 use model::Settings;
 ghost use mathlib.Core.Path.{_≡_};
@@ -134,7 +134,14 @@ fn answer_next(book: &mut [u32], s: Settings, g: Grids, chunk: &[u8]) -> Taken
 }
 
 // The answers of all whole lines of a chunk that begins with a line.
-fn answers(book: &mut [u32], s: Settings, g: Grids, chunk: &[u8], out: &mut [u8], from: usize) -> Progress
+fn answers(
+    book: &mut [u32],
+    s: Settings,
+    g: Grids,
+    chunk: &[u8],
+    out: &mut [u8],
+    from: usize,
+) -> Progress
     requires { ⌜ Good s (now book) ⌝ }
     requires { ⌜ g ≡ gridsOf s ⌝ }
     requires { ⌜ from + 25 * length (now chunk) ≤ length (now out) ⌝ }
@@ -147,20 +154,14 @@ fn answers(book: &mut [u32], s: Settings, g: Grids, chunk: &[u8], out: &mut [u8]
         let t = answer_next(book, s, g, rest);
         let used = t.used;
         if used == 0 {
-            return Progress {
-                used: i,
-                wrote: at,
-            };
+            return Progress { used: i, wrote: at };
         }
         let a = t.answer;
         put_answer(out, at, a);
         at += 25;
         i += used;
     }
-    Progress {
-        used: i,
-        wrote: at,
-    }
+    Progress { used: i, wrote: at }
 }
 
 // The same under the settings that the book begins with.
@@ -223,7 +224,14 @@ fn settle(book: &mut [u32], line: &[u8], out: &mut [u8], at: usize) -> Ended
 }
 
 // The end of any line.
-fn end_line(book: &mut [u32], phase: Phase, size: usize, line: &[u8], out: &mut [u8], at: usize) -> Ended
+fn end_line(
+    book: &mut [u32],
+    phase: Phase,
+    size: usize,
+    line: &[u8],
+    out: &mut [u8],
+    at: usize,
+) -> Ended
     requires { ⌜ 16384 ≤ length (now book) ⌝ }
     requires { ⌜ Sized phase size (now book) ⌝ }
     requires { ⌜ at + 25 ≤ length (now out) ⌝ }
@@ -293,11 +301,7 @@ pub fn feed(book: &mut [u32], stream: Stream, chunk: &[u8], out: &mut [u8]) -> F
     let held = hold(before, &chunk[..n]);
     if n == chunk.len() {
         return Fed {
-            stream: Stream {
-                held,
-                phase,
-                size,
-            },
+            stream: Stream { held, phase, size },
             wrote: 0,
         };
     }

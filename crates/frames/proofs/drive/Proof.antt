@@ -7,12 +7,6 @@ use Rattle.lines.specs.Post.{Going}
 use Rattle.lines.proofs.Streams.{begun}
 use Rattle.frames.proofs.drive.Statement.{statement}
 use Rattle.frames.proofs.drive.Tie as tie
-use Rattle.frames.proofs.drive.Reads as reads
-use Rattle.frames.proofs.drive.Lts as lts
-use Rattle.frames.proofs.take_turn.Reads as take-turn-reads
-use Rattle.io.proofs.write_all.Reads as write-all-reads
-use Rattle.lines.proofs.stream.begin.Reads as begin-reads
-use Rattle.lines.proofs.stream.close.Reads as close-reads
 
 abbrev Inv-loop : tie.InvT-loop
 Inv-loop book₀ chunk₀ out₀ stream₀ turns₀ more₀ book chunk out stream turns more = (length book ≡ length book₀) × (length chunk ≡ length chunk₀) × (length out ≡ length out₀) × Going stream book
@@ -20,59 +14,45 @@ Inv-loop book₀ chunk₀ out₀ stream₀ turns₀ more₀ book chunk out strea
 abbrev μ-loop : tie.MeasureT-loop
 μ-loop book₀ chunk₀ out₀ stream₀ turns₀ more₀ book chunk out stream turns more = turns
 
--- src/main.rt:64:9
 begin-requires : tie.Need-begin-requires Inv-loop μ-loop
 begin-requires c κs = search needs
 
--- src/main.rt:67:5
 loop-holds : tie.Need-loop-holds Inv-loop μ-loop
 loop-holds c = (refl, refl, refl, begun _ (c .begin .ensures) .0)
 
--- src/main.rt:68:13
 take-turn-requires : tie.Need-take-turn-requires Inv-loop μ-loop
 take-turn-requires c κs = search needs
 
--- src/main.rt:71:9
 sub-turns : tie.Need-sub-turns Inv-loop μ-loop
 sub-turns c = search needs
 
--- src/main.rt:67:5
 loop-less : tie.Need-loop-less Inv-loop μ-loop
 loop-less c = search needs
 
--- src/main.rt:67:5
 loop-again : tie.Need-loop-again Inv-loop μ-loop
 loop-again c = search needs
 
--- src/main.rt:73:9
 close-requires : tie.Need-close-requires Inv-loop μ-loop
 close-requires c κs = search needs
 
--- src/main.rt:75:34
 slice-reshare-prefix-write-all : tie.Need-slice-reshare-prefix-write-all Inv-loop μ-loop
 slice-reshare-prefix-write-all c = search needs
 
--- src/main.rt:75:34
 slice-aggregate-write-all : tie.Need-slice-aggregate-write-all Inv-loop μ-loop
 slice-aggregate-write-all c = sym (length-take-le _ _ (omega arith))
 
--- src/main.rt:75:5
 write-all-requires : tie.Need-write-all-requires Inv-loop μ-loop
 write-all-requires c κs = search needs
 
--- src/main.rt:59:1
 same-length : tie.Need-same-length Inv-loop μ-loop
 same-length c = search needs
 
--- src/main.rt:59:1
 same-length-2 : tie.Need-same-length-2 Inv-loop μ-loop
 same-length-2 c = search needs
 
--- src/main.rt:59:1
 same-length-3 : tie.Need-same-length-3 Inv-loop μ-loop
 same-length-3 c = search needs
 
--- src/main.rt:59:1
 returns : tie.Need-returns Inv-loop μ-loop
 returns c = search needs
 

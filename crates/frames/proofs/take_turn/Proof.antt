@@ -4,87 +4,61 @@ use lib.Seq.{length-take-le}
 use borrow.Author.Needs.{needs}
 use Rattle.frames.proofs.take_turn.Statement.{statement}
 use Rattle.frames.proofs.take_turn.Tie as tie
-use Rattle.frames.proofs.take_turn.Reads as reads
-use Rattle.frames.proofs.take_turn.Lts as lts
-use Rattle.frames.proofs.is_over.Reads as is-over-reads
-use Rattle.io.proofs.count.Reads as count-reads
-use Rattle.io.proofs.write_all.Reads as write-all-reads
-use Rattle.libc.proofs.read.Reads as read-reads
-use Rattle.lines.proofs.stream.feed.Reads as feed-reads
 
--- src/main.rt:33:9
 read-requires : tie.Need-read-requires
 read-requires c κs = search needs
 
--- src/main.rt:34:9
 count-requires : tie.Need-count-requires
 count-requires c κs = search needs
 
--- src/main.rt:36:9
 same-length : tie.Need-same-length
 same-length c = search needs
 
--- src/main.rt:36:9
 returns : tie.Need-returns
 returns c = search needs
 
--- src/main.rt:41:49
 slice-reshare-prefix-feed : tie.Need-slice-reshare-prefix-feed
 slice-reshare-prefix-feed c = search needs
 
--- src/main.rt:41:49
 slice-aggregate-feed : tie.Need-slice-aggregate-feed
 slice-aggregate-feed c = search needs
 
--- src/main.rt:41:9
 feed-requires : tie.Need-feed-requires
 feed-requires c κs = search needs
 
--- src/main.rt:45:51
 slice-reshare-prefix-write-all : tie.Need-slice-reshare-prefix-write-all
 slice-reshare-prefix-write-all c = search needs
 
--- src/main.rt:45:51
 slice-aggregate-write-all : tie.Need-slice-aggregate-write-all
 slice-aggregate-write-all c = sym (length-take-le _ _ (omega arith))
 
--- src/main.rt:45:9
 write-all-requires : tie.Need-write-all-requires
 write-all-requires c κs = search needs
 
--- src/main.rt:46:8
 is-over-requires : tie.Need-is-over-requires
 is-over-requires c κs = search needs
 
--- src/main.rt:47:9
 same-length-2 : tie.Need-same-length-2
 same-length-2 c = search needs
 
--- src/main.rt:47:9
 same-length-3 : tie.Need-same-length-3
 same-length-3 c = search needs
 
--- src/main.rt:47:9
 same-length-4 : tie.Need-same-length-4
 same-length-4 c = search needs
 
--- src/main.rt:47:9
 returns-2 : tie.Need-returns-2
 returns-2 c = search needs
 
--- src/main.rt:27:1
 same-length-5 : tie.Need-same-length-5
 same-length-5 c = search needs
 
--- src/main.rt:27:1
 same-length-6 : tie.Need-same-length-6
 same-length-6 c = search needs
 
--- src/main.rt:27:1
 same-length-7 : tie.Need-same-length-7
 same-length-7 c = search needs
 
--- src/main.rt:27:1
 returns-3 : tie.Need-returns-3
 returns-3 c = search needs
 

@@ -2,30 +2,22 @@ use borrow.Author.Tests.{le-leb, lt-leb}
 use borrow.Author.Needs.{needs}
 use Rattle.lines.proofs.hex.digit.Statement.{statement}
 use Rattle.lines.proofs.hex.digit.Tie as tie
-use Rattle.lines.proofs.hex.digit.Reads as reads
-use Rattle.lines.proofs.hex.digit.Lts as lts
 
--- src/hex.rt:58:22
 cast-result : tie.Need-cast-result
 cast-result c = search needs
 
--- src/hex.rt:58:17
 add-result : tie.Need-add-result
 add-result c = search needs
 
--- src/hex.rt:58:44
 cast-result-2 : tie.Need-cast-result-2
 cast-result-2 c = search needs
 
--- src/hex.rt:58:39
 add-result-2 : tie.Need-add-result-2
 add-result-2 c = search needs
 
--- src/hex.rt:54:1
 returns : tie.Need-returns
 returns c = simp (le-leb _ _ (c .if1 .taken))
 
--- src/hex.rt:54:1
 returns-2 : tie.Need-returns-2
 returns-2 c = simp (lt-leb _ _ (c .if1 .left))
 

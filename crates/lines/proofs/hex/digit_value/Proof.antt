@@ -2,26 +2,19 @@ use Rattle.lines.proofs.Hexes.{value-is}
 use borrow.Author.Needs.{needs}
 use Rattle.lines.proofs.hex.digit_value.Statement.{statement}
 use Rattle.lines.proofs.hex.digit_value.Tie as tie
-use Rattle.lines.proofs.hex.digit_value.Reads as reads
-use Rattle.lines.proofs.hex.digit_value.Lts as lts
 
--- src/hex.rt:35:5
 cast-result : tie.Need-cast-result
 cast-result c = search needs
 
--- src/hex.rt:35:23
 cast-result-2 : tie.Need-cast-result-2
 cast-result-2 c = search needs
 
--- src/hex.rt:35:23
 mul-result : tie.Need-mul-result
 mul-result c = search needs
 
--- src/hex.rt:35:5
 add-result : tie.Need-add-result
 add-result c = search needs
 
--- src/hex.rt:31:1
 returns : tie.Need-returns
 returns c = value-is (c .args .b) (c .pre) .0
 

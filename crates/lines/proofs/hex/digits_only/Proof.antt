@@ -9,9 +9,6 @@ use Rattle.lines.specs.Digits.{digitsOnly}
 use Rattle.lines.proofs.Hexes.{digits-more}
 use Rattle.lines.proofs.hex.digits_only.Statement.{statement}
 use Rattle.lines.proofs.hex.digits_only.Tie as tie
-use Rattle.lines.proofs.hex.digits_only.Reads as reads
-use Rattle.lines.proofs.hex.digits_only.Lts as lts
-use Rattle.lines.proofs.hex.is_digit.Reads as is-digit-reads
 
 abbrev Inv-loop : tie.InvT-loop
 Inv-loop s all₀ i₀ all i = (i ≤ length s) × (all ≡ digitsOnly (take i s))
@@ -19,34 +16,27 @@ Inv-loop s all₀ i₀ all i = (i ≤ length s) × (all ≡ digitsOnly (take i s
 abbrev μ-loop : tie.MeasureT-loop
 μ-loop s all₀ i₀ all i = length s - i
 
--- src/hex.rt:23:5
 loop-holds : tie.Need-loop-holds Inv-loop μ-loop
 loop-holds c = search needs
 
--- src/hex.rt:24:30
 shared-slice-read-is-digit : tie.Need-shared-slice-read-is-digit Inv-loop μ-loop
 shared-slice-read-is-digit c = search needs
 
--- src/hex.rt:24:21
 is-digit-requires : tie.Need-is-digit-requires Inv-loop μ-loop
 is-digit-requires c κs = search needs
 
--- src/hex.rt:25:9
 add-i : tie.Need-add-i Inv-loop μ-loop
 add-i c = search needs
 
--- src/hex.rt:23:5
 loop-less : tie.Need-loop-less Inv-loop μ-loop
 loop-less c = search needs
 
--- src/hex.rt:23:5
 loop-again : tie.Need-loop-again Inv-loop μ-loop
-loop-again c = 
+loop-again c =
     let l = c .before .before .before .loop in
     let s = c .before .before .before .before .before .args .s .now in
     (search needs, ap₂ _&&_ (l .inv .1) (c .is-digit .ensures) ∙ sym (digits-more s (l .i) (omega arith)))
 
--- src/hex.rt:18:1
 returns : tie.Need-returns Inv-loop μ-loop
 returns c = c .before .loop .inv .1 ∙ ap digitsOnly (take-all _ _ (c .loop-test .left))
 

@@ -3,10 +3,7 @@ use Prim.Native.Nat.{_-_}
 use Rattle.lines.proofs.Hexes.{some-of}
 use Rattle.lines.proofs.hex.is_digit.Statement.{statement}
 use Rattle.lines.proofs.hex.is_digit.Tie as tie
-use Rattle.lines.proofs.hex.is_digit.Reads as reads
-use Rattle.lines.proofs.hex.is_digit.Lts as lts
 
--- src/hex.rt:11:1
 returns : tie.Need-returns
 returns c = some-of (within 48 57 (c .args .b)) (within 97 102 (c .args .b)) (c .args .b - 48) (c .args .b - 87)
 

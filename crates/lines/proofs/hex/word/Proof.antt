@@ -11,9 +11,6 @@ use lib.ListN.{length, take, drop}
 use Rattle.model.specs.Lines.{shown, shownFrom}
 use Rattle.lines.proofs.hex.word.Statement.{statement}
 use Rattle.lines.proofs.hex.word.Tie as tie
-use Rattle.lines.proofs.hex.word.Reads as reads
-use Rattle.lines.proofs.hex.word.Lts as lts
-use Rattle.lines.proofs.hex.digit_value.Reads as digit-value-reads
 
 abbrev Inv-loop : tie.InvT-loop
 Inv-loop s at w₀ i₀ w i = (i ≤ 8) × (w < 16 ^ i) × (shownFrom w (take (8 - i) (drop (at + i) s)) ≡ shown (take 8 (drop at s)))
@@ -21,25 +18,20 @@ Inv-loop s at w₀ i₀ w i = (i ≤ 8) × (w < 16 ^ i) × (shownFrom w (take (8
 abbrev μ-loop : tie.MeasureT-loop
 μ-loop s at w₀ i₀ w i = 8 - i
 
--- src/hex.rt:46:5
 loop-holds : tie.Need-loop-holds Inv-loop μ-loop
 loop-holds c = (omega arith, omega arith, ap (λ (k : ℕ). shownFrom 0 (take 8 (drop k (c .before .args .s .now)))) (add-zero (c .before .args .at)))
 
--- src/hex.rt:47:13
 mul-w : tie.Need-mul-w Inv-loop μ-loop
 mul-w c = omega (arith, pow-le-pow-right {n = 16} (omega arith) {i = c .before .loop .i} {j = 7} (omega arith))
 
--- src/hex.rt:47:36
 add-digit-value : tie.Need-add-digit-value Inv-loop μ-loop
 add-digit-value c = search needs
 
--- src/hex.rt:47:34
 shared-slice-read-digit-value : tie.Need-shared-slice-read-digit-value Inv-loop μ-loop
 shared-slice-read-digit-value c = search needs
 
--- src/hex.rt:47:22
 digit-value-requires : tie.Need-digit-value-requires Inv-loop μ-loop
-digit-value-requires c κs = 
+digit-value-requires c κs =
     let a = c .before .before .before .before .args in
     digit-at (a .s .now) (a .at + c .before .before .loop .i) (c .before .before .before .before .pre .0) (omega arith)
 
@@ -52,22 +44,18 @@ in-digit c =
     let e : c .digit-value .result ≡ valueOf (getD (a .s .now) (a .at + i) 0) = c .digit-value .ensures in
     omega arith
 
--- src/hex.rt:47:13
 add-w : tie.Need-add-w Inv-loop μ-loop
 add-w c =
     let l = c .before .before .before .loop in
     let v = in-digit c in
     omega (arith, pow-le-pow-right {n = 16} (omega arith) {i = l .i} {j = 7} (omega arith))
 
--- src/hex.rt:48:9
 add-i : tie.Need-add-i Inv-loop μ-loop
 add-i c = search needs
 
--- src/hex.rt:46:5
 loop-less : tie.Need-loop-less Inv-loop μ-loop
 loop-less c = search needs
 
--- src/hex.rt:46:5
 loop-again : tie.Need-loop-again Inv-loop μ-loop
 loop-again c =
     let a = c .before .before .before .before .before .args in
@@ -79,7 +67,6 @@ loop-again c =
           ∙ sym (shown-more (a .s .now) (a .at) (l .i) (l .w) (omega arith) (omega arith)) ∙ l .inv .2,
     )
 
--- src/hex.rt:39:1
 returns : tie.Need-returns Inv-loop μ-loop
 returns c =
     let a = c .before .before .before .args in

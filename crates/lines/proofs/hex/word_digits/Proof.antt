@@ -6,43 +6,31 @@ use Rattle.model.specs.Lines.{digit}
 use borrow.Author.Needs.{needs}
 use Rattle.lines.proofs.hex.word_digits.Statement.{statement}
 use Rattle.lines.proofs.hex.word_digits.Tie as tie
-use Rattle.lines.proofs.hex.word_digits.Reads as reads
-use Rattle.lines.proofs.hex.word_digits.Lts as lts
-use Rattle.lines.proofs.hex.digit.Reads as digit-reads
 
--- src/hex.rt:66:9
 digit-requires : tie.Need-digit-requires
 digit-requires c κs = search needs
 
--- src/hex.rt:67:9
 digit-requires-2 : tie.Need-digit-requires-2
 digit-requires-2 c κs = search needs
 
--- src/hex.rt:68:9
 digit-requires-3 : tie.Need-digit-requires-3
 digit-requires-3 c κs = search needs
 
--- src/hex.rt:69:9
 digit-requires-4 : tie.Need-digit-requires-4
 digit-requires-4 c κs = search needs
 
--- src/hex.rt:70:9
 digit-requires-5 : tie.Need-digit-requires-5
 digit-requires-5 c κs = search needs
 
--- src/hex.rt:71:9
 digit-requires-6 : tie.Need-digit-requires-6
 digit-requires-6 c κs = search needs
 
--- src/hex.rt:72:9
 digit-requires-7 : tie.Need-digit-requires-7
 digit-requires-7 c κs = search needs
 
--- src/hex.rt:73:9
 digit-requires-8 : tie.Need-digit-requires-8
 digit-requires-8 c κs = search needs
 
--- src/hex.rt:62:1
 returns : tie.Need-returns
 returns c =
     ap₂ _∷_ (c .before .before .before .before .before .before .before .digit .ensures)

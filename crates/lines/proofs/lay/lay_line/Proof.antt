@@ -7,49 +7,34 @@ use Rattle.lines.proofs.Layings.{by-not-whole, by-long, by-words}
 use borrow.Author.Needs.{needs}
 use Rattle.lines.proofs.lay.lay_line.Statement.{statement}
 use Rattle.lines.proofs.lay.lay_line.Tie as tie
-use Rattle.lines.proofs.lay.lay_line.Reads as reads
-use Rattle.lines.proofs.lay.lay_line.Lts as lts
-use Rattle.lines.proofs.lay.lay_words.Reads as lay-words-reads
-use Rattle.lines.proofs.line.line_words.Reads as line-words-reads
-use Rattle.lines.proofs.line.whole_words.Reads as whole-words-reads
 
--- src/lay.rt:42:9
 whole-words-requires : tie.Need-whole-words-requires
 whole-words-requires c κs = search needs
 
--- src/lay.rt:43:9
 returns : tie.Need-returns
 returns c = by-not-whole _ (sym (c .before .whole-words .ensures) ∙ not-true _ (c .if1 .taken))
 
--- src/lay.rt:47:9
 returns-2 : tie.Need-returns-2
 returns-2 c = by-long _ (c .if2 .taken)
 
--- src/lay.rt:50:22
 slice-aggregate-line-words : tie.Need-slice-aggregate-line-words
 slice-aggregate-line-words c = search needs
 
--- src/lay.rt:50:5
 line-words-requires : tie.Need-line-words-requires
 line-words-requires c κs = (and-left _ _ (sym (c .before .before .before .whole-words .ensures) ∙ not-false _ (c .before .before .if1 .left)), search needs)
 
--- src/lay.rt:51:21
 array-share-prefix-words : tie.Need-array-share-prefix-words
 array-share-prefix-words c = search needs
 
--- src/lay.rt:51:21
 slice-aggregate-lay-words : tie.Need-slice-aggregate-lay-words
 slice-aggregate-lay-words c = sym (length-take-le _ _ (search needs))
 
--- src/lay.rt:51:5
 lay-words-requires : tie.Need-lay-words-requires
 lay-words-requires c κs = search needs
 
--- src/lay.rt:38:1
 same-length : tie.Need-same-length
 same-length c = search needs
 
--- src/lay.rt:38:1
 returns-3 : tie.Need-returns-3
 returns-3 c =
     by-words _ (sym (c .before .before .before .before .before .before .before .before .before .before .whole-words .ensures) ∙ not-false _ (c .before .before .before .before .before .before .before .before .before .if1 .left))

@@ -5,39 +5,28 @@ use Rattle.lines.proofs.Layings.{laid-none, laid-large, laid-good}
 use borrow.Author.Needs.{needs}
 use Rattle.lines.proofs.lay.lay_words.Statement.{statement}
 use Rattle.lines.proofs.lay.lay_words.Tie as tie
-use Rattle.lines.proofs.lay.lay_words.Reads as reads
-use Rattle.lines.proofs.lay.lay_words.Lts as lts
-use Rattle.book.proofs.settings.book_len.Reads as book-len-reads
 
--- src/lay.rt:27:9
 book-len-requires : tie.Need-book-len-requires
 book-len-requires c κs = search needs
 
--- src/lay.rt:29:9
 returns : tie.Need-returns
 returns c = laid-none _ (c .before .book-len .ensures) (c .if1 .taken)
 
--- src/lay.rt:32:9
 returns-2 : tie.Need-returns-2
 returns-2 c = laid-large _ (c .before .before .book-len .ensures) (c .before .if1 .left) (c .if2 .taken)
 
--- src/lay.rt:34:16
 slice-relend-prefix-lay : tie.Need-slice-relend-prefix-lay
 slice-relend-prefix-lay c = search needs
 
--- src/lay.rt:34:16
 slice-aggregate-lay : tie.Need-slice-aggregate-lay
 slice-aggregate-lay c = sym (length-take-le (c .before .before .before .book-len .result) (c .before .before .before .before .before .before .args .book .now) (omega arith))
 
--- src/lay.rt:34:5
 lay-requires : tie.Need-lay-requires
 lay-requires c κs = search needs
 
--- src/lay.rt:23:1
 same-length : tie.Need-same-length
 same-length c = search needs
 
--- src/lay.rt:23:1
 returns-3 : tie.Need-returns-3
 returns-3 c = laid-good _ _ (c .before .before .before .before .before .before .book-len .ensures) (c .before .before .before .before .before .if1 .left) (c .before .before .before .before .if2 .left) (c .before .before .before .before .before .before .before .before .before .pre) (c .before .before .lay .ensures) (c .before .before .lay .kept .1 .0)
 

@@ -5,31 +5,22 @@ use Rattle.lines.proofs.Looking.{ahead-by, ahead-short, ahead-other}
 use borrow.Author.Needs.{needs}
 use Rattle.lines.proofs.line.frame_ahead.Statement.{statement}
 use Rattle.lines.proofs.line.frame_ahead.Tie as tie
-use Rattle.lines.proofs.line.frame_ahead.Reads as reads
-use Rattle.lines.proofs.line.frame_ahead.Lts as lts
-use Rattle.lines.proofs.hex.digits_only.Reads as digits-only-reads
 
--- src/line.rt:75:9
 returns : tie.Need-returns
 returns c = ahead-short _ (c .if1 .taken)
 
--- src/line.rt:77:8
 shared-slice-read-if2 : tie.Need-shared-slice-read-if2
 shared-slice-read-if2 c = search needs
 
--- src/line.rt:78:9
 returns-2 : tie.Need-returns-2
 returns-2 c = ahead-other _ (search needs) (c .if2 .taken)
 
--- src/line.rt:80:29
 slice-aggregate-digits-only : tie.Need-slice-aggregate-digits-only
 slice-aggregate-digits-only c = sym (length-take-le 56 (c .before .before .before .before .before .args .s .now) (omega arith))
 
--- src/line.rt:80:5
 digits-only-requires : tie.Need-digits-only-requires
 digits-only-requires c κs = search needs
 
--- src/line.rt:71:1
 returns-3 : tie.Need-returns-3
 returns-3 c = c .digits-only .ensures ∙ sym (ahead-by _ (search needs) (search needs))
 

@@ -8,9 +8,6 @@ use Rattle.model.specs.Lines.{lineWords}
 use Rattle.lines.proofs.Framing.{words-more, words-length}
 use Rattle.lines.proofs.line.line_words.Statement.{statement}
 use Rattle.lines.proofs.line.line_words.Tie as tie
-use Rattle.lines.proofs.line.line_words.Reads as reads
-use Rattle.lines.proofs.line.line_words.Lts as lts
-use Rattle.lines.proofs.hex.word.Reads as word-reads
 
 abbrev Inv-loop : tie.InvT-loop
 Inv-loop line words₀ n k₀ words k = (k ≤ n) × (length words ≡ length words₀) × (take k words ≡ take k (lineWords line))
@@ -18,35 +15,27 @@ Inv-loop line words₀ n k₀ words k = (k ≤ n) × (length words ≡ length wo
 abbrev μ-loop : tie.MeasureT-loop
 μ-loop line words₀ n k₀ words k = n - k
 
--- src/line.rt:77:5
 loop-holds : tie.Need-loop-holds Inv-loop μ-loop
 loop-holds c = (search needs, search needs, refl)
 
--- src/line.rt:78:43
 mul-word : tie.Need-mul-word Inv-loop μ-loop
 mul-word c = search needs
 
--- src/line.rt:78:20
 word-requires : tie.Need-word-requires Inv-loop μ-loop
 word-requires c κs = search needs
 
--- src/line.rt:78:9
 mul-words : tie.Need-mul-words Inv-loop μ-loop
 mul-words c = search needs
 
--- src/line.rt:78:9
 slice-write-words : tie.Need-slice-write-words Inv-loop μ-loop
 slice-write-words c = search needs
 
--- src/line.rt:79:9
 add-k : tie.Need-add-k Inv-loop μ-loop
 add-k c = search needs
 
--- src/line.rt:77:5
 loop-less : tie.Need-loop-less Inv-loop μ-loop
 loop-less c = search needs
 
--- src/line.rt:77:5
 words-at : (c : tie.After-word Inv-loop μ-loop)
     → take (c .before .before .loop .k + 1) (set (c .before .before .loop .words) (c .before .before .loop .k) (c .word .result))
     ≡ take (c .before .before .loop .k + 1) (lineWords (c .before .before .before .before .before .args .line .now))
@@ -59,11 +48,9 @@ words-at c =
 loop-again : tie.Need-loop-again Inv-loop μ-loop
 loop-again c = (search needs, search needs, words-at c)
 
--- src/line.rt:70:1
 same-length : tie.Need-same-length Inv-loop μ-loop
 same-length c = search needs
 
--- src/line.rt:70:1
 returns : tie.Need-returns Inv-loop μ-loop
 returns c =
     let l = c .before .before .before .before .args .line .now in

@@ -2,39 +2,28 @@ use Rattle.lines.proofs.Framing.{request-is}
 use borrow.Author.Needs.{needs}
 use Rattle.lines.proofs.line.request.Statement.{statement}
 use Rattle.lines.proofs.line.request.Tie as tie
-use Rattle.lines.proofs.line.request.Reads as reads
-use Rattle.lines.proofs.line.request.Lts as lts
-use Rattle.lines.proofs.hex.word.Reads as word-reads
 
--- src/line.rt:40:15
 word-requires : tie.Need-word-requires
 word-requires c κs = search needs
 
--- src/line.rt:41:12
 word-requires-2 : tie.Need-word-requires-2
 word-requires-2 c κs = search needs
 
--- src/line.rt:42:12
 word-requires-3 : tie.Need-word-requires-3
 word-requires-3 c κs = search needs
 
--- src/line.rt:43:16
 word-requires-4 : tie.Need-word-requires-4
 word-requires-4 c κs = search needs
 
--- src/line.rt:44:15
 word-requires-5 : tie.Need-word-requires-5
 word-requires-5 c κs = search needs
 
--- src/line.rt:45:12
 word-requires-6 : tie.Need-word-requires-6
 word-requires-6 c κs = search needs
 
--- src/line.rt:46:15
 word-requires-7 : tie.Need-word-requires-7
 word-requires-7 c κs = search needs
 
--- src/line.rt:34:1
 returns : tie.Need-returns
 returns c = request-is (c .before .before .before .before .before .before .before .before .args .line .now) (c .before .before .before .before .before .before .before .before .pre .1) (c .before .before .before .before .before .before .word .ensures) (c .before .before .before .before .before .word2 .ensures) (c .before .before .before .before .word3 .ensures) (c .before .before .before .word4 .ensures) (c .before .before .word5 .ensures) (c .before .word6 .ensures) (c .word7 .ensures)
 

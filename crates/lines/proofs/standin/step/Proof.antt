@@ -1,9 +1,6 @@
 use Rattle.lines.proofs.standin.step.Statement.{statement}
 use Rattle.lines.proofs.standin.step.Tie as tie
-use Rattle.lines.proofs.standin.step.Reads as reads
-use Rattle.lines.proofs.standin.step.Lts as lts
 
--- src/standin.rt:13:1
 returns : tie.Need-returns
 returns c = ?
 

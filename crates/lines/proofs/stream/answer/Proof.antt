@@ -4,39 +4,28 @@ use Rattle.lines.proofs.Books.{framed-step, refused-23}
 use borrow.Author.Needs.{needs}
 use Rattle.lines.proofs.stream.answer.Statement.{statement}
 use Rattle.lines.proofs.stream.answer.Tie as tie
-use Rattle.lines.proofs.stream.answer.Reads as reads
-use Rattle.lines.proofs.stream.answer.Lts as lts
-use Rattle.lines.proofs.line.frame.Reads as frame-reads
-use Rattle.lines.proofs.standin.step.Reads as step-reads
 
--- src/stream.rt:85:11
 frame-requires : tie.Need-frame-requires
 frame-requires c κs = search needs
 
--- src/stream.rt:86:23
 enum-known-r : tie.Need-enum-known-r
 enum-known-r c = search needs
 
--- src/stream.rt:86:29
 step-requires : tie.Need-step-requires
 step-requires c κs = search needs
 
--- src/stream.rt:87:26
 enum-told : tie.Need-enum-told
 enum-told c = search needs
 
--- src/stream.rt:80:1
 same-length : tie.Need-same-length
 same-length c = search needs
 
--- src/stream.rt:80:1
 returns : tie.Need-returns
 returns c =
     let d = c .before .before .before .before .before .before .before in
     c .before .before .step .ensures
     ∙ ap called (sym (framed-step _ _ (sym (d .frame .ensures) ∙ c .before .before .before .before .before .r .given .1)))
 
--- src/stream.rt:80:1
 returns-2 : tie.Need-returns-2
 returns-2 c =
     let d = c .before .before in

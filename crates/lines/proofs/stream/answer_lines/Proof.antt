@@ -2,33 +2,22 @@ use Rattle.lines.proofs.Streams.{own-ranges}
 use borrow.Author.Needs.{needs}
 use Rattle.lines.proofs.stream.answer_lines.Statement.{statement}
 use Rattle.lines.proofs.stream.answer_lines.Tie as tie
-use Rattle.lines.proofs.stream.answer_lines.Reads as reads
-use Rattle.lines.proofs.stream.answer_lines.Lts as lts
-use Rattle.book.proofs.grid.grids_of.Reads as grids-of-reads
-use Rattle.book.proofs.settings.settings.Reads as settings-reads
-use Rattle.lines.proofs.stream.answers.Reads as answers-reads
 
--- src/stream.rt:172:9
 settings-requires : tie.Need-settings-requires
 settings-requires c κs = search needs
 
--- src/stream.rt:173:9
 grids-of-requires : tie.Need-grids-of-requires
 grids-of-requires c κs = own-ranges (c .settings .ensures) (c .before .before .before .before .before .pre .0)
 
--- src/stream.rt:174:5
 answers-requires : tie.Need-answers-requires
 answers-requires c κs = search needs
 
--- src/stream.rt:167:1
 same-length : tie.Need-same-length
 same-length c = search needs
 
--- src/stream.rt:167:1
 same-length-2 : tie.Need-same-length-2
 same-length-2 c = search needs
 
--- src/stream.rt:167:1
 returns : tie.Need-returns
 returns c = rw (c .before .before .before .before .before .before .before .before .settings .ensures) at (c .before .before .before .before .answers .ensures)
 

@@ -6,51 +6,37 @@ use Rattle.lines.proofs.Books.{next-is, taken-frame, taken-other, taken
 use borrow.Author.Needs.{needs}
 use Rattle.lines.proofs.stream.answer_next.Statement.{statement}
 use Rattle.lines.proofs.stream.answer_next.Tie as tie
-use Rattle.lines.proofs.stream.answer_next.Reads as reads
-use Rattle.lines.proofs.stream.answer_next.Lts as lts
-use Rattle.lines.proofs.line.look.Reads as look-reads
-use Rattle.lines.proofs.standin.step.Reads as step-reads
 
--- src/stream.rt:108:11
 look-requires : tie.Need-look-requires
 look-requires c κs = search needs
 
--- src/stream.rt:109:21
 enum-known-r : tie.Need-enum-known-r
 enum-known-r c = search needs
 
--- src/stream.rt:111:21
 step-requires : tie.Need-step-requires
 step-requires c κs = search needs
 
--- src/stream.rt:113:21
 enum-known-n : tie.Need-enum-known-n
 enum-known-n c = search needs
 
 next-other : (c : tie.After-known-told2) → NextOf (c .before .before .before .before .before .before .args .chunk .now) (Other (c .before .n .given .0 .0))
 next-other c = next-is _ (c .before .before .before .look .ensures) (c .before .n .given .1)
 
--- src/stream.rt:114:19
 add-t12 : tie.Need-add-t12
 add-t12 c = let n = next-other c .0 .inside in omega (arith, c .before .before .before .before .before .before .good)
 
--- src/stream.rt:122:21
 enum-told : tie.Need-enum-told
 enum-told c = search needs
 
--- src/stream.rt:103:1
 same-length : tie.Need-same-length
 same-length c = search needs
 
--- src/stream.rt:103:1
 returns : tie.Need-returns
 returns c = taken-frame _ (c .before .before .before .before .before .before .before .before .before .before .pre .0) (next-is _ (c .before .before .before .before .before .before .before .look .ensures) (c .before .before .before .before .before .r .given .1)) (c .before .before .step .ensures)
 
--- src/stream.rt:103:1
 returns-2 : tie.Need-returns-2
 returns-2 c = taken-other _ (c .before .before .before .before .before .before .pre .0) _ (next-other c)
 
--- src/stream.rt:103:1
 returns-3 : tie.Need-returns-3
 returns-3 c = taken-none _ (next-is _ (c .before .before .look .ensures) (c .enum-told .given .1))
 

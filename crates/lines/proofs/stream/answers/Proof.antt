@@ -6,10 +6,6 @@ use lib.ListN.{length}
 use Rattle.lines.proofs.Turns.{So, start, all-told, end-told, more-so, in-reach}
 use Rattle.lines.proofs.stream.answers.Statement.{statement}
 use Rattle.lines.proofs.stream.answers.Tie as tie
-use Rattle.lines.proofs.stream.answers.Reads as reads
-use Rattle.lines.proofs.stream.answers.Lts as lts
-use Rattle.lines.proofs.line.put_answer.Reads as put-answer-reads
-use Rattle.lines.proofs.stream.answer_next.Reads as answer-next-reads
 
 abbrev Inv-loop : tie.InvT-loop
 Inv-loop book₀ s g chunk out₀ from at₀ i₀ book out at i = So s book₀ chunk out₀ from book out at i
@@ -17,35 +13,27 @@ Inv-loop book₀ s g chunk out₀ from at₀ i₀ book out at i = So s book₀ c
 abbrev μ-loop : tie.MeasureT-loop
 μ-loop book₀ s g chunk out₀ from at₀ i₀ book out at i = length chunk - i
 
--- src/stream.rt:136:5
 loop-holds : tie.Need-loop-holds Inv-loop μ-loop
 loop-holds c = start _ _ _ _ (c .before .before .before .pre .0)
 
--- src/stream.rt:137:20
 sub-rest : tie.Need-sub-rest Inv-loop μ-loop
 sub-rest c = search needs
 
--- src/stream.rt:137:20
 part-rest-start : tie.Need-part-rest-start Inv-loop μ-loop
 part-rest-start c = search needs
 
--- src/stream.rt:137:20
 part-rest-end : tie.Need-part-rest-end Inv-loop μ-loop
 part-rest-end c = search needs
 
--- src/stream.rt:138:13
 answer-next-requires : tie.Need-answer-next-requires Inv-loop μ-loop
 answer-next-requires c κs = (c .before .before .before .loop .inv .good, c .before .before .before .before .before .before .before .pre .1 .0)
 
--- src/stream.rt:141:13
 same-length : tie.Need-same-length Inv-loop μ-loop
 same-length c = c .before .before .before .answer-next .kept .0 ∙ c .before .before .before .before .before .before .before .loop .inv .book-kept
 
--- src/stream.rt:141:13
 same-length-2 : tie.Need-same-length-2 Inv-loop μ-loop
 same-length-2 c = c .before .before .before .before .before .before .before .loop .inv .out-kept
 
--- src/stream.rt:141:13
 returns : tie.Need-returns Inv-loop μ-loop
 returns c = let l = c .before .before .before .before .before .before .before .loop in all-told (l .inv) (c .before .before .before .answer-next .ensures .none (c .if1 .taken))
 
@@ -60,19 +48,15 @@ reach c =
     let l = c .before .before .before .before .before .before .before .before .loop in
     in-reach (c .before .before .before .before .before .before .before .before .before .before .before .before .args .chunk .now) (l .i) (c .before .before .before .before .answer-next .result) (l .inv .within) (l .inv .good) (c .before .before .before .before .answer-next .ensures) (used c)
 
--- src/stream.rt:147:9
 put-answer-requires : tie.Need-put-answer-requires Inv-loop μ-loop
 put-answer-requires c κs = let r = reach c in let v = c .before .before .before .before .before .before .before .before .loop .inv in omega (arith, v .short, v .out-kept, c .before .before .before .before .before .before .before .before .before .before .before .before .pre .1 .1)
 
--- src/stream.rt:148:9
 add-at : tie.Need-add-at Inv-loop μ-loop
 add-at c = let r = reach (c .before .before .before) in let v = c .before .before .before .before .before .before .before .before .before .before .before .loop .inv in omega (arith, v .short, v .out-kept, c .before .before .before .before .before .before .before .before .before .before .before .before .before .before .before .pre .1 .1, c .before .before .before .before .before .before .before .before .before .before .before .before .before .before .before .good)
 
--- src/stream.rt:149:9
 add-i : tie.Need-add-i Inv-loop μ-loop
 add-i c = let r = reach (c .before .before .before) in omega (arith, c .before .before .before .before .before .before .before .before .before .before .before .before .before .before .before .good)
 
--- src/stream.rt:136:5
 loop-less : tie.Need-loop-less Inv-loop μ-loop
 loop-less c = let r = reach (c .before .before .before) in let u = used (c .before .before .before) in omega arith
 
@@ -83,19 +67,15 @@ more c =
     let t = p .before .before .before .before .answer-next in
     more-so (t .result) (l .inv) (t .ensures) (used p) (t .kept .0) (c .before .before .put-answer .ensures)
 
--- src/stream.rt:136:5
 loop-again : tie.Need-loop-again Inv-loop μ-loop
 loop-again c = more c
 
--- src/stream.rt:128:1
 same-length-3 : tie.Need-same-length-3 Inv-loop μ-loop
 same-length-3 c = c .before .loop .inv .book-kept
 
--- src/stream.rt:128:1
 same-length-4 : tie.Need-same-length-4 Inv-loop μ-loop
 same-length-4 c = c .before .loop .inv .out-kept
 
--- src/stream.rt:128:1
 returns-2 : tie.Need-returns-2 Inv-loop μ-loop
 returns-2 c = end-told (c .before .loop .inv) (c .loop-test .left)
 

@@ -10,10 +10,6 @@ use Rattle.lines.proofs.Streams.{held-some, ended-as, ended-closed, clo
 use borrow.Author.Needs.{needs}
 use Rattle.lines.proofs.stream.close.Statement.{statement}
 use Rattle.lines.proofs.stream.close.Tie as tie
-use Rattle.lines.proofs.stream.close.Reads as reads
-use Rattle.lines.proofs.stream.close.Lts as lts
-use Rattle.lines.proofs.stream.end_held.Reads as end-held-reads
-use Rattle.lines.proofs.stream.is_later.Reads as is-later-reads
 
 begun-line : (c : tie.After-slice-known4) → isLater (c .before .before .before .before .before .before .before .before .before .before .before .before .args .stream .phase) ≡ true → 0 < length (heldOf (c .before .before .before .before .before .before .before .before .before .before .before .before .args .stream .held))
 begun-line c h =
@@ -23,27 +19,21 @@ begun-line c h =
     (λ w. both h (sym (c .before .before .before .before .before .before .before .before .is-later .ensures) ∙ w .left))
     (c .before .before .before .before .before .before .before .if1 .came)
 
--- src/stream.rt:353:8
 is-later-requires : tie.Need-is-later-requires
 is-later-requires c κs = search needs
 
--- src/stream.rt:355:13
 returns : tie.Need-returns
 returns c = closed-silent _ _ (c .before .before .before .before .before .before .before .pre .1 .0) (sym (c .before .before .before .is-later .ensures) ∙ c .before .before .if1 .taken) (c .if2 .taken)
 
--- src/stream.rt:362:5
 end-held-requires : tie.Need-end-held-requires
 end-held-requires c κs = search needs
 
--- src/stream.rt:344:1
 same-length : tie.Need-same-length
 same-length c = search needs
 
--- src/stream.rt:344:1
 same-length-2 : tie.Need-same-length-2
 same-length-2 c = search needs
 
--- src/stream.rt:344:1
 returns-2 : tie.Need-returns-2
 returns-2 c = ended-as (ended-closed (c .before .before .before .before .before .before .before .before .before .before .before .before .args .stream .phase) (stateOf (take (c .before .before .before .before .before .before .before .before .before .before .before .before .args .stream .size) (c .before .before .before .before .before .before .before .before .before .before .before .before .args .book .now))) (heldOf (c .before .before .before .before .before .before .before .before .before .before .before .before .args .stream .held)) (begun-line c)) (c .before .before .before .before .end-held .ensures)
 

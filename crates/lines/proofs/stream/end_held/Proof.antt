@@ -4,31 +4,22 @@ use lib.Seq.{length-take-le}
 use borrow.Author.Needs.{needs}
 use Rattle.lines.proofs.stream.end_held.Statement.{statement}
 use Rattle.lines.proofs.stream.end_held.Tie as tie
-use Rattle.lines.proofs.stream.end_held.Reads as reads
-use Rattle.lines.proofs.stream.end_held.Lts as lts
-use Rattle.lines.proofs.stream.end_line.Reads as end-line-reads
 
--- src/stream.rt:319:33
 array-share-prefix-bytes : tie.Need-array-share-prefix-bytes
 array-share-prefix-bytes c = search needs
 
--- src/stream.rt:319:33
 slice-aggregate-end-line : tie.Need-slice-aggregate-end-line
 slice-aggregate-end-line c = sym (length-take-le (c .before .before .before .before .before .args .held .len) (c .before .before .before .before .before .args .held .bytes) (let h = c .before .before .before .before .before .pre .1 .1 .0 in omega (arith, h .few, h .long)))
 
--- src/stream.rt:319:5
 end-line-requires : tie.Need-end-line-requires
 end-line-requires c κs = search needs
 
--- src/stream.rt:310:1
 same-length : tie.Need-same-length
 same-length c = search needs
 
--- src/stream.rt:310:1
 same-length-2 : tie.Need-same-length-2
 same-length-2 c = search needs
 
--- src/stream.rt:310:1
 returns : tie.Need-returns
 returns c = search needs
 

@@ -4,56 +4,40 @@ use Rattle.lines.proofs.Streams.{ended-as, turn-opening, turn-later, tu
 use borrow.Author.Needs.{needs}
 use Rattle.lines.proofs.stream.end_line.Statement.{statement}
 use Rattle.lines.proofs.stream.end_line.Tie as tie
-use Rattle.lines.proofs.stream.end_line.Reads as reads
-use Rattle.lines.proofs.stream.end_line.Lts as lts
-use Rattle.lines.proofs.stream.respond.Reads as respond-reads
-use Rattle.lines.proofs.stream.settle.Reads as settle-reads
 
--- src/stream.rt:233:34
 enum-told : tie.Need-enum-told
 enum-told c = search needs
 
--- src/stream.rt:233:27
 settle-requires : tie.Need-settle-requires
 settle-requires c κs = search needs
 
--- src/stream.rt:234:33
 enum-told-2 : tie.Need-enum-told-2
 enum-told-2 c = search needs
 
--- src/stream.rt:234:25
 respond-requires : tie.Need-respond-requires
 respond-requires c κs = (c .before .before .before .before .before .before .before .pre .1 .0 .fits, (c .before .before .before .before .before .before .before .pre .1 .0 .good (c .before .before .enum-told2 .given .1), c .before .before .before .before .before .before .before .pre .1 .1))
 
--- src/stream.rt:235:24
 enum-told-3 : tie.Need-enum-told-3
 enum-told-3 c = search needs
 
--- src/stream.rt:226:1
 same-length : tie.Need-same-length
 same-length c = search needs
 
--- src/stream.rt:226:1
 same-length-2 : tie.Need-same-length-2
 same-length-2 c = search needs
 
--- src/stream.rt:226:1
 returns : tie.Need-returns
 returns c = ended-as (turn-opening (stateOf (take (c .before .before .before .before .before .before .before .before .before .before .before .before .args .size) (c .before .before .before .before .before .before .before .before .before .before .before .before .args .book .now))) (c .before .before .before .before .before .before .before .before .before .before .before .before .args .line .now) (c .before .before .before .before .before .before .before .before .before .before .before .before .args .out .now) (c .before .before .before .before .before .before .before .before .before .before .before .before .args .at) (c .before .before .before .before .before .before .before .enum-told .given .1)) (c .before .before .before .before .settle .ensures)
 
--- src/stream.rt:226:1
 same-length-3 : tie.Need-same-length-3
 same-length-3 c = search needs
 
--- src/stream.rt:226:1
 same-length-4 : tie.Need-same-length-4
 same-length-4 c = search needs
 
--- src/stream.rt:226:1
 returns-2 : tie.Need-returns-2
 returns-2 c = ended-as (turn-later (stateOf (take (c .before .before .before .before .before .before .before .before .before .before .before .before .args .size) (c .before .before .before .before .before .before .before .before .before .before .before .before .args .book .now))) (c .before .before .before .before .before .before .before .before .before .before .before .before .args .line .now) (c .before .before .before .before .before .before .before .before .before .before .before .before .args .out .now) (c .before .before .before .before .before .before .before .before .before .before .before .before .args .at) (c .before .before .before .before .before .before .before .enum-told2 .given .1)) (c .before .before .before .before .respond .ensures)
 
--- src/stream.rt:226:1
 returns-3 : tie.Need-returns-3
 returns-3 c = turn-over _ _ _ _ (c .enum-told3 .given .1)
 

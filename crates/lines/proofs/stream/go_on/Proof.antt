@@ -5,61 +5,43 @@ use Rattle.lines.proofs.Streams.{rest-over, rest-later}
 use borrow.Author.Needs.{needs}
 use Rattle.lines.proofs.stream.go_on.Statement.{statement}
 use Rattle.lines.proofs.stream.go_on.Tie as tie
-use Rattle.lines.proofs.stream.go_on.Reads as reads
-use Rattle.lines.proofs.stream.go_on.Lts as lts
-use Rattle.lines.proofs.stream.answer_lines.Reads as answer-lines-reads
-use Rattle.lines.proofs.stream.hold.Reads as hold-reads
-use Rattle.lines.proofs.stream.nothing.Reads as nothing-reads
 
--- src/stream.rt:262:23
 nothing-requires : tie.Need-nothing-requires
 nothing-requires c κs = search needs
 
--- src/stream.rt:260:9
 returns : tie.Need-returns
 returns c = rest-over (c .before .before .before .before .before .before .args .e) (c .before .before .before .before .before .before .args .chunk .now) (not-true _ (c .before .if1 .taken)) (c .nothing .ensures)
 
--- src/stream.rt:270:26
 slice-relend-prefix-answer-lines : tie.Need-slice-relend-prefix-answer-lines
 slice-relend-prefix-answer-lines c = search needs
 
--- src/stream.rt:270:26
 slice-aggregate-answer-lines : tie.Need-slice-aggregate-answer-lines
 slice-aggregate-answer-lines c = sym (length-take-le (c .before .before .before .before .before .before .args .e .size) (c .before .before .before .before .before .before .args .book .now) (c .before .before .before .before .before .before .pre .0 .fits))
 
--- src/stream.rt:270:9
 answer-lines-requires : tie.Need-answer-lines-requires
 answer-lines-requires c κs = (c .before .before .before .before .before .before .before .pre .0 .good (not-false _ (c .before .before .if1 .left)), c .before .before .before .before .before .before .before .pre .1)
 
--- src/stream.rt:274:24
 nothing-requires-2 : tie.Need-nothing-requires-2
 nothing-requires-2 c κs = search needs
 
--- src/stream.rt:274:35
 sub-hold : tie.Need-sub-hold
 sub-hold c = search needs
 
--- src/stream.rt:274:35
 part-hold-start : tie.Need-part-hold-start
 part-hold-start c = search needs
 
--- src/stream.rt:274:35
 part-hold-end : tie.Need-part-hold-end
 part-hold-end c = search needs
 
--- src/stream.rt:274:19
 hold-requires : tie.Need-hold-requires
 hold-requires c κs = search needs
 
--- src/stream.rt:253:1
 same-length : tie.Need-same-length
 same-length c = search needs
 
--- src/stream.rt:253:1
 same-length-2 : tie.Need-same-length-2
 same-length-2 c = search needs
 
--- src/stream.rt:253:1
 returns-2 : tie.Need-returns-2
 returns-2 c = rest-later (c .before .before .before .before .before .before .before .before .before .before .before .before .before .before .before .args .book .now) (c .before .before .before .before .before .before .before .before .before .before .before .before .before .before .before .args .e) (c .before .before .before .before .before .before .before .before .before .before .before .before .before .before .before .args .chunk .now) (not-false _ (c .before .before .before .before .before .before .before .before .before .before .if1 .left)) (c .before .before .before .before .before .before .before .before .before .before .before .before .before .before .before .pre .0 .fits) (c .before .before .before .before .before .before .before .answer-lines .ensures) (c .before .before .before .before .before .before .before .answer-lines .kept .0) (rw (c .before .before .nothing2 .ensures .same) at (c .hold .ensures))
 

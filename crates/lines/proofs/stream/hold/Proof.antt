@@ -8,9 +8,6 @@ use Rattle.lines.proofs.Puts.{put-none, put-more}
 use Rattle.lines.proofs.Keeping.{held-more}
 use Rattle.lines.proofs.stream.hold.Statement.{statement}
 use Rattle.lines.proofs.stream.hold.Tie as tie
-use Rattle.lines.proofs.stream.hold.Reads as reads
-use Rattle.lines.proofs.stream.hold.Lts as lts
-use Rattle.lines.proofs.stream.smaller.Reads as smaller-reads
 
 abbrev Inv-loop : tie.InvT-loop
 Inv-loop piece next₀ len n i₀ next i = (i ≤ n) × Put (next₀ .bytes) (next .bytes) len (take i piece)
@@ -18,39 +15,30 @@ Inv-loop piece next₀ len n i₀ next i = (i ≤ n) × Put (next₀ .bytes) (ne
 abbrev μ-loop : tie.MeasureT-loop
 μ-loop piece next₀ len n i₀ next i = n - i
 
--- src/stream.rt:69:34
 sub-smaller : tie.Need-sub-smaller Inv-loop μ-loop
 sub-smaller c = search needs
 
--- src/stream.rt:69:9
 smaller-requires : tie.Need-smaller-requires Inv-loop μ-loop
 smaller-requires c κs = search needs
 
--- src/stream.rt:71:5
 loop-holds : tie.Need-loop-holds Inv-loop μ-loop
 loop-holds c = (omega arith, put-none _ _)
 
--- src/stream.rt:72:31
 shared-slice-read-next : tie.Need-shared-slice-read-next Inv-loop μ-loop
 shared-slice-read-next c = search needs
 
--- src/stream.rt:72:20
 add-next : tie.Need-add-next Inv-loop μ-loop
 add-next c = search needs
 
--- src/stream.rt:72:9
 element-write-next : tie.Need-element-write-next Inv-loop μ-loop
 element-write-next c = search needs
 
--- src/stream.rt:73:9
 add-i : tie.Need-add-i Inv-loop μ-loop
 add-i c = search needs
 
--- src/stream.rt:71:5
 loop-less : tie.Need-loop-less Inv-loop μ-loop
 loop-less c = search needs
 
--- src/stream.rt:71:5
 abbrev In : Type 0
 In = tie.After-shared-slice-known2 Inv-loop μ-loop
 
@@ -64,18 +52,16 @@ room c =
     omega (arith, p .long, p .few)
 
 loop-again : tie.Need-loop-again Inv-loop μ-loop
-loop-again c = 
+loop-again c =
     let a = c .before .before .before .before .before in
     let l = c .before .before .loop in
     (omega arith, put-more (a .args .piece .now) (l .i) (fits-piece c) (room c) (l .inv .1))
 
--- src/stream.rt:75:16
 add-next-2 : tie.Need-add-next-2 Inv-loop μ-loop
 add-next-2 c = search needs
 
--- src/stream.rt:63:1
 returns : tie.Need-returns Inv-loop μ-loop
-returns c = 
+returns c =
     let a = c .before .before .before .before in
     let n = c .before .before .smaller .result in
     let e : c .before .loop .i ≡ n = omega arith in

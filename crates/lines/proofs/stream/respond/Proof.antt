@@ -4,40 +4,28 @@ use Rattle.lines.proofs.Streams.{responded}
 use borrow.Author.Needs.{needs}
 use Rattle.lines.proofs.stream.respond.Statement.{statement}
 use Rattle.lines.proofs.stream.respond.Tie as tie
-use Rattle.lines.proofs.stream.respond.Reads as reads
-use Rattle.lines.proofs.stream.respond.Lts as lts
-use Rattle.lines.proofs.line.put_answer.Reads as put-answer-reads
-use Rattle.lines.proofs.stream.answer_line.Reads as answer-line-reads
 
--- src/stream.rt:193:25
 slice-relend-prefix-answer-line : tie.Need-slice-relend-prefix-answer-line
 slice-relend-prefix-answer-line c = search needs
 
--- src/stream.rt:193:25
 slice-aggregate-answer-line : tie.Need-slice-aggregate-answer-line
 slice-aggregate-answer-line c = sym (length-take-le (c .before .before .before .before .args .size) (c .before .before .before .before .args .book .now) (c .before .before .before .before .pre .0))
 
--- src/stream.rt:193:9
 answer-line-requires : tie.Need-answer-line-requires
 answer-line-requires c κs = search needs
 
--- src/stream.rt:194:5
 put-answer-requires : tie.Need-put-answer-requires
 put-answer-requires c κs = search needs
 
--- src/stream.rt:198:16
 add-t12 : tie.Need-add-t12
 add-t12 c = search needs
 
--- src/stream.rt:187:1
 same-length : tie.Need-same-length
 same-length c = search needs
 
--- src/stream.rt:187:1
 same-length-2 : tie.Need-same-length-2
 same-length-2 c = search needs
 
--- src/stream.rt:187:1
 returns : tie.Need-returns
 returns c = responded (c .before .before .before .before .before .before .before .before .before .before .before .args .book .now) (c .before .before .before .before .before .before .before .before .before .before .before .args .line .now) (c .before .before .before .before .before .before .before .before .before .before .before .args .size) (c .before .before .before .before .before .before .before .before .before .before .before .pre .0) (c .before .before .before .before .before .before .before .before .before .before .before .pre .1 .0) (c .before .before .before .before .before .before .answer-line .ensures) (c .before .before .before .before .before .before .answer-line .kept .0) (c .before .before .put-answer .ensures)
 

@@ -2,48 +2,34 @@ use Rattle.lines.proofs.Layings.{laid-is, settled-book, settled-refused
 use borrow.Author.Needs.{needs}
 use Rattle.lines.proofs.stream.settle.Statement.{statement}
 use Rattle.lines.proofs.stream.settle.Tie as tie
-use Rattle.lines.proofs.stream.settle.Reads as reads
-use Rattle.lines.proofs.stream.settle.Lts as lts
-use Rattle.lines.proofs.lay.lay_line.Reads as lay-line-reads
-use Rattle.lines.proofs.line.put_answer.Reads as put-answer-reads
 
--- src/stream.rt:208:11
 lay-line-requires : tie.Need-lay-line-requires
 lay-line-requires c κs = search needs
 
--- src/stream.rt:209:20
 enum-known-size : tie.Need-enum-known-size
 enum-known-size c = search needs
 
--- src/stream.rt:214:23
 enum-known-number : tie.Need-enum-known-number
 enum-known-number c = search needs
 
--- src/stream.rt:215:13
 put-answer-requires : tie.Need-put-answer-requires
 put-answer-requires c κs = search needs
 
--- src/stream.rt:219:24
 add-t15 : tie.Need-add-t15
 add-t15 c = search needs
 
--- src/stream.rt:203:1
 same-length : tie.Need-same-length
 same-length c = search needs
 
--- src/stream.rt:203:1
 returns : tie.Need-returns
 returns c = settled-book _ _ _ (laid-is (c .before .before .before .before .before .lay-line .ensures) (c .before .size .given .1))
 
--- src/stream.rt:203:1
 same-length-2 : tie.Need-same-length-2
 same-length-2 c = search needs
 
--- src/stream.rt:203:1
 same-length-3 : tie.Need-same-length-3
 same-length-3 c = search needs
 
--- src/stream.rt:203:1
 returns-2 : tie.Need-returns-2
 returns-2 c = settled-refused _ _ (laid-is (c .before .before .before .before .before .before .before .before .before .lay-line .ensures) (c .before .before .before .before .before .number .given .1)) (c .before .before .put-answer .ensures)
 
