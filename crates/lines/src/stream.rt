@@ -214,6 +214,7 @@ fn settle(book: &mut [u32], line: &[u8], out: &mut [u8], at: usize) -> Ended
         },
         Laid::Refused(number) => {
             put_answer(out, at, Answer::Refused { number, place: 0 });
+            // nothing more is read
             Ended {
                 more: false,
                 size: 0,
