@@ -9,6 +9,7 @@ use std::hint::black_box;
 use std::time::Instant;
 
 const SEED: u32 = 20_261_115;
+const RUNS: usize = 25;
 
 fn best(runs: usize, mut work: impl FnMut()) -> f64 {
     let timed = |_| {
@@ -30,34 +31,37 @@ fn medium() -> Settings {
 }
 
 fn measure_check(name: &str, book: &[u32]) {
-    let seconds = best(15, || assert_eq!(check(black_box(book)).number, 0));
-    let sum = best(15, || {
+    let seconds = best(RUNS, || assert_eq!(check(black_box(book)).number, 0));
+    let sum = best(RUNS, || {
         black_box(black_box(book).iter().fold(0u32, |sum, word| sum.wrapping_add(*word)));
     });
     let rate = book.len() as f64 / seconds / 1e9;
     println!("check, {name}: {rate:.2} G words/s, {:.2} of a plain sum's time", seconds / sum);
 }
 
+/// The list is timed in pieces, and each piece counts with its fastest run: a pause of the machine
+/// spoils one piece of one run.
 fn measure_steps(name: &str, book: &[u32]) {
+    const PIECE: usize = 1000;
     let site = Site::of_book(book).expect("a laid book");
     let requests = traffic(&site, SEED, 20_000);
+    let mut fastest = vec![f64::INFINITY; requests.len() / PIECE];
     let mut done = 0;
-    let mut fastest = f64::INFINITY;
-    for _ in 0..7 {
+    for _ in 0..RUNS {
         let mut fresh = book.to_vec();
         done = 0;
-        let start = Instant::now();
-        for request in &requests {
-            let answer = step(&site, &mut fresh, black_box(request));
-            match answer.number {
-                0 => done += 1,
-                _ => continue,
+        for (piece, least) in requests.chunks(PIECE).zip(&mut fastest) {
+            let start = Instant::now();
+            for request in piece {
+                match step(&site, &mut fresh, black_box(request)).number {
+                    0 => done += 1,
+                    _ => continue,
+                }
             }
+            *least = least.min(start.elapsed().as_secs_f64());
         }
-        fastest = fastest.min(start.elapsed().as_secs_f64());
-        black_box(&fresh);
     }
-    let each = fastest / requests.len() as f64 * 1e9;
+    let each = fastest.iter().sum::<f64>() / requests.len() as f64 * 1e9;
     println!("steps, {name}: {each:.0} ns a step, {done} of {} done", requests.len());
 }
 
@@ -68,20 +72,25 @@ fn line(words: &[u32]) -> Vec<u8> {
 fn measure_lines() {
     let settings = Settings::from_words(&[7, 4, 8, 60, 20, 6, 2, 40, 10, 60, 60]).expect("settings");
     let site = Site::new(&settings.words()).expect("settings");
-    let requests: Vec<Request> = traffic(&site, SEED, 400_000);
+    let requests: Vec<Request> = traffic(&site, SEED, 100_000);
     let mut input = line(&settings.words());
     for r in &requests {
         input.extend(line(&[r.kind, r.a, r.b, r.first, r.last, r.n, r.info]));
     }
-    let mut out = Vec::with_capacity(requests.len() * 25);
-    let seconds = best(5, || {
-        out.clear();
+    let chunks: Vec<&[u8]> = input.chunks(1 << 16).collect();
+    let mut fastest = vec![f64::INFINITY; chunks.len()];
+    for _ in 0..RUNS {
+        let mut out = Vec::with_capacity(requests.len() * 25);
         let mut program = lines::Program::default();
-        input.chunks(1 << 16).for_each(|chunk| program.feed(chunk, &mut out));
-        program.finish(&mut out);
-    });
-    assert_eq!(out.len(), requests.len() * 25);
-    println!("lines, {} words: {:.2} M lines/s", site.length, requests.len() as f64 / seconds / 1e6);
+        for (chunk, least) in chunks.iter().zip(&mut fastest) {
+            let start = Instant::now();
+            program.feed(chunk, &mut out);
+            *least = least.min(start.elapsed().as_secs_f64());
+        }
+        assert_eq!(out.len(), requests.len() * 25);
+    }
+    let rate = requests.len() as f64 / fastest.iter().sum::<f64>() / 1e6;
+    println!("lines, {} words: {rate:.2} M lines/s", site.length);
 }
 
 fn main() {

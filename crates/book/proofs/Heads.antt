@@ -18,7 +18,8 @@ use Rattle.model.specs.Laws.{wellLaid}
 use Rattle.model.specs.Calls.{settingsGood}
 use Rattle.model.proofs.Search.{Each, conj-is, within-true, all-true, true-any, and-left, and-right}
 use Rattle.model.proofs.Places.{length-list, getD-list}
-use Rattle.book.specs.Grids.{gridOf, end}
+use Rattle.book.specs.Grids.{gridOf, end, Laid}
+use Rattle.book.proofs.Goods.{ranges-by}
 use Rattle.book.specs.Heads.{seatOf, seatGood, neededLength}
 
 -- the flag of a capacity that is out of its range
@@ -90,6 +91,19 @@ seats-sixteen b = length-list (seatOf b (getD b 6 0)) 16
 pub book-end : (S : Settings) → end (gridOf S rideCells) ≡ bookLength S
 unfolding bookLength base size
 book-end S = omega arith
+
+-- what question 1 leaves to know
+pub laid-valid : (b : List ℕ) → wellLaid b ≡ true → validSettings (settingsOf b) ≡ true
+unfolding wellLaid
+laid-valid b e = and-right (leb 9 (length b)) _ (and-left (leb 9 (length b) && validSettings (settingsOf b)) _ e)
+
+pub laid-is : (b : List ℕ) → wellLaid b ≡ true → (S : Settings) → S ≡ settingsOf b → Laid S b
+unfolding wellLaid
+laid-is b e S q =
+    record {
+      ranges = ranges-by S (ap validSettings q ∙ laid-valid b e);
+      long = eqb-true _ _ (and-right (leb 9 (length b) && validSettings (settingsOf b)) _ e) ∙ ap bookLength (sym q);
+    }
 
 -- question 1, by what the code finds
 pub laid-short : (b : List ℕ) → length b < 9 → wellLaid b ≡ false

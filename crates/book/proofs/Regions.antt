@@ -62,7 +62,7 @@ book-le S h =
     omega (arith, h .dining, size-le S h leaves, size-le S h hotelCells, size-le S h standings, size-le S h attendCells, size-le S h confPairs, size-le S h lunchTriples, size-le S h rideCells)
 
 -- a region ends where the next begins, and the last where the book ends
-end-le : (S : Settings) (g : Region) → base S g + size S g ≤ bookLength S
+pub end-le : (S : Settings) (g : Region) → base S g + size S g ≤ bookLength S
 unfolding base bookLength
 end-le S leaves = omega arith
 end-le S hotelCells = omega arith

@@ -3,7 +3,7 @@
 use Prim.Native.Nat.{ℕ, zero, suc, _+_, _≤_, _<_}
 use mathlib.Core.Path.{_≡_, refl, sym, _∙_, ap, fun-ext}
 use mathlib.Core.Logic.{_⊎_, inl, inr}
-use mathlib.Core.Bool.{Bool, true, false, not, _&&_, cond, false≢true}
+use mathlib.Core.Bool.{_||_, Bool, true, false, not, _&&_, cond, false≢true}
 use native.Mathlib.Nat.{eq-or-lt-of-le, le-refl, add-le-add}
 use native.Mathlib.Omega.{arith}
 use lib.Dec.{eqb}
@@ -105,3 +105,45 @@ sum-out old w v n m l h =
     sum-same (λ i. count2 (old i) m l) (λ i. count2 (λ a u. old i a u && not (w i && eqb u v)) m l + count (λ a. w i && old i a v) m) 0 n
     (λ i. count2-out (old i) (w i) v m l h)
     ∙ sum-add (λ i. count2 (λ a u. old i a u && not (w i && eqb u v)) m l) (λ i. count (λ a. w i && old i a v) m) 0 n
+
+-- a count in two parts
+pub count2-add : (p q s : ℕ → ℕ → Bool) (n m : ℕ) → ((i j : ℕ) → one (s i j) ≡ one (p i j) + one (q i j)) → count2 s n m ≡ count2 p n m + count2 q n m
+count2-add p q s n m h =
+    sum-same (λ i. count (s i) m) (λ i. count (p i) m + count (q i) m) 0 n
+    (λ i. sum-same (λ j. one (s i j)) (λ j. one (p i j) + one (q i j)) 0 m (h i) ∙ sum-add (λ j. one (p i j)) (λ j. one (q i j)) 0 m)
+    ∙ sum-add (λ i. count (p i) m) (λ i. count (q i) m) 0 n
+
+-- counts of the entries of one b, in the slots with a test
+module _ (F : ℕ → ℕ → ℕ → Bool) (v n m : ℕ) where
+  -- none is left of those that were taken out
+  pub count-none : (p q : ℕ → Bool) → ((i : ℕ) → p i ≡ true → q i ≡ true) → count2 (λ i a. p i && (F i a v && not (q i && eqb v v))) n m ≡ 0
+  count-none p q h = count2-nothing _ n m (λ i a. go (p i) (q i) (h i) (F i a v))
+    where
+      go : (p q : Bool) → (p ≡ true → q ≡ true) → (o : Bool) → p && (o && not (q && eqb v v)) ≡ false
+      go false q h o = refl
+      go true q h false = refl
+      go true q h true = rw (h refl, eq-eqb v v refl)
+
+  -- those of the slots s are those of p, and what is left of them in the slots q
+  pub count-split : (s p q : ℕ → Bool) → ((i : ℕ) → s i ≡ p i || q i) → ((i : ℕ) → q i ≡ true → p i ≡ false)
+      → count2 (λ i a. s i && F i a v) n m ≡ count2 (λ i a. p i && F i a v) n m + count2 (λ i a. q i && (F i a v && not (p i && eqb v v))) n m
+  count-split s p q e h =
+      count2-add (λ i a. p i && F i a v) (λ i a. q i && (F i a v && not (p i && eqb v v))) (λ i a. s i && F i a v) n m (λ i a. go (s i) (p i) (q i) (e i) (h i) (F i a v))
+    where
+      go : (s p q : Bool) → s ≡ p || q → (q ≡ true → p ≡ false) → (o : Bool) → one (s && o) ≡ one (p && o) + one (q && (o && not (p && eqb v v)))
+      go s true true e h o = absurd (false≢true (sym (h refl)))
+      go s true false e h true = rw e
+      go s true false e h false = rw e
+      go s false true e h true = rw e
+      go s false true e h false = rw e
+      go s false false e h true = rw e
+      go s false false e h false = rw e
+
+  -- sets that agree in those slots have as many
+  pub count-same : (G : ℕ → ℕ → ℕ → Bool) (w : ℕ → Bool) → ((i a : ℕ) → w i ≡ true → F i a v ≡ G i a v)
+      → count2 (λ i a. w i && F i a v) n m ≡ count2 (λ i a. w i && G i a v) n m
+  count-same G w h = ap (λ (f : ℕ → ℕ → Bool). count2 f n m) (fun-ext (λ i. fun-ext (λ a. go (w i) (h i a))))
+    where
+      go : {a b : Bool} (t : Bool) → (t ≡ true → a ≡ b) → t && a ≡ t && b
+      go true h = h refl
+      go false h = refl

@@ -3,7 +3,7 @@
 use Prim.Native.Nat.{ℕ}
 use mathlib.Core.Path.{_≡_, refl, sym, _∙_, ap, subst}
 use mathlib.Core.Logic.{_↔_}
-use mathlib.Core.Bool.{Bool, true, false, not, _&&_, _||_, cond, true≢false, false≢true}
+use mathlib.Core.Bool.{Bool, true, false, not, _&&_, cond, true≢false}
 use mathlib.Core.Option.{Option, none, some}
 use mathlib.Core.List.{List, [], _∷_}
 use lib.Dec.{eqb}
@@ -21,6 +21,7 @@ use Rattle.model.specs.Questions.{Question.aBelow, Question.onLeave, Que
 use Rattle.model.specs.Questions.{Question.present, Question.hasConf, Question.attended, inA}
 use Rattle.model.specs.Machine.{Outcome, value, change, slot, step, withHotel, withRide, withAttend, withConf, withLunch, request, run}
 use Rattle.model.proofs.Search.{never, false-any, true-any, any-false, and-left, and-right, and-true}
+use Rattle.model.proofs.Entry.{plus-on, minus-on, put-on, clear-on, plus-minus, put-clear, minus-plus}
 use Rattle.model.proofs.Laws.{Sound, hasOneA, hasOneB}
 use Rattle.model.proofs.Keeps.{Yes, mine, yes, yes-slot}
 use Rattle.model.proofs.Done.{Accepted, accepted-step, ask-slots}
@@ -30,8 +31,8 @@ use Rattle.model.proofs.Again.{always-yes, further-yes, own, performs}
 abbrev pub ofKind : ℕ → Request → Request
 ofKind k r = record { kind = k; a = r .a; b = r .b; first = r .first; last = r .last; n = 0; info = 0 }
 
-abbrev pub ofMeeting : ℕ → Request → Request
-ofMeeting k r = record { kind = k; a = 0; b = r .b; first = r .first; last = r .last; n = 0; info = 0 }
+abbrev pub onlyB : ℕ → Request → Request
+onlyB k r = record { kind = k; a = 0; b = r .b; first = r .first; last = r .last; n = 0; info = 0 }
 
 -- a kind that adds pairs, the kind that erases them, and its number
 pub data Undoes : Kind → Kind → ℕ → Type 0 where
@@ -40,30 +41,7 @@ pub data Undoes : Kind → Kind → ℕ → Type 0 where
   attend : Undoes addAttend eraseAttend 11
   lunch : Undoes addLunch eraseLunch 15
 
--- an entry that was absent is added and taken out; one that was there is taken out and added
-plus-minus : (old t : Bool) → (t ≡ true → not old ≡ true) → (old || t) && not t ≡ old
-plus-minus true true h = absurd (false≢true (h refl))
-plus-minus true false h = refl
-plus-minus false true h = refl
-plus-minus false false h = refl
-
-some-none : {A : Type 0} (t : Bool) (w : A) (old : Option A) → (t ≡ true → not (isSome old) ≡ true) → cond t none (cond t (some w) old) ≡ old
-some-none true w none h = refl
-some-none true w (some u) h = absurd (false≢true (h refl))
-some-none false w old h = refl
-
-minus-plus : (old t : Bool) → (t ≡ true → old ≡ true) → (old && not t) || t ≡ old
-minus-plus true true h = refl
-minus-plus true false h = refl
-minus-plus false true h = sym (h refl)
-minus-plus false false h = refl
-
-some-there : {A : Type 0} (t : Bool) (w : A) (o : Option A) → t ≡ true → isSome (cond t (some w) o) ≡ true
-some-there t w o e = rw e
-
-gone : {A : Type 0} (t : Bool) (o : Option A) → t ≡ true → isSome (cond t none o) ≡ false
-gone t o e = rw e
-
+-- to erase an entry that is not there changes nothing
 unless : {A : Type 0} (t : Bool) (o : Option A) → (t ≡ true → isSome o ≡ true → ⊥) → cond t none o ≡ o
 unless true none h = refl
 unless true (some w) h = absurd (h refl refl)
@@ -75,14 +53,6 @@ twice true c true w o = refl
 twice true true false w o = refl
 twice true false false w o = refl
 twice false c m w o = refl
-
-minus-gone : (old t : Bool) → t ≡ true → old && not t ≡ false
-minus-gone true t e = ap not e
-minus-gone false t e = refl
-
-plus-there : (old t : Bool) → t ≡ true → old || t ≡ true
-plus-there true t e = refl
-plus-there false t e = e
 
 module _ (x : State) (r : Request) where
   -- what 11 said of the request's own entries
@@ -105,34 +75,38 @@ module _ (x : State) (r : Request) where
   undo-added hotel h =
       let a : Yes x r addHotel always = always-yes x r addHotel h in
       undo-by (change x r addHotel) eraseHotel 5 hotels refl refl (refl, (a .1 .0, (a .1 .1 .0, (a .1 .1 .1 .0, tt))))
-      (λ i e. plus-there (x .hotel i (r .a) (r .b)) _ (own r i e)) refl
-      (λ j. withHotel x (λ i a b. plus-minus (x .hotel i a b) (slot r i && eqb a (r .a) && eqb b (r .b)) (was-absent addHotel hotels (further-yes x r addHotel h .1 .0) i a b) j))
+      (λ i e. plus-on (x .hotel i (r .a) (r .b)) _ (own r i e)) refl
+      (λ j. withHotel x (λ i a b. plus-minus (x .hotel i a b) (slot r i && eqb a (r .a) && eqb b (r .b))
+      (was-absent addHotel hotels (further-yes x r addHotel h .1 .0) i a b) j))
   undo-added ride h =
       let a : Yes x r addRide always = always-yes x r addRide h in
       undo-by (change x r addRide) eraseRide 7 rides refl refl (refl, (a .1 .0, (a .1 .1 .0, (a .1 .1 .1 .0, tt))))
-      (λ i e. plus-there (x .ride i (r .a) (r .b)) _ (own r i e)) refl
-      (λ j. withRide x (λ i a b. plus-minus (x .ride i a b) (slot r i && eqb a (r .a) && eqb b (r .b)) (was-absent addRide rides (further-yes x r addRide h .1 .0) i a b) j))
+      (λ i e. plus-on (x .ride i (r .a) (r .b)) _ (own r i e)) refl
+      (λ j. withRide x (λ i a b. plus-minus (x .ride i a b) (slot r i && eqb a (r .a) && eqb b (r .b))
+      (was-absent addRide rides (further-yes x r addRide h .1 .0) i a b) j))
   undo-added attend h =
       let a : Yes x r addAttend always = always-yes x r addAttend h in
       undo-by (change x r addAttend) eraseAttend 11 attends refl refl (refl, (a .1 .0, (a .1 .1 .0, (a .1 .1 .1 .0, tt))))
-      (λ i e. plus-there (x .attend i (r .a) (r .b)) _ (own r i e)) refl
-      (λ j. withAttend x (λ i a b. plus-minus (x .attend i a b) (slot r i && eqb a (r .a) && eqb b (r .b)) (was-absent addAttend attends (further-yes x r addAttend h .1 .1 .0) i a b) j))
+      (λ i e. plus-on (x .attend i (r .a) (r .b)) _ (own r i e)) refl
+      (λ j. withAttend x (λ i a b. plus-minus (x .attend i a b) (slot r i && eqb a (r .a) && eqb b (r .b))
+      (was-absent addAttend attends (further-yes x r addAttend h .1 .1 .0) i a b) j))
   undo-added lunch h =
       let a : Yes x r addLunch always = always-yes x r addLunch h in
       undo-by (change x r addLunch) eraseLunch 15 lunches refl refl (refl, (a .1 .0, (a .1 .1 .0, (a .1 .1 .1 .0, tt))))
-      (λ i e. some-there _ (record { seats = r .n; info = r .info }) (x .lunch i (r .a) (r .b)) (own r i e)) refl
-      (λ j. withLunch x (λ i a b. some-none (slot r i && eqb a (r .a) && eqb b (r .b)) (record { seats = r .n; info = r .info }) (x .lunch i a b) (was-absent addLunch lunches (further-yes x r addLunch h .1 .1 .0) i a b) j))
+      (λ i e. put-on _ (record { seats = r .n; info = r .info }) (x .lunch i (r .a) (r .b)) (own r i e)) refl
+      (λ j. withLunch x (λ i a b. put-clear (slot r i && eqb a (r .a) && eqb b (r .b)) (record { seats = r .n; info = r .info }) (x .lunch i a b)
+      (was-absent addLunch lunches (further-yes x r addLunch h .1 .1 .0) i a b) j))
 
   -- 12 then 13: all the meeting's conference rooms in those sessions are gone
-  conf-after : Accepted x r addConf → step (change x r addConf) (ofMeeting 13 r) ≡ record { answer = Done 0; state = withConf x (λ s c m. cond (slot r s && eqb m (r .b)) none (x .conf s c m)) }
+  conf-after : Accepted x r addConf → step (change x r addConf) (onlyB 13 r) ≡ record { answer = Done 0; state = withConf x (λ s c m. cond (slot r s && eqb m (r .b)) none (x .conf s c m)) }
   unfolding ask test change value kindOf confHeld
   conf-after h =
       let a : Yes x r addConf always = always-yes x r addConf h in
-      performs (change x r addConf) (ofMeeting 13 r) eraseConf refl (refl, (refl, (a .1 .1 .0, (a .1 .1 .1 .0, tt)))) (
-        ask-slots (change x r addConf) (ofMeeting 13 r) eraseConf hasConf refl
+      performs (change x r addConf) (onlyB 13 r) eraseConf refl (refl, (refl, (a .1 .1 .0, (a .1 .1 .1 .0, tt)))) (
+        ask-slots (change x r addConf) (onlyB 13 r) eraseConf hasConf refl
             (λ i e. true-any (λ c. isSome (change x r addConf .conf i c (r .b))) (x .settings .rooms) (r .a)
             (ltb-true (r .a) (x .settings .rooms) (yes x r addConf aBelow refl (a .1 .0)))
-            (some-there _ (r .info) (x .conf i (r .a) (r .b)) (own r i e))),
+            (put-on _ (r .info) (x .conf i (r .a) (r .b)) (own r i e))),
         tt,
       )
       0 _ refl
@@ -140,21 +114,22 @@ module _ (x : State) (r : Request) where
 
   -- "Give a meeting a conference room and then erase its rooms in those sessions: both are done, and every word is as before exactly
   -- when it held no room there before."
-  pub undo-conf-done : Accepted x r addConf → step (change x r addConf) (ofMeeting 13 r) .answer ≡ Done 0
+  pub undo-conf-done : Accepted x r addConf → step (change x r addConf) (onlyB 13 r) .answer ≡ Done 0
   undo-conf-done h = ap (λ (o : Outcome). o .answer) (conf-after h)
 
   pub undo-conf : Sound x → Accepted x r addConf
-      → (step (change x r addConf) (ofMeeting 13 r) .state ≡ x) ↔ ((i : ℕ) → slot r i ≡ true → confHeld x i (r .b) ≡ false)
+      → (step (change x r addConf) (onlyB 13 r) .state ≡ x) ↔ ((i : ℕ) → slot r i ≡ true → confHeld x i (r .b) ≡ false)
   unfolding confHeld
   undo-conf s h = (was, is)
     where
-      after : step (change x r addConf) (ofMeeting 13 r) .state ≡ withConf x (λ s c m. cond (slot r s && eqb m (r .b)) none (x .conf s c m))
+      after : step (change x r addConf) (onlyB 13 r) .state ≡ withConf x (λ s c m. cond (slot r s && eqb m (r .b)) none (x .conf s c m))
       after = ap (λ (o : Outcome). o .state) (conf-after h)
 
-      was : step (change x r addConf) (ofMeeting 13 r) .state ≡ x → (i : ℕ) → slot r i ≡ true → confHeld x i (r .b) ≡ false
+      was : step (change x r addConf) (onlyB 13 r) .state ≡ x → (i : ℕ) → slot r i ≡ true → confHeld x i (r .b) ≡ false
       was e i t =
           false-any (λ c. isSome (x .conf i c (r .b))) (x .settings .rooms)
-          (λ c _. ap (λ (z : State). isSome (z .conf i c (r .b))) (sym (sym after ∙ e)) ∙ gone (slot r i && eqb (r .b) (r .b)) (x .conf i c (r .b)) (and-true t (eq-eqb (r .b) (r .b) refl)))
+          (λ c _. ap (λ (z : State). isSome (z .conf i c (r .b))) (sym (sym after ∙ e)) ∙ clear-on (slot r i && eqb (r .b) (r .b))
+          (x .conf i c (r .b)) (and-true t (eq-eqb (r .b) (r .b) refl)))
 
       empty : (i c m : ℕ) → ((i : ℕ) → slot r i ≡ true → confHeld x i (r .b) ≡ false) → slot r i && eqb m (r .b) ≡ true → isSome (x .conf i c m) ≡ true → ⊥
       empty i c m f t e =
@@ -163,7 +138,7 @@ module _ (x : State) (r : Request) where
           = any-false (λ c. isSome (x .conf i c (r .b))) (x .settings .rooms) (f i (and-left (slot r i) _ t)) c (s .pairs confs i c m e .first) in
           true≢false (sym (rw b at e) ∙ g)
 
-      is : ((i : ℕ) → slot r i ≡ true → confHeld x i (r .b) ≡ false) → step (change x r addConf) (ofMeeting 13 r) .state ≡ x
+      is : ((i : ℕ) → slot r i ≡ true → confHeld x i (r .b) ≡ false) → step (change x r addConf) (onlyB 13 r) .state ≡ x
       is f = after ∙ (λ j. withConf x (λ i c m. unless (slot r i && eqb m (r .b)) (x .conf i c m) (empty i c m f) j))
 
 -- a state y that lost the request's own pairs of the set p, which x holds in every slot, and holds no other pair: they can be added
@@ -189,7 +164,8 @@ module _ (x y : State) (s : Sound x) (r : Request) (p : Pairs) (v : Vacated x y 
   unfolding test
   vacant-elsewhere h =
       ask-slots y r k (elsewhere p) refl
-      (λ i e. ap not (false-any (λ a. not (eqb a (r .a)) && booked y p i a (r .b)) (limitA (y .settings) p) (λ a _. never (not (eqb a (r .a)) && booked y p i a (r .b)) (λ t.
+      (λ i e. ap not (false-any (λ a. not (eqb a (r .a)) && booked y p i a (r .b)) (limitA (y .settings) p)
+      (λ a _. never (not (eqb a (r .a)) && booked y p i a (r .b)) (λ t.
       let q : a ≡ r .a = s .oneA p h i (r .b) a (r .a) (v .less i a (r .b) (and-right (not (eqb a (r .a))) _ t)) (v .there i e) in
       true≢false (sym (and-right (not (eqb a (r .a))) _ t) ∙ ap (λ (n : ℕ). booked y p i n (r .b)) q ∙ v .out i e)))))
 
@@ -218,12 +194,15 @@ module _ (x : State) (s : Sound x) (r : Request) where
       let v : Vacated x y (ofKind 4 r) hotels
       = record {
         there = was-present eraseHotel hotels t;
-        out = λ i e. minus-gone (x .hotel i (r .a) (r .b)) _ (own r i e);
+        out = λ i e. minus-on (x .hotel i (r .a) (r .b)) _ (own r i e);
         less = λ i a b e. and-left (x .hotel i a b) _ e;
       } in
       performs y (ofKind 4 r) addHotel refl (refl, (a .1 .0, (a .1 .1 .0, (a .1 .1 .1 .0, tt)))) (
         ask-slots y (ofKind 4 r) addHotel onLeave refl (λ i e. s .guests hotels refl i (r .a) (r .b) (was-present eraseHotel hotels t i e)),
-        (vacant-absent x y s (ofKind 4 r) hotels v addHotel, (vacant-free x y s (ofKind 4 r) hotels v addHotel refl, (vacant-elsewhere x y s (ofKind 4 r) hotels v addHotel refl, tt))),
+        (
+          vacant-absent x y s (ofKind 4 r) hotels v addHotel,
+          (vacant-free x y s (ofKind 4 r) hotels v addHotel refl, (vacant-elsewhere x y s (ofKind 4 r) hotels v addHotel refl, tt)),
+        ),
       )
       0 x refl
       (λ j. withHotel x (λ i a b. minus-plus (x .hotel i a b) (slot r i && eqb a (r .a) && eqb b (r .b)) (back eraseHotel hotels t i a b) j))
@@ -234,12 +213,15 @@ module _ (x : State) (s : Sound x) (r : Request) where
       let v : Vacated x y (ofKind 6 r) rides
       = record {
         there = was-present eraseRide rides t;
-        out = λ i e. minus-gone (x .ride i (r .a) (r .b)) _ (own r i e);
+        out = λ i e. minus-on (x .ride i (r .a) (r .b)) _ (own r i e);
         less = λ i a b e. and-left (x .ride i a b) _ e;
       } in
       performs y (ofKind 6 r) addRide refl (refl, (a .1 .0, (a .1 .1 .0, (a .1 .1 .1 .0, tt)))) (
         ask-slots y (ofKind 6 r) addRide onLeave refl (λ i e. s .guests rides refl i (r .a) (r .b) (was-present eraseRide rides t i e)),
-        (vacant-absent x y s (ofKind 6 r) rides v addRide, (vacant-free x y s (ofKind 6 r) rides v addRide refl, (vacant-elsewhere x y s (ofKind 6 r) rides v addRide refl, tt))),
+        (
+          vacant-absent x y s (ofKind 6 r) rides v addRide,
+          (vacant-free x y s (ofKind 6 r) rides v addRide refl, (vacant-elsewhere x y s (ofKind 6 r) rides v addRide refl, tt)),
+        ),
       )
       0 x refl
       (λ j. withRide x (λ i a b. minus-plus (x .ride i a b) (slot r i && eqb a (r .a) && eqb b (r .b)) (back eraseRide rides t i a b) j))
@@ -250,7 +232,7 @@ module _ (x : State) (s : Sound x) (r : Request) where
       let v : Vacated x y (ofKind 10 r) attends
       = record {
         there = was-present eraseAttend attends t;
-        out = λ i e. minus-gone (x .attend i (r .a) (r .b)) _ (own r i e);
+        out = λ i e. minus-on (x .attend i (r .a) (r .b)) _ (own r i e);
         less = λ i a b e. and-left (x .attend i a b) _ e;
       } in
       performs y (ofKind 10 r) addAttend refl (refl, (a .1 .0, (a .1 .1 .0, (a .1 .1 .1 .0, tt)))) (

@@ -4,11 +4,12 @@
 use second::book::{self, check, lay, length, words, Rule};
 use second::frames::{frames, lines};
 use second::gen::cases::{self, Case};
+use second::gen::conflicts::{conflicts_of, edges, CONFLICTS};
 use second::gen::requests::opening;
 use second::gen::sites::bad_settings;
 use second::gen::{clean_stream, damaged_stream, deep_state, junk_book, list, site, tables, Mix, Rng, Size};
 use second::machine::{run, step, Answer, Request, State};
-use std::collections::BTreeMap;
+use std::collections::{BTreeMap, BTreeSet};
 
 const SEED: u64 = 0x5eed;
 
@@ -20,7 +21,7 @@ fn count(counts: &mut BTreeMap<u32, u32>, key: u32) {
 #[test]
 fn lists_reach_every_kind_and_every_number() {
     let mut rng = Rng::new(SEED);
-    let (mut done, mut refused) = (BTreeMap::new(), BTreeMap::new());
+    let (mut done, mut refused, mut conflicts) = (BTreeMap::new(), BTreeMap::new(), BTreeSet::new());
     let mut total = 0;
     for _ in 0..200 {
         let mut state = State::empty(site(&mut rng, Size::Any));
@@ -29,6 +30,7 @@ fn lists_reach_every_kind_and_every_number() {
         let mut replayed = state.clone();
         let requests = list(&mut rng, &mut state, 60, Mix::USUAL);
         for request in &requests {
+            conflicts.extend(conflicts_of(&replayed, request));
             match step(&mut replayed, request) {
                 Answer::Done(_) => count(&mut done, request.kind),
                 Answer::Refused { number, .. } => count(&mut refused, number),
@@ -39,9 +41,25 @@ fn lists_reach_every_kind_and_every_number() {
         total += requests.len();
     }
     println!("seed {SEED}: {total} requests, done by kind {done:?}, refused by number {refused:?}");
+    println!("conflicts decided: {} of {}", conflicts.len(), CONFLICTS.len());
+    assert_eq!(conflicts.len(), CONFLICTS.len());
     assert_eq!(done.values().sum::<u32>() + refused.values().sum::<u32>(), total as u32);
     assert!((1..=20).all(|kind| done.get(&kind).is_some_and(|count| *count >= 5)));
     assert!((3..=22).all(|number| refused.get(&number).is_some_and(|count| *count >= 5)));
+}
+
+/// Every fault of form, alone and with each other: questions 3 to 8 all say no to some.
+#[test]
+fn edges_meet_3_to_8() {
+    let mut rng = Rng::new(SEED + 6);
+    let mut numbers = BTreeMap::new();
+    let settings = site(&mut rng, Size::Small);
+    let mut state = deep_state(&mut rng, settings, 30);
+    for request in edges(&mut rng, &state) {
+        count(&mut numbers, step(&mut state, &request).number());
+    }
+    println!("seed {}: edges by number {numbers:?}", SEED + 6);
+    assert!((3..=8).all(|number| numbers.contains_key(&number)));
 }
 
 /// A call on a raw book is the machine's step from the state shown, and a refused one keeps it.

@@ -1,6 +1,6 @@
 -- `pool::members` meets its contract: n is the count of the members in the words passed. Assumes nothing.
 use mathlib.Core.Path.{_≡_, _∙_, ap, refl}
-use Prim.Native.Nat.{ℕ, _+_, _-_, _*_, _≤_}
+use Prim.Native.Nat.{ℕ, _-_, _*_, _≤_}
 use native.Mathlib.Omega.{arith}
 use lib.ListN.{length}
 use lib.Count.{ones-le}

@@ -4,7 +4,7 @@
 use super::books::{damaged, junk_book};
 use super::requests::{deep_state, one, Mix};
 use super::sites::{bad_settings, large_settings, site, Size};
-use super::streams::{damage, stream_of};
+use super::streams::{damage, damage_line, stream_of, DAMAGES};
 use super::tables::join;
 use super::Rng;
 use crate::book::{self, length, words, Rule};
@@ -17,7 +17,7 @@ const BOOKS_A_RULE: usize = 2;
 const JUNK: usize = 20;
 const CALLS: usize = 30;
 const LAYINGS: usize = 12;
-const STREAMS: usize = 16;
+const STREAMS: usize = 8;
 
 /// A prover computes these, so books and inputs stay short.
 const MOST_WORDS: usize = 150;
@@ -36,7 +36,7 @@ pub fn cases(seed: u64) -> Vec<Case> {
     all.extend((0..JUNK).map(|_| checked(short_junk(&mut rng))));
     all.extend((0..CALLS).map(|turn| called(&mut rng, turn % 3 == 0)));
     all.extend((0..LAYINGS).map(|turn| laid(&mut rng, turn % 3)));
-    all.extend((0..STREAMS).map(|turn| input(&mut rng, turn)));
+    all.extend(inputs(&mut rng).into_iter().map(|input| Case::Input { output: frames(&input), input }));
     all
 }
 
@@ -101,16 +101,30 @@ fn laid(rng: &mut Rng, turn: usize) -> Case {
     Case::Lay { settings, before, answer, after }
 }
 
-fn input(rng: &mut Rng, turn: usize) -> Case {
-    let input = match turn {
-        0 => Vec::new(),
-        1 => vec![10],
-        2 => words_line(&large_settings(rng).words()),
-        3 => words_line(&bad_settings(rng)),
-        _ => short_stream(rng),
-    };
-    let output = frames(&input);
-    Case::Input { input, output }
+/// No input, an empty line, settings of both refusals, each sort of damage to a line, and streams.
+fn inputs(rng: &mut Rng) -> Vec<Vec<u8>> {
+    let mut all = vec![Vec::new(), vec![10]];
+    all.push(words_line(&large_settings(rng).words()));
+    all.push(words_line(&bad_settings(rng)));
+    all.extend((0..DAMAGES).map(|sort| one_damage(rng, sort)));
+    all.extend((0..STREAMS).map(|_| short_stream(rng)));
+    all
+}
+
+/// A settings line, a line with this damage, and a good line. The kind is one that hexadecimal
+/// writes with a letter, so that upper case is seen.
+fn one_damage(rng: &mut Rng, sort: u32) -> Vec<u8> {
+    loop {
+        let state = small_state(rng);
+        let kind = rng.between(10, 15);
+        let mut line = words_line(&Request { kind, ..one(rng, &state, Mix::USUAL) }.words());
+        let good = line.clone();
+        damage_line(rng, &mut line, sort);
+        let input = [words_line(&state.settings.words()), line, good].concat();
+        if input.len() <= MOST_BYTES {
+            return input;
+        }
+    }
 }
 
 fn short_stream(rng: &mut Rng) -> Vec<u8> {

@@ -3,6 +3,7 @@
 
 pub mod books;
 pub mod cases;
+pub mod conflicts;
 pub mod requests;
 pub mod rng;
 pub mod sites;

@@ -2,22 +2,25 @@
 //! machine's own questions choose among them: most requests are accepted, others meet a refusal
 //! that was aimed at, and some are junk. So lists reach deep states.
 
+use super::conflicts::{conflict, CONFLICTS};
 use super::Rng;
 use crate::machine::kinds::{uses, Unit, Uses, LAST_KIND};
 use crate::machine::questions::first_no;
 use crate::machine::{run, step, Date, Request, Session, Settings, State, Time};
 
-/// How many of a hundred requests are junk, and aimed at a refusal; the rest aim to be done.
+/// How many of a hundred requests are junk, aimed at two refusals at once, and aimed at one; the
+/// rest aim to be done.
 #[derive(Clone, Copy, Debug)]
 pub struct Mix {
     pub junk: u32,
+    pub conflicting: u32,
     pub aimed: u32,
 }
 
 impl Mix {
-    pub const USUAL: Mix = Mix { junk: 6, aimed: 30 };
+    pub const USUAL: Mix = Mix { junk: 6, conflicting: 6, aimed: 26 };
     /// Nearly everything is accepted, for filling a book.
-    pub const FILLING: Mix = Mix { junk: 0, aimed: 2 };
+    pub const FILLING: Mix = Mix { junk: 0, conflicting: 0, aimed: 2 };
 }
 
 /// How many candidates are drawn before the last one is taken as it is.
@@ -97,7 +100,11 @@ pub fn one(rng: &mut Rng, state: &State, mix: Mix) -> Request {
     if turn < mix.junk {
         return junk(rng, state);
     }
-    let wanted = if turn < mix.junk + mix.aimed { rng.between(8, 22) } else { 0 };
+    if turn < mix.junk + mix.conflicting {
+        let wanted = rng.pick(&CONFLICTS);
+        return conflict(rng, state, wanted).unwrap_or_else(|| aim(rng, state, wanted.1));
+    }
+    let wanted = if turn < mix.junk + mix.conflicting + mix.aimed { rng.between(8, 22) } else { 0 };
     aim(rng, state, wanted)
 }
 
@@ -139,7 +146,7 @@ fn kinds_asked(number: u32) -> &'static [u32] {
 }
 
 /// A request of the kind with every field in range, often around an entry that the state holds.
-fn candidate(rng: &mut Rng, state: &State, kind: u32) -> Request {
+pub fn candidate(rng: &mut Rng, state: &State, kind: u32) -> Request {
     let used = uses(kind).expect("a kind of the table");
     let mut request = in_range(rng, state, kind, used);
     if rng.percent(70) {

@@ -36,7 +36,8 @@ pub fn damage(rng: &mut Rng, clean: &[u8]) -> Vec<u8> {
     }
     for line in lines.iter_mut().skip(1) {
         if rng.percent(25) {
-            damage_line(rng, line);
+            let sort = rng.below(DAMAGES);
+            damage_line(rng, line, sort);
         }
     }
     let mut out = lines.concat();
@@ -57,17 +58,21 @@ fn damaged_settings_line(rng: &mut Rng, line: &[u8]) -> Vec<u8> {
         3 => vec![10],
         _ => {
             let mut line = line.to_vec();
-            damage_line(rng, &mut line);
+            let sort = rng.below(DAMAGES);
+            damage_line(rng, &mut line, sort);
             line
         }
     }
 }
 
-/// One damage to a line that ends with byte 10.
-fn damage_line(rng: &mut Rng, line: &mut Vec<u8>) {
+/// How many sorts of damage to a line there are.
+pub const DAMAGES: u32 = 10;
+
+/// One damage of the sort to a line that ends with byte 10.
+pub fn damage_line(rng: &mut Rng, line: &mut Vec<u8>, sort: u32) {
     let digits = line.len() as u32 - 1;
     let at = rng.below(digits.max(1)) as usize;
-    match rng.below(10) {
+    match sort {
         0 => line.make_ascii_uppercase(),
         1 => line.insert(digits as usize, 13),
         2 => line.insert(at, 10),

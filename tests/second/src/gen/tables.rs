@@ -1,7 +1,8 @@
 //! Random tables for the specification check: small sites, the steps of a list from fresh with
 //! their answers, and the whole book at the end.
 
-use super::requests::{aim, junk, one, opening, Mix};
+use super::conflicts::{conflict, conflicts_of, edges, Conflict, CONFLICTS};
+use super::requests::{aim, one, opening, Mix};
 use super::sites::{site, Size};
 use super::Rng;
 use crate::book::words;
@@ -23,51 +24,80 @@ pub struct Table {
 struct Seen {
     kinds_done: BTreeSet<u32>,
     numbers: BTreeSet<u32>,
+    conflicts: BTreeSet<Conflict>,
 }
 
 impl Seen {
     fn everything(&self) -> bool {
-        self.kinds_done.len() == 20 && (3..=22).all(|number| self.numbers.contains(&number))
+        let numbers = (3..=22).all(|number| self.numbers.contains(&number));
+        self.kinds_done.len() == 20 && numbers && self.conflicts.len() == CONFLICTS.len()
     }
 }
 
-/// Tables of the seed: every kind done and every number 3 to 22 reached among them.
+/// Tables of the seed: among them every kind is done, every number 3 to 22 is reached, every
+/// conflict of two questions occurs, and every kind has every fault of its form.
 pub fn tables(seed: u64) -> Vec<Table> {
     let mut rng = Rng::new(seed);
     let mut seen = Seen::default();
-    let mut all = Vec::new();
+    let mut all = vec![edge_table(&mut rng, &mut seen)];
     while all.len() < SITES || !seen.everything() {
         all.push(table(&mut rng, &mut seen));
     }
     all
 }
 
-fn table(rng: &mut Rng, seen: &mut Seen) -> Table {
+fn opened(rng: &mut Rng) -> (State, Table) {
     let settings = site(rng, Size::Table);
-    let mut state = State::empty(settings.clone());
-    let mut requests = opening(rng, &settings);
+    let state = State::empty(settings.clone());
+    (state, Table { settings, steps: Vec::new(), book: Vec::new() })
+}
+
+fn table(rng: &mut Rng, seen: &mut Seen) -> Table {
+    let (mut state, mut table) = opened(rng);
+    let mut requests = opening(rng, &state.settings);
     requests.truncate(STEPS / 6);
-    let mut steps = Vec::new();
     for turn in 0..STEPS {
         let request = match requests.pop() {
             Some(request) => request,
             None => next(rng, &state, seen, turn),
         };
-        let answer = step(&mut state, &request);
-        match answer {
-            Answer::Done(_) => seen.kinds_done.insert(request.kind),
-            Answer::Refused { number, .. } => seen.numbers.insert(number),
-        };
-        steps.push((request, answer));
+        add_step(&mut table, &mut state, seen, request);
     }
-    Table { settings, steps, book: words(&state) }
+    table.book = words(&state);
+    table
 }
 
-/// Now and then what is still missing is aimed at.
+/// A site with the edges of every kind.
+fn edge_table(rng: &mut Rng, seen: &mut Seen) -> Table {
+    let (mut state, mut table) = opened(rng);
+    for request in edges(rng, &state) {
+        add_step(&mut table, &mut state, seen, request);
+    }
+    table.book = words(&state);
+    table
+}
+
+fn add_step(table: &mut Table, state: &mut State, seen: &mut Seen, request: Request) {
+    seen.conflicts.extend(conflicts_of(state, &request));
+    let answer = step(state, &request);
+    match answer {
+        Answer::Done(_) => seen.kinds_done.insert(request.kind),
+        Answer::Refused { number, .. } => seen.numbers.insert(number),
+    };
+    table.steps.push((request, answer));
+}
+
+/// Every third request aims at what is still missing, conflicts and numbers in turn.
 fn next(rng: &mut Rng, state: &State, seen: &Seen, turn: usize) -> Request {
-    let missing = (3..=22).find(|number| !seen.numbers.contains(number));
-    match missing {
-        Some(number) if turn.is_multiple_of(3) && number < 8 => junk(rng, state),
+    let missing: Vec<Conflict> = CONFLICTS.into_iter().filter(|wanted| !seen.conflicts.contains(wanted)).collect();
+    let number = (8..=22).find(|number| !seen.numbers.contains(number));
+    if turn.is_multiple_of(3) && !missing.is_empty() {
+        let wanted = rng.pick(&missing);
+        if let Some(request) = conflict(rng, state, wanted) {
+            return request;
+        }
+    }
+    match number {
         Some(number) if turn.is_multiple_of(3) => aim(rng, state, number),
         _ => one(rng, state, Mix::USUAL),
     }

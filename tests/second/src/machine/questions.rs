@@ -8,7 +8,7 @@ use super::{Request, State};
 /// Yes, or no with the place.
 pub type Verdict = Result<(), u32>;
 
-type Question = fn(&State, &Request) -> Verdict;
+pub type Question = fn(&State, &Request) -> Verdict;
 
 /// The questions with their numbers, in the paper's order.
 pub const QUESTIONS: [(u32, Question); 20] = [

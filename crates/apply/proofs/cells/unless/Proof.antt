@@ -1,0 +1,12 @@
+use borrow.Author.Tests.{eq-eqb, ne-eqb}
+use Rattle.apply.proofs.cells.unless.Statement.{statement}
+use Rattle.apply.proofs.cells.unless.Tie as tie
+
+returns : tie.Need-returns
+returns c = rw (eq-eqb _ _ (c .if1 .taken))
+
+returns-2 : tie.Need-returns-2
+returns-2 c = rw (ne-eqb _ _ (c .if1 .left))
+
+pub unless-spec : {M : Type 1} → statement M
+unless-spec = tie.close (tie.spec returns returns-2)

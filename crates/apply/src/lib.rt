@@ -1,0 +1,52 @@
+// The writes of an accepted request. Nothing is asked here: every question has been answered yes.
+pub mod bits;
+pub mod cells;
+pub mod sets;
+
+use book::grid::Grids;
+use model::Request;
+use model::Settings;
+use sets::add;
+use sets::drop;
+use sets::end_standing;
+use sets::erase_conf_and_lunch;
+use sets::remove_visitor;
+use sets::take;
+use sets::turn;
+ghost use mathlib.Core.Path.{_≡_};
+ghost use mathlib.Core.Bool.{true};
+ghost use Rattle.model.specs.Machine.{step};
+ghost use Rattle.model.specs.Words.{words};
+ghost use Rattle.model.specs.Reading.{stateOf};
+ghost use Rattle.book.specs.Grids.{gridsOf};
+ghost use Rattle.book.specs.Good.{Good};
+ghost use Rattle.apply.specs.Accepted.{accepted};
+
+// The book afterwards is the words of the machine's state.
+pub fn apply(book: &mut [u32], s: Settings, g: Grids, r: Request)
+    requires { ⌜ Good s (now book) ⌝ }
+    requires { ⌜ g ≡ gridsOf s ⌝ }
+    requires { ⌜ accepted (step (stateOf (now book)) r .answer) ≡ true ⌝ }
+    ensures { λ _. ⌜ now (book .exit) ≡ words (step (stateOf (now (book .entry))) r .state) ⌝ }
+{
+    let kind = r.kind;
+    match kind {
+        1 => turn(book, g.leave, true, r.b, r.first, r.last),
+        2 => turn(book, g.leave, false, r.b, r.first, r.last),
+        3 => remove_visitor(book, s, g, r.b, r.first, r.last),
+        4 => add(book, g.hotel, r.a, r.b, 0, 0, r.first, r.last),
+        5 => take(book, g.hotel, r.a, r.first, r.last),
+        6 => add(book, g.ride, r.a, r.b, 0, 0, r.first, r.last),
+        7 => take(book, g.ride, r.a, r.first, r.last),
+        8 => turn(book, g.standing, true, r.a, r.first, r.last),
+        9 => end_standing(book, g, r.a, r.first, r.last),
+        10 => add(book, g.attend, r.b, r.a, 0, 0, r.first, r.last),
+        11 => take(book, g.attend, r.b, r.first, r.last),
+        12 => add(book, g.conf, r.a, r.b, r.info, 0, r.first, r.last),
+        13 => drop(book, g.conf, r.b, r.first, r.last),
+        14 => add(book, g.lunch, r.b, r.a, r.n, r.info, r.first, r.last),
+        15 => take(book, g.lunch, r.b, r.first, r.last),
+        16 => erase_conf_and_lunch(book, s, g, r.b, r.first, r.last),
+        _ => {}
+    }
+}

@@ -1,0 +1,135 @@
+// What the kinds write, in the slots first..last, both included.
+use crate::bits::mark_all;
+use crate::cells::Content;
+use crate::cells::EMPTY;
+use crate::cells::fill;
+use crate::cells::sweep;
+use book::grid::Grid;
+use book::grid::Grids;
+use book::units::Slot;
+use book::units::date_of_session;
+use book::units::first_on;
+use model::Session;
+use model::Settings;
+ghost use mathlib.Core.Path.{_≡_};
+ghost use Prim.Native.Nat.{_+_, _/_, _≤_, _<_};
+ghost use lib.ListN.{length};
+ghost use mathlib.Core.Bool.{false};
+ghost use Rattle.model.specs.Site.{dateOfSession};
+ghost use Rattle.model.specs.Kinds.{slotsOf};
+ghost use Rattle.book.specs.Ranges.{Ranges};
+ghost use Rattle.book.specs.Units.{unitOf};
+ghost use Rattle.book.specs.Grids.{gridsOf, Laid};
+ghost use Rattle.apply.specs.Stores.{Span, full, empty, filled, swept, markedAll, OnDates, Removed};
+
+// One entry into the cells of an item, with the words beside it.
+pub fn add(
+    book: &mut [u32],
+    g: Grid,
+    item: u32,
+    who: u32,
+    second: u32,
+    third: u32,
+    first: u32,
+    last: u32,
+)
+    requires { ⌜ Span g (length (now book)) last ⌝ }
+    requires { ⌜ item < g .items ⌝ }
+    requires { ⌜ who < 1000 ⌝ }
+    ensures { λ _. ⌜ now (book .exit) ≡ filled g item (full who second third) first (last + 1) (now (book .entry)) ⌝ }
+{
+    let c = Content {
+        entry: who + 1,
+        second,
+        third,
+    };
+    fill(book, g, item, c, first, last + 1);
+}
+
+// The cells of an item emptied.
+pub fn take(book: &mut [u32], g: Grid, item: u32, first: u32, last: u32)
+    requires { ⌜ Span g (length (now book)) last ⌝ }
+    requires { ⌜ item < g .items ⌝ }
+    ensures { λ _. ⌜ now (book .exit) ≡ filled g item empty first (last + 1) (now (book .entry)) ⌝ }
+{
+    fill(book, g, item, EMPTY, first, last + 1);
+}
+
+// One entry erased from every cell that holds it.
+pub fn drop(book: &mut [u32], g: Grid, who: u32, first: u32, last: u32)
+    requires { ⌜ Span g (length (now book)) last ⌝ }
+    requires { ⌜ who < 1000 ⌝ }
+    ensures { λ _. ⌜ now (book .exit) ≡ swept g (who + 1) first (last + 1) (now (book .entry)) ⌝ }
+{
+    sweep(book, g, who + 1, first, last + 1);
+}
+
+// A member's bit set or cleared.
+pub fn turn(book: &mut [u32], g: Grid, on: bool, v: u32, first: u32, last: u32)
+    requires { ⌜ Span g (length (now book)) last ⌝ }
+    requires { ⌜ v / 32 < g .items ⌝ }
+    ensures { λ _. ⌜ now (book .exit) ≡ markedAll g on v first (last + 1) (now (book .entry)) ⌝ }
+{
+    mark_all(book, g, on, v, first, last + 1);
+}
+
+// Kind 9: the meeting no longer stands, and nobody attends it.
+pub fn end_standing(book: &mut [u32], g: Grids, a: u32, first: u32, last: u32)
+    requires { ⌜ Span (g .standing) (length (now book)) last ⌝ }
+    requires { ⌜ Span (g .attend) (length (now book)) last ⌝ }
+    requires { ⌜ a / 32 < g .standing .items ⌝ }
+    requires { ⌜ a < 1000 ⌝ }
+    ensures { λ _. ⌜ now (book .exit) ≡ swept (g .attend) (a + 1) first (last + 1) (markedAll (g .standing) false a first (last + 1) (now (book .entry))) ⌝ }
+{
+    turn(book, g.standing, false, a, first, last);
+    drop(book, g.attend, a, first, last);
+}
+
+// Kind 16: the meeting's conference rooms, and its lunches on the dates from first's to last's.
+pub fn erase_conf_and_lunch(book: &mut [u32], s: Settings, g: Grids, b: u32, first: u32, last: u32)
+    requires { ⌜ Laid s (now book) ⌝ }
+    requires { ⌜ g ≡ gridsOf s ⌝ }
+    requires { ⌜ last < g .conf .slots ⌝ }
+    requires { ⌜ b < s .meetings ⌝ }
+    ensures { λ _. ⌜ now (book .exit) ≡ filled (g .lunch) b empty (dateOfSession s first) (dateOfSession s last + 1) (swept (g .conf) (b + 1) first (last + 1) (now (book .entry))) ⌝ }
+{
+    drop(book, g.conf, b, first, last);
+    let from = date_of_session(s, Session(first));
+    let to = date_of_session(s, Session(last));
+    take(book, g.lunch, b, from.0, to.0);
+}
+
+// The slots of a unit on the dates first..last: from `from` to before `to`.
+pub struct Run {
+    pub from: u32,
+    pub to: u32,
+}
+
+// They are found by bisection over the date-of function.
+fn slots_on(s: Settings, u: Slot, n: u32, first: u32, last: u32) -> Run
+    requires { ⌜ Ranges s ⌝ }
+    requires { ⌜ n ≡ slotsOf s (unitOf u) ⌝ }
+    requires { ⌜ last < 1000 ⌝ }
+    ensures { λ r. ⌜ OnDates s u first last (r .from) (r .to) ⌝ }
+{
+    let from = first_on(s, u, n, first);
+    let to = first_on(s, u, n, last + 1);
+    Run { from, to }
+}
+
+// Kind 3: the visitor's leave, their hotel rooms on those dates, their rides at the times and their meetings in the sessions on those
+// dates.
+pub fn remove_visitor(book: &mut [u32], s: Settings, g: Grids, v: u32, first: u32, last: u32)
+    requires { ⌜ Laid s (now book) ⌝ }
+    requires { ⌜ g ≡ gridsOf s ⌝ }
+    requires { ⌜ last < s .dates ⌝ }
+    requires { ⌜ v < s .visitors ⌝ }
+    ensures { λ _. ⌜ Removed s v first last (now (book .entry)) (now (book .exit)) ⌝ }
+{
+    turn(book, g.leave, false, v, first, last);
+    drop(book, g.hotel, v, first, last);
+    let times = slots_on(s, Slot::Times, g.ride.slots, first, last);
+    sweep(book, g.ride, v + 1, times.from, times.to);
+    let sessions = slots_on(s, Slot::Sessions, g.attend.slots, first, last);
+    fill(book, g.attend, v, EMPTY, sessions.from, sessions.to);
+}

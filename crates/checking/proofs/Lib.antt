@@ -1,0 +1,15 @@
+pub mod Answers
+pub mod Zeros
+pub mod Parts
+pub mod Passing
+pub mod Barring
+pub mod Cells
+pub mod Seating
+pub mod ByTables
+pub mod Sizes
+pub mod Addresses
+pub mod Empties
+pub mod Slots
+pub mod Facts
+pub mod Link
+pub mod Verdicts

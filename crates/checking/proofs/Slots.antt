@@ -1,0 +1,131 @@
+-- Rows of visitors (hotel, ride): what the words say, and the model's tests.
+-- Assumes nothing.
+use Prim.Native.Nat.{ℕ, suc, _+_, _*_, _/_, _%_, _≤_, _<_}
+use mathlib.Core.Path.{_≡_, refl, sym, _∙_}
+use mathlib.Core.Bool.{Bool, true, false}
+use mathlib.Core.List.{List}
+use native.Mathlib.Nat.{div-lt-iff-lt-mul, mod-lt, div-add-mod'}
+use native.Mathlib.Omega.{arith}
+use lib.Dec.{leb, ltb}
+use lib.ListN.{length, getD, take, drop, length-drop}
+use lib.Seq.{length-take-le}
+use borrow.Author.Tests.{ltb-true, ltb-false, lt-ltb, le-leb, eqb-true, eq-eqb}
+use Rattle.model.specs.declared.Settings.{Settings}
+use Rattle.model.specs.Words.{base, bookLength, Region, leaves, slots, items}
+use Rattle.model.specs.Reading.{at, inside, bitAt, holds}
+use Rattle.model.specs.Laws.{cellsWithin}
+use Rattle.model.proofs.Search.{and-left, and-right, and-true, true-all}
+use Rattle.book.proofs.Regions.{end-le}
+use Rattle.checking.proofs.Addresses.{size-is}
+use Rattle.book.specs.Grids.{Laid}
+use Rattle.checking.specs.Rows.{rowAt, Part}
+use Rattle.pool.specs.Pool.{member}
+use Rattle.checking.specs.Days.{Guested, shareOf, dateAt}
+use Rattle.checking.proofs.Parts.{row-inside}
+
+-- a slot is a date and a place in it
+pub record Split (dates per i : ℕ) : Type 0 where
+  pub date : i / per < dates
+  pub place : i % per < per
+  pub whole : i ≡ i / per * per + i % per
+
+pub split : (dates per i : ℕ) → 1 ≤ per → i < dates * per → Split dates per i
+split dates per i h l = record { date = div-lt-iff-lt-mul h .1 l; place = mod-lt i h; whole = sym (div-add-mod' i per) }
+
+pub within-slots : (dates per d p : ℕ) → d < dates → p < per → d * per + p < dates * per
+within-slots dates per d p h l = omega (arith, row-inside d dates per h)
+
+-- the model's two tests of a cell, as facts
+module _ (S : Settings) (b : List ℕ) where
+  pub inside-by : (g : Region) (i j : ℕ) → i < slots S g → j < items S g → inside S g i j ≡ true
+  inside-by g i j h k = rw (lt-ltb i (slots S g) h, lt-ltb j (items S g) k)
+
+  pub record Held (g : Region) (i j v : ℕ) : Type 0 where
+    pub slot : i < slots S g
+    pub item : j < items S g
+    pub word : at S b g i j 0 ≡ suc v
+
+  pub held : (g : Region) (i j v : ℕ) → holds S b g i j v ≡ true → Held g i j v
+  held g i j v e = record {
+    slot = ltb-true i (slots S g) (and-left _ (ltb j (items S g)) (and-left (inside S g i j) _ e));
+    item = ltb-true j (items S g) (and-right (ltb i (slots S g)) _ (and-left (inside S g i j) _ e));
+    word = eqb-true _ _ (and-right (inside S g i j) _ e);
+  }
+
+  pub holds-by : (g : Region) (i j v : ℕ) → i < slots S g → j < items S g → at S b g i j 0 ≡ suc v → holds S b g i j v ≡ true
+  holds-by g i j v h k e = and-true (inside-by g i j h k) (eq-eqb _ _ e)
+
+  pub bit-is : (g : Region) (i v : ℕ) (row : List ℕ) → i < slots S g → v / 32 < items S g → at S b g i (v / 32) 0 ≡ getD row (v / 32) 0 → bitAt S b g i v ≡ member row v
+  bit-is g i v row h k e = rw (inside-by g i (v / 32) h k, e)
+
+  pub within-by : (g : Region) (n : ℕ) → ((i j : ℕ) → i < slots S g → j < items S g → at S b g i j 0 ≤ n) → cellsWithin S b g n ≡ true
+  within-by g n h = true-all _ (slots S g) (λ i a. true-all (λ j. leb (at S b g i j 0) n) (items S g) (λ j c. le-leb _ n (h i j a c)))
+
+  -- a slot of visitors, on date d
+  pub record Slot (g : Region) (limit i d : ℕ) : Type 0 where
+    pub range : (j : ℕ) → j < items S g → at S b g i j 0 ≤ limit
+    pub onLeave : (j v : ℕ) → j < items S g → at S b g i j 0 ≡ suc v → bitAt S b leaves d v ≡ true
+    pub once : (j k : ℕ) → j < k → k < items S g → at S b g i j 0 ≡ at S b g i k 0 → at S b g i j 0 ≡ 0
+
+  module _ (g : Region) (limit i d : ℕ) (row leave : List ℕ) (long : length row ≡ items S g)
+      (same : (j : ℕ) → j < items S g → at S b g i j 0 ≡ getD row j 0) (bits : (v : ℕ) → v < limit → bitAt S b leaves d v ≡ member leave v) where
+    pub slot-by : Guested row leave limit → Slot g limit i d
+    slot-by r = record {
+      range = λ j h. rw (same j h) (r .range j (omega (arith, long)));
+      onLeave = λ j v h e.
+          let w : getD row j 0 ≡ suc v = sym (same j h) ∙ e in
+          bits v (omega (arith, r .range j (omega (arith, long)))) ∙ r .onLeave j v (omega (arith, long)) w;
+      once = λ j k l h e.
+          let a = same j (omega (arith, h)) in
+          a ∙ r .once j k l (omega (arith, long)) (sym a ∙ e ∙ same k h);
+    }
+
+    pub by-slot : Slot g limit i d → Guested row leave limit
+    by-slot r = record {
+      range = λ j h. rw (same j (omega (arith, long))) at (r .range j (omega (arith, long)));
+      onLeave = λ j v h e.
+          let w : at S b g i j 0 ≡ suc v = same j (omega (arith, long)) ∙ e in
+          sym (bits v (omega (arith, r .range j (omega (arith, long))))) ∙ r .onLeave j v (omega (arith, long)) w;
+      once = λ j k l h e.
+          let a = same j (omega (arith, long)) in
+          sym a ∙ r .once j k l (omega (arith, long)) (a ∙ e ∙ sym (same k (omega (arith, long))));
+    }
+
+  -- one visitor a cell; one cell a visitor
+  pub one-a-cell : (g : Region) (i j u v : ℕ) → holds S b g i j u ≡ true → holds S b g i j v ≡ true → u ≡ v
+  one-a-cell g i j u v e f = omega (arith, held g i j u e .word, held g i j v f .word)
+
+  pub one-a-row : (g : Region) (limit d i v j k : ℕ) → Slot g limit i d → holds S b g i j v ≡ true → holds S b g i k v ≡ true → j ≡ k
+  one-a-row g limit d i v j k s e f = go (ltb j k) refl (ltb k j) refl
+    where
+      a : Held g i j v
+      a = held g i j v e
+
+      c : Held g i k v
+      c = held g i k v f
+
+      go : (x : Bool) → ltb j k ≡ x → (y : Bool) → ltb k j ≡ y → j ≡ k
+      go true p y q = absurd (omega (arith, s .once j k (ltb-true j k p) (c .item) (a .word ∙ sym (c .word)), a .word))
+      go false p true q = absurd (omega (arith, s .once k j (ltb-true k j q) (a .item) (c .word ∙ sym (a .word)), c .word))
+      go false p false q = omega (arith, ltb-false j k p, ltb-false k j q)
+
+  -- lengths of parts
+  module _ (laid : length b ≡ bookLength S) where
+    pub fits : (g : Region) → base S g + S .dates * shareOf S g ≤ length b
+    fits g = omega (arith, end-le S g, size-is S g, laid)
+
+    pub date-long : (g : Region) (d : ℕ) → d < S .dates → length (dateAt S b g d) ≡ shareOf S g
+    date-long g d h =
+        length-take-le (shareOf S g) (drop (base S g + d * shareOf S g) b)
+        (omega (arith, length-drop (base S g + d * shareOf S g) b, row-inside d (S .dates) (shareOf S g) h, fits g))
+
+-- the part of a region that the code takes for date d, with the region's first word at x and y words a date
+module _ (S : Settings) (b : List ℕ) (l : Laid S b) (d : ℕ) (h : d < S .dates) (g : Region) (x y : ℕ) (start : x ≡ base S g) (share : y ≡ shareOf S g) where
+  pub part-fits : (d < S .dates) × (x + S .dates * y ≤ length b)
+  part-fits = (h, rw (start, share) (fits S b (l .long) g))
+
+  pub part-date : {r : List ℕ} → Part r y (take y (drop (x + d * y) b)) → Part r (shareOf S g) (dateAt S b g d)
+  part-date {r} p = rw (start, share) at p
+
+pub row-long-is : (w p n : ℕ) (cells : List ℕ) → p < n → n * w ≤ length cells → length (rowAt w p cells) ≡ w
+row-long-is w p n cells h l = length-take-le w (drop (p * w) cells) (omega (arith, length-drop (p * w) cells, row-inside p n w h))

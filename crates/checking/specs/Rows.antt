@@ -1,0 +1,106 @@
+-- What a row of a book member to keep, over the row's words and tables of what is barred.
+-- Assumes nothing.
+use Prim.Native.Nat.{ℕ, zero, suc, _+_, _*_, _/_, _%_, _^_, _-_, _≤_, _<_, min}
+use mathlib.Core.Path.{_≡_}
+use mathlib.Core.Bool.{Bool, true, false, not, cond}
+use mathlib.Core.List.{List}
+use lib.ListN.{length, getD, take, drop}
+use lib.Dec.{eqb}
+use lib.Bits.{bitOr}
+use Rattle.model.specs.Bounded.{bit, sum, any}
+use Rattle.pool.specs.Pool.{member}
+
+-- the answer to a question: true where P holds, false where it does not
+abbrev pub Decides : Bool → Type 0 → Type 0
+Decides true P = P
+Decides false P = P → ⊥
+
+-- entry 0 is false, entry v + 1 says that bit v of the row is clear
+pub record Barred (row : List ℕ) (n : ℕ) (t : List Bool) : Type 0 where
+  pub size : length t ≡ 513
+  pub none : getD t 0 false ≡ false
+  pub each : (v : ℕ) → v < n → getD t (suc v) false ≡ not (member row v)
+
+-- the most that column v may hold
+pub record Most (t : List Bool) (n limit : ℕ) (m : List ℕ) : Type 0 where
+  pub size : length m ≡ 512
+  pub low : (v : ℕ) → getD m v 0 ≤ limit
+  pub each : (v : ℕ) → v < n → getD m v 0 ≡ cond (getD t (suc v) false) 0 limit
+
+pub record Guests (row : List ℕ) (limit : ℕ) (t : List Bool) : Type 0 where
+  pub range : (i : ℕ) → i < length row → getD row i 0 ≤ limit
+  pub free : (i : ℕ) → i < length row → getD t (getD row i 0) false ≡ false
+  pub once : (i j : ℕ) → i < j → j < length row → getD row i 0 ≡ getD row j 0 → getD row i 0 ≡ 0
+
+abbrev pub Attended : List ℕ → List ℕ → List Bool → Type 0
+Attended row bounds stands = (i : ℕ) → i < length row → (getD row i 0 ≤ getD bounds i 0) × (getD stands (getD row i 0) false ≡ false)
+
+pub record Pair (limit : ℕ) (t : List Bool) (w info : ℕ) : Type 0 where
+  pub range : w ≤ limit
+  pub stands : getD t w false ≡ false
+  pub beside : w ≡ 0 → info ≡ 0
+
+abbrev pub Paired : List ℕ → ℕ → ℕ → List Bool → Type 0
+Paired row n limit stands = (j : ℕ) → j < n → Pair limit stands (getD row (j * 2) 0) (getD row (j * 2 + 1) 0)
+
+-- row i of rows of `width` words
+abbrev pub rowAt : ℕ → ℕ → List ℕ → List ℕ
+rowAt width i cells = take width (drop (i * width) cells)
+
+-- the bits from the limit on are 0
+abbrev pub Padded : List ℕ → ℕ → Type 0
+Padded row n = (j : ℕ) → j < length row → getD row j 0 < 2 ^ min 32 (n - j * 32)
+
+-- one session of a date
+pub record Session (stand attend conf bounds : List ℕ) (rooms meetings : ℕ) : Type 0 where
+  pub pad : Padded stand meetings
+  pub attends : (i : ℕ) → i < length attend → getD attend i 0 ≤ getD bounds i 0
+  pub attended : (i m : ℕ) → i < length attend → getD attend i 0 ≡ suc m → member stand m ≡ true
+  pub within : (j : ℕ) → j < rooms → getD conf (j * 2) 0 ≤ meetings
+  pub stands : (j m : ℕ) → j < rooms → getD conf (j * 2) 0 ≡ suc m → member stand m ≡ true
+  pub beside : (j : ℕ) → j < rooms → getD conf (j * 2) 0 ≡ 0 → getD conf (j * 2 + 1) 0 ≡ 0
+
+-- a part of a slice: what it is, and its length
+pub record Part (r : List ℕ) (n : ℕ) (want : List ℕ) : Type 0 where
+  pub is : r ≡ want
+  pub long : length r ≡ n
+
+-- a lunch: dining room w of `dining`, 0 for none; caps has 0 for none, then the capacities
+pub record Triple (dining : ℕ) (caps : List ℕ) (absent : Bool) (w seats info : ℕ) : Type 0 where
+  pub range : w ≤ dining
+  pub fit : seats ≤ getD caps w 0
+  pub some : (w ≡ 0 → ⊥) → 1 ≤ seats
+  pub stands : (w ≡ 0 → ⊥) → absent ≡ false
+  pub beside : w ≡ 0 → info ≡ 0
+
+-- the seats of triple j if it is in room g - 1
+abbrev pub seatsIn : List ℕ → ℕ → ℕ → ℕ
+seatsIn row g j = cond (eqb (getD row (j * 3) 0) g) (getD row (j * 3 + 1) 0) 0
+
+pub record Lunches (row : List ℕ) (n dining : ℕ) (caps : List ℕ) (t : List Bool) : Type 0 where
+  pub each : (j : ℕ) → j < n → Triple dining caps (getD t (j + 1) false) (getD row (j * 3) 0) (getD row (j * 3 + 1) 0) (getD row (j * 3 + 2) 0)
+  pub sums : (g : ℕ) → g < 17 → sum (seatsIn row g) n ≤ getD caps g 0
+
+-- the first n of f or-ed together
+unfoldable pub ors : (ℕ → ℕ) → ℕ → ℕ
+ors f zero = 0
+ors f (suc n) = bitOr (ors f n) (f n)
+
+-- the first m words of rows of `width`, each or-ed over the n rows
+pub record Columns (rows : List ℕ) (n m width : ℕ) (r : List ℕ) : Type 0 where
+  pub size : length r ≡ 4
+  pub each : (k : ℕ) → k < m → getD r k 0 ≡ ors (λ p. getD rows (p * width + k) 0) n
+
+-- entry m + 1 says that bit m is set in no row
+pub record BarredDate (rows : List ℕ) (n width meetings : ℕ) (t : List Bool) : Type 0 where
+  pub size : length t ≡ 513
+  pub none : getD t 0 false ≡ false
+  pub each : (m : ℕ) → m < meetings → getD t (suc m) false ≡ not (any (λ p. bit (getD rows (p * width + m / 32) 0) (m % 32)) n)
+
+-- a row of zeros, and two of them
+abbrev pub Blank : List ℕ → Type 0
+Blank row = (j : ℕ) → getD row j 0 ≡ 0
+
+pub record Blanks (row other : List ℕ) : Type 0 where
+  pub first : Blank row
+  pub second : Blank other

@@ -1,0 +1,4 @@
+pub mod Kept
+pub mod Outcomes
+pub mod Splices
+pub mod Whole

@@ -1,0 +1,110 @@
+-- What check and lay leave to say of a request and of a list.
+-- Assumes nothing.
+use Prim.Native.Nat.{ℕ, _*_, _/_}
+use mathlib.Core.Path.{_≡_, refl, sym, _∙_, ap, ap₂, subst}
+use mathlib.Core.Bool.{Bool, true, false}
+use mathlib.Core.List.{List, _++_}
+use native.Mathlib.Omega.{arith}
+use lib.Dec.{eqb}
+use lib.ListN.{length, drop}
+use Rattle.model.specs.declared.Settings.{Settings}
+use Rattle.model.specs.declared.Request.{Request}
+use Rattle.model.specs.declared.Answer.{Answer}
+use Rattle.model.specs.declared.Answer.the-variants.{Done, Refused}
+use Rattle.model.specs.State.{emptyState}
+use Rattle.model.specs.Machine.{step, run}
+use Rattle.model.specs.Words.{words, bookLength}
+use Rattle.model.specs.Reading.{settingsOf, stateOf}
+use Rattle.model.specs.Laws.{wellLaid, lawful}
+use Rattle.model.specs.Calls.{Called, Calls, call, calls, check, lay, freshBook, settingsGood, requestsOf, answersWords, answerable, Listed, listed, callList, serveList}
+use Rattle.model.specs.Site.{validSettings}
+use Rattle.model.proofs.Calls.{from-fresh}
+use Rattle.model.proofs.Shows.{good-valid}
+use Rattle.model.specs.Removal.{Removed, RemovalKept}
+use Rattle.model.proofs.Removal.{removal}
+use Rattle.book.specs.Good.{Good, answered}
+use Rattle.engine.specs.Lists.{All, asListed}
+use Rattle.engine.proofs.Kept.{check-good, fresh-good, good-call, refused-done}
+
+done-refused : {n p v : ℕ} {A : Type 0} → Done v ≡ Refused n p → A
+done-refused e = absurd (let z : _≡_ {A = ℕ} 0 1 = cc in omega arith)
+
+-- the book after a refusal of question 1 or 2
+pub request-refused : (b : List ℕ) (r : Request) {n p : ℕ} → check b ≡ Refused n p → answered (Refused n p) b ≡ call b r
+unfolding check call
+request-refused b r {n} {p} e = go (wellLaid b) refl (lawful b) refl e
+  where
+    go : (o : Bool) → wellLaid b ≡ o → (t : Bool) → lawful b ≡ t → check b ≡ Refused n p → answered (Refused n p) b ≡ call b r
+    go true q true s e = done-refused (rw (q, s) at e)
+    go true q false s e = rw (q, s) (ap (λ (x : Answer). answered x b) (sym (rw (q, s) at e)))
+    go false q t s e = rw q (ap (λ (x : Answer). answered x b) (sym (rw q at e)))
+
+-- a call takes out what a removal promises
+call-removes : (b : List ℕ) (r : Request) (a : Answer) (c : List ℕ) → answered a c ≡ call b r → RemovalKept b r a c
+call-removes b r a c e one two k n q =
+    subst (λ (d : List ℕ). Removed (stateOf b) (stateOf d) (r .b) (r .first) (r .last) n) (sym (ap (λ (x : Called). x .book) e))
+    (removal b (record { one = one; two = two }) r k n (sym (ap (λ (x : Called). x .answer) e) ∙ q))
+
+pub with-removal : (b : List ℕ) (r : Request) (a : Answer) (c : List ℕ) → answered a c ≡ call b r → (answered a c ≡ call b r) × RemovalKept b r a c
+with-removal b r a c e = (e, call-removes b r a c e)
+
+-- the list on a book that is refused, and on one that passes
+pub requests-refused : (b w a : List ℕ) {n p : ℕ} → check b ≡ Refused n p → asListed (Refused n p) b a ≡ callList b w a
+unfolding check callList
+requests-refused b w a {n} {p} e = go (wellLaid b) refl (lawful b) refl e
+  where
+    go : (o : Bool) → wellLaid b ≡ o → (t : Bool) → lawful b ≡ t → check b ≡ Refused n p → asListed (Refused n p) b a ≡ callList b w a
+    go true q true s e = done-refused (rw (q, s) at e)
+    go true q false s e = rw (q, s) (ap (λ (x : Answer). asListed x b a) (sym (rw (q, s) at e)))
+    go false q t s e = rw q (ap (λ (x : Answer). asListed x b a) (sym (rw q at e)))
+
+module _ (w a : List ℕ) {n : ℕ} (e : n ≡ answerable w a) {b b′ a′ : List ℕ} (all : All w n b a b′ a′) where
+  all-listed : asListed (Done n) b′ a′ ≡ listed (answerable w a) a (calls b (requestsOf (answerable w a) w))
+  all-listed =
+      ap₂ (asListed (Done n)) (all .book) (all .answers)
+      ∙ ap (λ (k : ℕ). listed k a (calls b (requestsOf k w))) e
+
+pub requests-done : (b w a : List ℕ) {v n : ℕ} {b′ a′ : List ℕ} → check b ≡ Done v → n ≡ answerable w a → All w n b a b′ a′ → asListed (Done n) b′ a′ ≡ callList b w a
+unfolding callList
+requests-done b w a {v} e q all = let g = check-good b v e in rw (g .laid, g .lawful) (all-listed w a q all)
+
+-- laying: refused it keeps the book, and done it leaves a fresh one
+module _ (s b : List ℕ) where
+  pub serve-refused : (w a : List ℕ) {n p : ℕ} {b′ : List ℕ} → answered (Refused n p) b′ ≡ lay s b → asListed (Refused n p) b′ a ≡ serveList s b w a
+  unfolding lay serveList
+  serve-refused w a {n} {p} {b′} e = go (settingsGood s) refl (eqb (length b) (bookLength (settingsOf s))) refl e
+    where
+      go : (o : Bool) → settingsGood s ≡ o → (t : Bool) → eqb (length b) (bookLength (settingsOf s)) ≡ t → answered (Refused n p) b′ ≡ lay s b
+          → asListed (Refused n p) b′ a ≡ serveList s b w a
+      go true q true r e = done-refused (sym (ap (λ (c : Called). c .answer) (rw (q, r) at e)))
+      go true q false r e = rw (q, r) (ap (λ (c : Called). asListed (c .answer) (c .book) a) (rw (q, r) at e))
+      go false q t r e = rw q (ap (λ (c : Called). asListed (c .answer) (c .book) a) (rw q at e))
+
+  -- a done laying
+  pub record Laying (b′ : List ℕ) : Type 0 where
+    pub good : settingsGood s ≡ true
+    pub fits : eqb (length b) (bookLength (settingsOf s)) ≡ true
+    pub fresh : b′ ≡ freshBook (settingsOf s)
+
+  laying : {v : ℕ} {b′ : List ℕ} → answered (Done v) b′ ≡ lay s b → Laying b′
+  unfolding lay
+  laying {v} {b′} e = go (settingsGood s) refl (eqb (length b) (bookLength (settingsOf s))) refl e
+    where
+      go : (o : Bool) → settingsGood s ≡ o → (t : Bool) → eqb (length b) (bookLength (settingsOf s)) ≡ t → answered (Done v) b′ ≡ lay s b → Laying b′
+      go true q true r e = record { good = q; fits = r; fresh = ap (λ (c : Called). c .book) (rw (q, r) at e) }
+      go true q false r e = done-refused (ap (λ (c : Called). c .answer) (rw (q, r) at e))
+      go false q t r e = done-refused (ap (λ (c : Called). c .answer) (rw q at e))
+
+  pub serve-laid : (v : ℕ) (b′ : List ℕ) → answered (Done v) b′ ≡ lay s b → Good (settingsOf s) b′
+  serve-laid v b′ e = let l = laying e in rw (l .fresh) (fresh-good (settingsOf s) (good-valid s (l .good)))
+
+  -- demand 3: from a fresh book the answers are the machine's, and the book shows its state
+  pub serve-done : (w a : List ℕ) {v n : ℕ} {b′ b″ a′ : List ℕ} → answered (Done v) b′ ≡ lay s b → n ≡ answerable w a → All w n b′ a b″ a′
+      → asListed (Done n) b″ a′ ≡ serveList s b w a
+  unfolding serveList
+  serve-done w a {v} {n} {b′} {b″} {a′} e q all =
+      let l = laying e in
+      rw (l .good, l .fits)
+      (all-listed w a q all
+      ∙ ap (λ (c : List ℕ). listed (answerable w a) a (calls c (requestsOf (answerable w a) w))) (l .fresh)
+      ∙ ap (listed (answerable w a) a) (from-fresh (settingsOf s) (good-valid s (l .good)) (requestsOf (answerable w a) w)))

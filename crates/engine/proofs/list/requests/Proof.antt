@@ -1,0 +1,79 @@
+-- `list::requests` meets its contract: checked once, then each request in turn.
+-- Assumes nothing.
+use Prim.Native.Nat.{_-_}
+use mathlib.Core.Path.{sym, _∙_}
+use native.Mathlib.Omega.{arith}
+use borrow.Author.Needs.{needs}
+use Rattle.book.proofs.Goods.{good-laid}
+use Rattle.engine.proofs.Kept.{check-good}
+use Rattle.engine.proofs.Whole.{requests-refused, requests-done}
+use Rattle.engine.proofs.list.requests.Statement.{statement}
+use Rattle.engine.proofs.list.requests.Tie as tie
+
+check-requires : tie.Need-check-requires
+check-requires c κs = search needs
+
+enum-known-checked : tie.Need-enum-known-checked
+enum-known-checked c = search needs
+
+same-length : tie.Need-same-length
+same-length c = search needs
+
+returns : tie.Need-returns
+returns c =
+    let a = c .before .before .before .before .before .before .before .before .args in
+    requests-refused (a .book .now) (a .list .now) (a .answers .now) (sym (c .before .before .before .check .ensures) ∙ c .before .checked .given .1)
+
+enum-told : tie.Need-enum-told
+enum-told c = search needs
+
+settings-requires : tie.Need-settings-requires
+settings-requires c κs = search needs
+
+answerable-in-requires : tie.Need-answerable-in-requires
+answerable-in-requires c κs = search needs
+
+grids-of-requires : tie.Need-grids-of-requires
+grids-of-requires c κs =
+    let a = c .before .before .before .before .before .before .before .before .before .before .before .args in
+    rw (c .before .before .settings .ensures) (good-laid (check-good (a .book .now) _ (sym (c .before .before .before .before .before .before .check .ensures) ∙ c .before .before .before .before .enum-told .given .1)) .ranges)
+
+answer-all-requires : tie.Need-answer-all-requires
+answer-all-requires c κs =
+    let a = c .before .before .before .before .before .before .before .before .before .before .before .before .before .args in
+    let n = c .before .before .before .answerable-in .ensures in (
+      rw (c .before .before .before .before .settings .ensures) (check-good (a .book .now) _ (sym (c .before .before .before .before .before .before .before .before .check .ensures) ∙ c .before .before .before .before .before .before .enum-told .given .1)),
+      (c .before .grids-of .ensures, (omega (arith, n), omega (arith, n))),
+    )
+
+cast-t21 : tie.Need-cast-t21
+cast-t21 c = search needs
+
+same-length-2 : tie.Need-same-length-2
+same-length-2 c = search needs
+
+same-length-3 : tie.Need-same-length-3
+same-length-3 c = search needs
+
+returns-2 : tie.Need-returns-2
+returns-2 c =
+    let a = c .before .before .before .before .before .before .before .before .before .before .before .before .before .before .before .before .before .before .args in
+    requests-done (a .book .now) (a .list .now) (a .answers .now) (sym (c .before .before .before .before .before .before .before .before .before .before .before .before .before .check .ensures) ∙ c .before .before .before .before .before .before .before .before .before .before .before .enum-told .given .1) (c .before .before .before .before .before .before .before .before .answerable-in .ensures) (c .before .before .before .before .answer-all .ensures)
+
+pub requests-spec : {M : Type 1} → statement M
+requests-spec =
+    tie.close
+    (tie.spec
+    check-requires
+    enum-known-checked
+    same-length
+    returns
+    enum-told
+    settings-requires
+    answerable-in-requires
+    grids-of-requires
+    answer-all-requires
+    cast-t21
+    same-length-2
+    same-length-3
+    returns-2)

@@ -1,0 +1,65 @@
+-- `request` meets its contract: checked, then one step.
+-- Assumes nothing.
+use Prim.Native.Nat.{_-_}
+use mathlib.Core.Path.{sym, _∙_}
+use borrow.Author.Needs.{needs}
+use Rattle.book.proofs.Goods.{good-laid}
+use Rattle.engine.proofs.Kept.{good-call, check-good}
+use Rattle.engine.proofs.Whole.{request-refused, with-removal}
+use Rattle.engine.proofs.request.Statement.{statement}
+use Rattle.engine.proofs.request.Tie as tie
+
+check-requires : tie.Need-check-requires
+check-requires c κs = search needs
+
+enum-known-checked : tie.Need-enum-known-checked
+enum-known-checked c = search needs
+
+same-length : tie.Need-same-length
+same-length c = search needs
+
+returns : tie.Need-returns
+returns c =
+    let a = c .before .before .before .before .before .before .args in
+    with-removal (a .book .now) (a .r) _ _
+    (request-refused (a .book .now) (a .r) (sym (c .before .before .before .check .ensures) ∙ c .before .checked .given .1))
+
+enum-told : tie.Need-enum-told
+enum-told c = search needs
+
+settings-requires : tie.Need-settings-requires
+settings-requires c κs = search needs
+
+grids-of-requires : tie.Need-grids-of-requires
+grids-of-requires c κs =
+    let a = c .before .before .before .before .before .before .before .before .args in
+    rw (c .before .settings .ensures) (good-laid (check-good (a .book .now) _ (sym (c .before .before .before .before .before .check .ensures) ∙ c .before .before .before .enum-told .given .1)) .ranges)
+
+step-requires : tie.Need-step-requires
+step-requires c κs =
+    let a = c .before .before .before .before .before .before .before .before .before .args in
+    (rw (c .before .before .settings .ensures) (check-good (a .book .now) _ (sym (c .before .before .before .before .before .before .check .ensures) ∙ c .before .before .before .before .enum-told .given .1)), c .grids-of .ensures)
+
+same-length-2 : tie.Need-same-length-2
+same-length-2 c = search needs
+
+returns-2 : tie.Need-returns-2
+returns-2 c =
+    let a = c .before .before .before .before .before .before .before .before .before .before .before .before .args in
+    with-removal (a .book .now) (a .r) _ _
+    (c .before .before .step .ensures ∙ sym (good-call (check-good (a .book .now) _ (sym (c .before .before .before .before .before .before .before .before .before .check .ensures) ∙ c .before .before .before .before .before .before .before .enum-told .given .1)) (a .r)))
+
+pub request-spec : {M : Type 1} → statement M
+request-spec =
+    tie.close
+    (tie.spec
+    check-requires
+    enum-known-checked
+    same-length
+    returns
+    enum-told
+    settings-requires
+    grids-of-requires
+    step-requires
+    same-length-2
+    returns-2)

@@ -1,0 +1,51 @@
+-- `step::step` meets its contract: judged, and written where it is done.
+-- Assumes nothing.
+use Prim.Native.Nat.{_-_}
+use mathlib.Core.Path.{sym, _∙_, ap, ap₂}
+use borrow.Author.Needs.{needs}
+use Rattle.book.specs.Good.{answered}
+use Rattle.apply.specs.Accepted.{accepted}
+use Rattle.engine.proofs.Outcomes.{refused-book}
+use Rattle.engine.proofs.step.step.Statement.{statement}
+use Rattle.engine.proofs.step.step.Tie as tie
+
+judge-requires : tie.Need-judge-requires
+judge-requires c κs = search needs
+
+enum-known-answer : tie.Need-enum-known-answer
+enum-known-answer c = search needs
+
+same-length : tie.Need-same-length
+same-length c = search needs
+
+returns : tie.Need-returns
+returns c =
+    let s = c .before .before .before .before .before .before in
+    refused-book (s .pre .0) (s .args .r) (sym (c .before .before .before .judge .ensures) ∙ c .before .answer .given .1)
+
+enum-told : tie.Need-enum-told
+enum-told c = search needs
+
+apply-requires : tie.Need-apply-requires
+apply-requires c κs =
+    let s = c .before .before .before .before .before .before in
+    (s .pre .0, (s .pre .1, ap accepted (sym (c .before .before .before .judge .ensures) ∙ c .before .enum-told .given .1)))
+
+same-length-2 : tie.Need-same-length-2
+same-length-2 c = search needs
+
+returns-2 : tie.Need-returns-2
+returns-2 c = ap₂ answered (c .before .before .before .before .before .before .judge .ensures) (c .before .before .apply .ensures)
+
+pub step-spec : {M : Type 1} → statement M
+step-spec =
+    tie.close
+    (tie.spec
+    judge-requires
+    enum-known-answer
+    same-length
+    returns
+    enum-told
+    apply-requires
+    same-length-2
+    returns-2)

@@ -1,0 +1,27 @@
+// Requests on a book: one step, a request on any words, a list of requests, and a list from a freshly laid book.
+pub mod list;
+pub mod step;
+
+use crate::step::step;
+use book::grid::grids_of;
+use book::settings::settings;
+use model::Answer;
+use model::Request;
+ghost use mathlib.Core.Path.{_≡_};
+ghost use Rattle.model.specs.Calls.{call};
+ghost use Rattle.model.specs.Removal.{RemovalKept};
+ghost use Rattle.book.specs.Good.{answered};
+
+// A request on any list of words: questions 1 and 2, then the machine, started in the state that the book shows. An accepted removal
+// takes exactly the visitor's leave and bookings on its dates.
+pub fn request(book: &mut [u32], r: Request) -> Answer
+    ensures call { λ a. ⌜ answered a (now (book .exit)) ≡ call (now (book .entry)) r ⌝ }
+    ensures removal { λ a. ⌜ RemovalKept (now (book .entry)) r a (now (book .exit)) ⌝ }
+{
+    let checked = checking::check(book);
+    if let Answer::Refused { number, place } = checked {
+        return Answer::Refused { number, place };
+    }
+    let s = settings(book);
+    step(book, s, grids_of(s), r)
+}

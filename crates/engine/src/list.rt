@@ -1,0 +1,129 @@
+// Lists of requests: seven words a request, three words an answer. The book is checked or laid once; that each step keeps the laws is
+// what lets the next one go without a check.
+use crate::step::step;
+use book::grid::Grids;
+use book::grid::grids_of;
+use book::lay::lay;
+use book::settings::settings;
+use model::Answer;
+use model::Request;
+use model::Settings;
+ghost use mathlib.Core.Path.{_≡_};
+ghost use mathlib.Core.List.{[], _∷_};
+ghost use Prim.Native.Nat.{_+_, _*_, _/_, _≤_, _<_, min};
+ghost use lib.ListN.{length, drop};
+ghost use Rattle.model.specs.Machine;
+ghost use Rattle.model.specs.Machine.{requestOf, answerWords};
+ghost use Rattle.model.specs.Calls.{callList, serveList, answerable};
+ghost use Rattle.model.specs.Reading.{stateOf};
+ghost use Rattle.book.specs.Grids.{gridsOf};
+ghost use Rattle.book.specs.Good.{Good};
+ghost use Rattle.engine.specs.Lists.{spliced, One, All, asListed};
+
+// Request i of a list.
+fn request_at(list: &[u32], i: usize) -> Request
+    requires { ⌜ i * 7 + 7 ≤ length (now list) ⌝ }
+    ensures { λ r. ⌜ r ≡ requestOf (drop (i * 7) (now (list .entry))) ⌝ }
+{
+    let at = i * 7;
+    Request {
+        kind: list[at],
+        a: list[at + 1],
+        b: list[at + 2],
+        first: list[at + 3],
+        last: list[at + 4],
+        n: list[at + 5],
+        info: list[at + 6],
+    }
+}
+
+// Three words at answer i.
+fn put_words(answers: &mut [u32], i: usize, number: u32, place: u32, value: u32)
+    requires { ⌜ i * 3 + 3 ≤ length (now answers) ⌝ }
+    ensures { λ _. ⌜ now (answers .exit) ≡ spliced (now (answers .entry)) (i * 3) (number ∷ place ∷ value ∷ []) ⌝ }
+{
+    let at = i * 3;
+    answers[at] = number;
+    answers[at + 1] = place;
+    answers[at + 2] = value;
+}
+
+fn put_answer(answers: &mut [u32], i: usize, a: Answer)
+    requires { ⌜ i * 3 + 3 ≤ length (now answers) ⌝ }
+    ensures { λ _. ⌜ now (answers .exit) ≡ spliced (now (answers .entry)) (i * 3) (answerWords a) ⌝ }
+{
+    match a {
+        Answer::Done(value) => put_words(answers, i, 0, 0, value),
+        Answer::Refused { number, place } => put_words(answers, i, number, place, 0),
+    }
+}
+
+// Request i of the list, and its answer.
+fn answer_at(book: &mut [u32], s: Settings, g: Grids, list: &[u32], answers: &mut [u32], i: usize)
+    requires { ⌜ Good s (now book) ⌝ }
+    requires { ⌜ g ≡ gridsOf s ⌝ }
+    requires { ⌜ i * 7 + 7 ≤ length (now list) ⌝ }
+    requires { ⌜ i * 3 + 3 ≤ length (now answers) ⌝ }
+    ensures { λ _. ⌜ One (now (list .entry)) i (now (book .entry)) (now (answers .entry)) (now (book .exit)) (now (answers .exit)) ⌝ }
+{
+    let r = request_at(list, i);
+    let a = step(book, s, g, r);
+    put_answer(answers, i, a);
+}
+
+// The first n requests of the list, and their answers.
+fn answer_all(book: &mut [u32], s: Settings, g: Grids, list: &[u32], answers: &mut [u32], n: usize)
+    requires { ⌜ Good s (now book) ⌝ }
+    requires { ⌜ g ≡ gridsOf s ⌝ }
+    requires { ⌜ n * 7 ≤ length (now list) ⌝ }
+    requires { ⌜ n * 3 ≤ length (now answers) ⌝ }
+    ensures { λ _. ⌜ All (now (list .entry)) n (now (book .entry)) (now (answers .entry)) (now (book .exit)) (now (answers .exit)) ⌝ }
+{
+    let mut i: usize = 0;
+    while i < n {
+        answer_at(book, s, g, list, answers, i);
+        i += 1;
+    }
+}
+
+// How many requests of a list of `words` words are answered in `room` words.
+fn answerable_in(words: usize, room: usize) -> usize
+    ensures { λ r. ⌜ r ≡ min (min (words / 7) (room / 3)) 4294967295 ⌝ }
+{
+    let requests = words / 7;
+    let answers = room / 3;
+    let both = if requests < answers {
+        requests
+    } else {
+        answers
+    };
+    if both < 4294967295 { both } else { 4294967295 }
+}
+
+// Each request of the list as `request` would answer it, after one check of the book. The answer is done with their number.
+pub fn requests(book: &mut [u32], list: &[u32], answers: &mut [u32]) -> Answer
+    ensures { λ r. ⌜ asListed r (now (book .exit)) (now (answers .exit)) ≡ callList (now (book .entry)) (now (list .entry)) (now (answers .entry)) ⌝ }
+{
+    let checked = checking::check(book);
+    if let Answer::Refused { number, place } = checked {
+        return Answer::Refused { number, place };
+    }
+    let s = settings(book);
+    let n = answerable_in(list.len(), answers.len());
+    answer_all(book, s, grids_of(s), list, answers, n);
+    Answer::Done(n as u32)
+}
+
+// Lays the book and answers the list: the answers and every word of the book are the diary machine's.
+pub fn serve(words: &[u32], book: &mut [u32], list: &[u32], answers: &mut [u32]) -> Answer
+    ensures { λ r. ⌜ asListed r (now (book .exit)) (now (answers .exit)) ≡ serveList (now (words .entry)) (now (book .entry)) (now (list .entry)) (now (answers .entry)) ⌝ }
+{
+    let laid = lay(words, book);
+    if let Answer::Refused { number, place } = laid {
+        return Answer::Refused { number, place };
+    }
+    let s = settings(words);
+    let n = answerable_in(list.len(), answers.len());
+    answer_all(book, s, grids_of(s), list, answers, n);
+    Answer::Done(n as u32)
+}

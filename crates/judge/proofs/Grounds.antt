@@ -1,0 +1,19 @@
+-- What a question of cells asks of a grid, from what is known of a good book.
+-- Assumes nothing.
+use Prim.Native.Nat.{ℕ, _≤_, _<_}
+use mathlib.Core.Path.{_≡_, sym, subst, ap}
+use mathlib.Core.List.{List}
+use lib.ListN.{length}
+use Rattle.book.specs.declared.grid.Grid.{Grid}
+use Rattle.book.specs.declared.grid.Grids.{Grids}
+use Rattle.book.specs.Grids.{Fits, gridOf, gridsOf}
+use Rattle.book.specs.Good.{Good}
+use Rattle.book.proofs.Goods.{good-laid}
+use Rattle.book.proofs.Regions.{fits}
+use Rattle.model.specs.declared.Settings.{Settings}
+use Rattle.model.specs.Words.{Region, slots, items}
+
+pub ground : {S : Settings} {b : List ℕ} {g : Grid} {i j : ℕ} → Good S b → (p : Region) → g ≡ gridOf S p → i < slots S p → j < items S p
+    → (Fits g (length b)) × ((i < g .slots) × (j < g .items))
+ground {S} {b} {g} {i} {j} good p e h k =
+    subst (λ (g : Grid). (Fits g (length b)) × ((i < g .slots) × (j < g .items))) (sym e) (fits S b (good-laid good) p, (h, k))

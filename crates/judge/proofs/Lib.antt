@@ -1,0 +1,6 @@
+pub mod Numbers
+pub mod Seats
+pub mod Grounds
+pub mod Pairs
+pub mod Meanings
+pub mod Whole

@@ -1,0 +1,148 @@
+-- Questions 3 to 7, asked of the words of a request: what they leave to know, and the machine's answer from them on.
+-- Assumes nothing.
+use Prim.Native.Nat.{ℕ, zero, suc, _+_, _-_, _≤_, _<_}
+use mathlib.Core.Path.{_≡_, refl, sym, _∙_, ap, subst}
+use mathlib.Core.Bool.{Bool, true, false, not, _&&_, _||_, cond, false≢true}
+use mathlib.Core.Option.{Option, none, some}
+use mathlib.Core.List.{List, [], _∷_, _++_}
+use native.Mathlib.Omega.{arith}
+use lib.Dec.{leb, ltb, eqb}
+use lib.ListN.{List·getD-eq-default}
+use borrow.Author.Tests.{ltb-true, leb-true, eqb-true}
+use Rattle.book.specs.Founds.{foundOf}
+use Rattle.book.specs.Good.{Good}
+use Rattle.judge.specs.Rows.{Ready, Below, rowFor, rowAt, firstNo, fieldsNo, unusedZero, slotsFit}
+use Rattle.judge.specs.Chains.{asked, askedAll, answerFor, answerAt}
+use Rattle.model.specs.declared.Settings.{Settings}
+use Rattle.model.specs.declared.Request.{Request}
+use Rattle.model.specs.declared.Answer.{Answer}
+use Rattle.model.specs.declared.Answer.the-variants.{Done, Refused}
+use Rattle.model.specs.Bounded.{all, isSome}
+use Rattle.model.specs.State.{State}
+use Rattle.model.specs.Kinds.{Kind, kindOf, kinds, row, limit, slotsOf, Row}
+use Rattle.model.specs.Questions.{Question, number, ask, test, judge, always, further, refusal, Refusal, below}
+use Rattle.model.specs.Machine.{value, finish, stepKind, step}
+use Rattle.model.specs.Reading.{settingsOf, readState, stateOf}
+use Rattle.model.proofs.Search.{and-left, and-right, all-true}
+
+-- ---- what questions 4 to 7 leave of a request
+
+no-zero : (n : ℕ) (t : Bool) (next : ℕ) → firstNo (suc n) t next ≡ 0 → (t ≡ true) × (next ≡ 0)
+no-zero n true next e = (refl, e)
+no-zero n false next e = absurd (omega (arith, e))
+
+below-is : (o : Option ℕ) (w : ℕ) → below o w ≡ true → Below o w
+below-is none w e = tt
+below-is (some l) w e = ltb-true w l e
+
+one-is : (t : Bool) (i j : ℕ) → not t || eqb i j ≡ true → t ≡ true → i ≡ j
+one-is true i j e f = eqb-true i j e
+one-is false i j e f = absurd (false≢true f)
+
+pub ready-by : (S : Settings) (w : Row) (r : Request) → fieldsNo S w r ≡ 0 → Ready S w r
+unfolding fieldsNo slotsFit
+ready-by S w r e =
+    let e5 = no-zero 3 (unusedZero w (r .a) (r .b) (r .n) (r .info)) _ e .1 in
+    let e6 = no-zero 4 (below (limit S (w .a)) (r .a)) _ e5 in
+    let e7 = no-zero 5 (below (limit S (w .b)) (r .b)) _ (e6 .1) in
+    let e8 = no-zero 6 (slotsFit S (w .unit) (w .one) (r .first) (r .last)) 0 (e7 .1) .0 in
+    let fit = and-left (leb (r .first) (r .last) && ltb (r .last) (slotsOf S (w .unit))) _ e8 in
+    record {
+      a = below-is (limit S (w .a)) (r .a) (e6 .0);
+      b = below-is (limit S (w .b)) (r .b) (e7 .0);
+      order = leb-true (r .first) (r .last) (and-left (leb (r .first) (r .last)) _ fit);
+      slot = ltb-true (r .last) (slotsOf S (w .unit)) (and-right (leb (r .first) (r .last)) _ fit);
+      one = one-is (w .one) (r .first) (r .last) (and-right (leb (r .first) (r .last) && ltb (r .last) (slotsOf S (w .unit))) _ e8);
+    }
+
+-- ---- the machine's answer as the questions one after the other
+
+abbrev answerOf : Option Refusal → ℕ → Answer
+answerOf none v = Done v
+answerOf (some f) v = Refused (f .number) (f .place)
+
+refusal-asked : (q : Question) (o : Option ℕ) (later : Option Refusal) (v : ℕ) → answerOf (refusal q o later) v ≡ asked (number q) (foundOf o) (answerOf later v)
+refusal-asked q none later v = refl
+refusal-asked q (some i) later v = refl
+
+judge-asked : (x : State) (r : Request) (k : Kind) (qs : List Question) (v : ℕ) → answerOf (judge x r k qs) v ≡ askedAll x r k qs (Done v)
+judge-asked x r k [] v = refl
+judge-asked x r k (q ∷ qs) v = refusal-asked q (ask x r k q) (judge x r k qs) v ∙ ap (asked (number q) (foundOf (ask x r k q))) (judge-asked x r k qs v)
+
+finish-asked : (x : State) (r : Request) (k : Kind) (o : Option Refusal) → finish x r k o .answer ≡ answerOf o (value x r k)
+finish-asked x r k none = refl
+finish-asked x r k (some f) = refl
+
+-- the code's number of the first no, and 0 for none, before what follows
+abbrev pub unless : ℕ → Answer → Answer
+unless zero next = next
+unless (suc n) next = Refused (suc n) 0
+
+pub unless-some : (n : ℕ) (next : Answer) → (n ≡ 0 → ⊥) → unless n next ≡ Refused n 0
+unless-some zero next h = absurd (h refl)
+unless-some (suc n) next h = refl
+
+-- the four tests of a request as a whole, in the code's terms and in the model's
+whole-four : (t4 t5 t6 t7 : Bool) (next : Answer)
+    → unless (firstNo 4 t4 (firstNo 5 t5 (firstNo 6 t6 (firstNo 7 t7 0)))) next
+    ≡ asked 4 (foundOf (cond t4 none (some 0)))
+    (asked 5 (foundOf (cond t5 none (some 0)))
+    (asked 6 (foundOf (cond t6 none (some 0)))
+    (asked 7 (foundOf (cond t7 none (some 0))) next)))
+whole-four false t5 t6 t7 next = refl
+whole-four true false t6 t7 next = refl
+whole-four true true false t7 next = refl
+whole-four true true true false next = refl
+whole-four true true true true next = refl
+
+module _ (b : List ℕ) (r : Request) where
+  fields-are : (k : Kind) → unless (fieldsNo (settingsOf b) (row k) r) (answerFor (stateOf b) r (some k)) ≡ askedAll (stateOf b) r k (always ++ further k) (Done (value (stateOf b) r k))
+  unfolding fieldsNo unusedZero slotsFit ask test stateOf readState
+  fields-are k =
+      whole-four (unusedZero (row k) (r .a) (r .b) (r .n) (r .info)) (below (limit (settingsOf b) (row k .a)) (r .a))
+      (below (limit (settingsOf b) (row k .b)) (r .b)) (slotsFit (settingsOf b) (row k .unit) (row k .one) (r .first) (r .last))
+      (answerFor (stateOf b) r (some k))
+
+  step-by : (k : Kind) → kindOf (r .kind) ≡ some k → unless (fieldsNo (settingsOf b) (rowAt (r .kind)) r) (answerAt b r) ≡ step (stateOf b) r .answer
+  unfolding step
+  step-by k e =
+      ap (λ (o : Option Kind). unless (fieldsNo (settingsOf b) (rowFor o) r) (answerFor (stateOf b) r o)) e
+      ∙ fields-are k
+      ∙ sym (judge-asked (stateOf b) r k (always ++ further k) (value (stateOf b) r k))
+      ∙ sym (finish-asked (stateOf b) r k (judge (stateOf b) r k (always ++ further k)))
+      ∙ ap (λ (o : Option Kind). stepKind (stateOf b) r o .answer) (sym e)
+
+-- ---- question 3: the numbers of kinds
+
+unfoldable named : ℕ → Bool
+named n = isSome (kindOf (suc n))
+
+all-named : all named 20 ≡ true
+unfolding kindOf named
+all-named = refl
+
+some-by : {A : Type 0} (o : Option A) → isSome o ≡ true → (a : A) × (o ≡ some a)
+some-by none e = absurd (false≢true e)
+some-by (some a) e = (a, refl)
+
+pub kind-some : (n : ℕ) → 1 ≤ n → n ≤ 20 → (k : Kind) × (kindOf n ≡ some k)
+unfolding named
+kind-some zero l h = absurd (omega (arith, l))
+kind-some (suc n) l h = some-by (kindOf (suc n)) (all-true named 20 all-named n (omega (arith, h)))
+
+pub kind-none : (n : ℕ) → 20 < n → kindOf n ≡ none
+unfolding kindOf
+kind-none n h = List·getD-eq-default kinds none h
+
+-- the answer of a request from question 4 on, for a good book
+pub step-is : {S : Settings} {b : List ℕ} → Good S b → (r : Request) → 1 ≤ r .kind → r .kind ≤ 20
+    → unless (fieldsNo S (rowAt (r .kind)) r) (answerAt b r) ≡ step (stateOf b) r .answer
+step-is {S} {b} good r l h =
+    let k = kind-some (r .kind) l h in
+    ap (λ (S : Settings). unless (fieldsNo S (rowAt (r .kind)) r) (answerAt b r)) (good .read)
+    ∙ step-by b r (k .0) (k .1)
+
+-- and where no kind has the number
+pub step-none : (b : List ℕ) (r : Request) → kindOf (r .kind) ≡ none → Refused 3 0 ≡ step (stateOf b) r .answer
+unfolding step
+step-none b r e = ap (λ (o : Option Kind). stepKind (stateOf b) r o .answer) (sym e)

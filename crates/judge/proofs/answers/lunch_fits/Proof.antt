@@ -1,0 +1,30 @@
+use mathlib.Core.Path.{_≡_, refl, sym, _∙_, ap}
+use borrow.Author.Tests.{le-leb, lt-leb}
+use Rattle.judge.specs.Chains.{lunchFits}
+use Rattle.judge.proofs.Seats.{capacity-le}
+use Rattle.book.proofs.Goods.{good-laid}
+use native.Mathlib.Omega.{arith}
+use Rattle.judge.proofs.answers.lunch_fits.Statement.{statement}
+use Rattle.judge.proofs.answers.lunch_fits.Tie as tie
+
+returns : tie.Need-returns
+unfolding lunchFits
+returns c = rw (lt-leb _ _ (c .if1 .taken))
+
+capacity-requires : tie.Need-capacity-requires
+capacity-requires c κs = let p = c .before .before .pre in (good-laid (p .0) .ranges, p .1 .1 .1 .0)
+
+returns-2 : tie.Need-returns-2
+unfolding lunchFits
+returns-2 c = rw (← (c .before .capacity .ensures), le-leb _ _ (c .before .before .if1 .left), lt-leb _ _ (c .if2 .taken))
+
+add-lunch-requires : tie.Need-add-lunch-requires
+add-lunch-requires c κs = let p = c .before .before .before .before .pre in (p .0, (p .1 .0, (p .1 .1 .0, (p .1 .1 .1 .0, (p .1 .1 .1 .1, omega (arith, c .if2 .left, c .before .capacity .ensures, capacity-le (p .0) (c .before .before .before .before .args .a) (p .1 .1 .1 .0)))))))
+
+returns-3 : tie.Need-returns-3
+unfolding lunchFits
+returns-3 c = rw (← (c .before .before .capacity .ensures), le-leb _ _ (c .before .before .before .if1 .left), le-leb _ _ (c .before .if2 .left)) (c .add-lunch .ensures)
+
+pub lunch-fits-spec : {M : Type 1} → statement M
+lunch-fits-spec =
+    tie.close (tie.spec returns capacity-requires returns-2 add-lunch-requires returns-3)

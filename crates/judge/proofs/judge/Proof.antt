@@ -1,0 +1,66 @@
+use mathlib.Core.Path.{_≡_, refl, sym, _∙_, ap}
+use native.Mathlib.Omega.{arith}
+use Rattle.book.proofs.Goods.{good-laid}
+use Rattle.model.specs.declared.Settings.{Settings}
+use Rattle.model.specs.Kinds.{kindOf, Row}
+use Rattle.judge.specs.Rows.{rowAt, fieldsNo}
+use Rattle.judge.specs.Chains.{answerAt}
+use Rattle.judge.proofs.Whole.{unless, unless-some, ready-by, kind-none, step-is, step-none}
+use borrow.Author.Needs.{needs}
+use Rattle.judge.proofs.judge.Statement.{statement}
+use Rattle.judge.proofs.judge.Tie as tie
+
+returns : tie.Need-returns
+unfolding kindOf
+returns c = let a = c .before .before .args in step-none (a .book .now) (a .r) (ap kindOf (c .if1 .taken))
+
+returns-2 : tie.Need-returns-2
+returns-2 c = let a = c .before .before .before .args in step-none (a .book .now) (a .r) (kind-none (a .r .kind) (c .if2 .taken))
+
+row-of-requires : tie.Need-row-of-requires
+row-of-requires c κs = search needs
+
+fields-requires : tie.Need-fields-requires
+fields-requires c κs = good-laid (c .before .before .before .before .pre .0) .ranges
+
+returns-3 : tie.Need-returns-3
+returns-3 c = let a = c .before .before .before .before .before .before .args in
+    let e = c .before .fields .ensures ∙ ap (λ (w : Row). fieldsNo (a .s) w (a .r)) (c .before .before .row-of .ensures) in
+    sym (unless-some _ (answerAt (a .book .now) (a .r)) (c .if3 .taken))
+    ∙ ap (λ n. unless n (answerAt (a .book .now) (a .r))) e
+    ∙ step-is (c .before .before .before .before .before .before .pre .0) (a .r) (omega (arith, c .before .before .before .before .if1 .left)) (c .before .before .before .if2 .left)
+
+answer-requires : tie.Need-answer-requires
+answer-requires c κs = let p = c .before .before .before .before .before .before .pre in let a = c .before .before .before .before .before .before .args in (
+  p .0,
+  (
+    p .1,
+    (
+      omega (arith, c .before .before .before .before .if1 .left),
+      (
+        c .before .before .before .if2 .left,
+        ready-by (a .s) (rowAt (a .r .kind)) (a .r)
+            (sym (c .before .fields .ensures ∙ ap (λ (w : Row). fieldsNo (a .s) w (a .r)) (c .before .before .row-of .ensures)) ∙ c .if3 .left),
+      ),
+    ),
+  ),
+)
+
+returns-4 : tie.Need-returns-4
+returns-4 c = let a = c .before .before .before .before .before .before .before .args in
+    let e = c .before .before .fields .ensures ∙ ap (λ (w : Row). fieldsNo (a .s) w (a .r)) (c .before .before .before .row-of .ensures) in
+    c .answer .ensures
+    ∙ ap (λ n. unless n (answerAt (a .book .now) (a .r))) (sym (c .before .if3 .left) ∙ e)
+    ∙ step-is (c .before .before .before .before .before .before .before .pre .0) (a .r) (omega (arith, c .before .before .before .before .before .if1 .left)) (c .before .before .before .before .if2 .left)
+
+pub judge-spec : {M : Type 1} → statement M
+judge-spec =
+    tie.close
+    (tie.spec
+    returns
+    returns-2
+    row-of-requires
+    fields-requires
+    returns-3
+    answer-requires
+    returns-4)

@@ -1,0 +1,72 @@
+-- Questions 9 to 20 as the code asks them: of the cells of a set, and of what a state shows in a slot.
+-- Assumes nothing.
+use Prim.Native.Nat.{ℕ, _+_}
+use mathlib.Core.Bool.{Bool, not, _&&_, _||_}
+use mathlib.Core.List.{List}
+use lib.Dec.{leb, eqb}
+use Rattle.book.specs.declared.grid.Grid.{Grid}
+use Rattle.book.specs.declared.units.Slot.{Slot}
+use Rattle.book.specs.declared.units.Slot.the-variants.{Dates, Sessions}
+use Rattle.book.specs.Grids.{cellAt}
+use Rattle.book.specs.Rows.{rowHasOther}
+use Rattle.book.specs.Units.{unitOf}
+use Rattle.judge.specs.declared.cells.Ask.{Ask}
+use Rattle.judge.specs.declared.cells.Ask.the-variants.{Absent, Empty, Alone, Own, Present}
+use Rattle.judge.specs.declared.slots.Test.{Test}
+use Rattle.judge.specs.declared.slots.Test.the-variants.{OnLeave, Stands, StandsThatDate, RoomLeft, HasConf, HasLunch, NoBookings, NotHeld, Attended}
+use Rattle.model.specs.declared.Settings.{Settings}
+use Rattle.model.specs.Bounded.{any}
+use Rattle.model.specs.Site.{capacity, dateOfSession}
+use Rattle.model.specs.State.{State, reserved}
+use Rattle.model.specs.Kinds.{dateOf}
+use Rattle.model.specs.Questions.{bookings, standsOn, confHeld, lunchHeld}
+
+-- the question of the cell (i, j) and the word w
+unfoldable pub holdsAt : Grid → List ℕ → Ask → ℕ → ℕ → ℕ → Bool
+holdsAt g b Absent j w i = not (eqb (cellAt g b i j) w)
+holdsAt g b Empty j w i = eqb (cellAt g b i j) 0
+holdsAt g b Alone j w i = not (rowHasOther g b i w j)
+holdsAt g b Own j w i = eqb (cellAt g b i j) 0 || eqb (cellAt g b i j) w
+holdsAt g b Present j w i = eqb (cellAt g b i j) w
+
+-- the unit of a test's slots, and how many there are of those that it asks of
+abbrev pub unitFor : Test → Slot
+unitFor (OnLeave u) = u
+unitFor Stands = Sessions
+unitFor StandsThatDate = Dates
+unitFor RoomLeft = Dates
+unitFor HasConf = Sessions
+unitFor HasLunch = Dates
+unitFor NoBookings = Dates
+unitFor NotHeld = Sessions
+unitFor Attended = Sessions
+
+abbrev pub limitFor : Settings → Test → ℕ
+limitFor S (OnLeave u) = S .visitors
+limitFor S Stands = S .meetings
+limitFor S StandsThatDate = S .meetings
+limitFor S RoomLeft = S .dining
+limitFor S HasConf = S .meetings
+limitFor S HasLunch = S .meetings
+limitFor S NoBookings = S .visitors
+limitFor S NotHeld = S .meetings
+limitFor S Attended = S .meetings
+
+-- questions 14 and 19 in slot i
+unfoldable pub roomLeft : Settings → State → ℕ → ℕ → ℕ → Bool
+roomLeft S x i room n = leb (reserved x i room + n) (capacity S room)
+
+unfoldable pub notHeld : Settings → State → ℕ → ℕ → Bool
+notHeld S x i m = not (confHeld x i m) && not (lunchHeld x (dateOfSession S i) m)
+
+-- the test of `who` in slot i; n is the number of seats wanted
+unfoldable pub holdsIn : Settings → State → Test → ℕ → ℕ → ℕ → Bool
+holdsIn S x (OnLeave u) who n i = x .leave (dateOf S (unitOf u) i) who
+holdsIn S x Stands who n i = x .standing i who
+holdsIn S x StandsThatDate who n i = standsOn x i who
+holdsIn S x RoomLeft who n i = roomLeft S x i who n
+holdsIn S x HasConf who n i = confHeld x i who
+holdsIn S x HasLunch who n i = lunchHeld x i who
+holdsIn S x NoBookings who n i = eqb (bookings x who i i) 0
+holdsIn S x NotHeld who n i = notHeld S x i who
+holdsIn S x Attended who n i = any (λ v. x .attend i who v) (S .visitors)

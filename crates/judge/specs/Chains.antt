@@ -1,0 +1,133 @@
+-- The questions of each kind past 7 as the code asks them, one after the other, over the words of a book.
+-- Assumes nothing.
+use Prim.Native.Nat.{ℕ, _+_, _-_}
+use mathlib.Core.Bool.{Bool, true, false}
+use mathlib.Core.Option.{Option, none, some}
+use mathlib.Core.List.{List, [], _∷_}
+use Rattle.book.specs.declared.found.Found.{Found}
+use Rattle.book.specs.declared.found.Found.the-variants.{At, Nothing}
+use Rattle.book.specs.declared.grid.Grid.{Grid}
+use Rattle.book.specs.declared.grid.Grids.{Grids}
+use Rattle.book.specs.declared.units.Slot.{Slot}
+use Rattle.book.specs.declared.units.Slot.the-variants.{Dates, Sessions, Times}
+use Rattle.book.specs.Founds.{foundOf}
+use Rattle.judge.specs.declared.cells.Ask.{Ask}
+use Rattle.judge.specs.declared.cells.Ask.the-variants.{Absent, Empty, Alone, Own, Present}
+use Rattle.judge.specs.declared.slots.Test.{Test}
+use Rattle.judge.specs.declared.slots.Test.the-variants.{OnLeave, Stands, StandsThatDate, RoomLeft, HasConf, HasLunch, NoBookings, NotHeld, Attended}
+use Rattle.judge.specs.Asked.{holdsAt, holdsIn}
+use Rattle.model.specs.declared.Settings.{Settings}
+use Rattle.model.specs.declared.Request.{Request}
+use Rattle.model.specs.declared.Answer.{Answer}
+use Rattle.model.specs.declared.Answer.the-variants.{Done, Refused}
+use Rattle.model.specs.Bounded.{failing, within, count}
+use Rattle.model.specs.Site.{capacity, dateOfSession}
+use Rattle.model.specs.State.{State, reserved}
+use Rattle.model.specs.Kinds.{Kind, kindOf}
+use Rattle.model.specs.Kinds.{Kind.addLeave, Kind.endLeave, Kind.removeVisitor, Kind.addHotel, Kind.eraseHotel, Kind.addRide, Kind.eraseRide}
+use Rattle.model.specs.Kinds.{Kind.addStanding, Kind.endStanding, Kind.addAttend, Kind.eraseAttend, Kind.addConf, Kind.eraseConf}
+use Rattle.model.specs.Kinds.{Kind.addLunch, Kind.eraseLunch, Kind.eraseConfAndLunch, Kind.whichMeeting, Kind.countLeave, Kind.seatsLeft, Kind.freeRoom}
+use Rattle.model.specs.Questions.{Question, number, ask, further, bookings, meetingOf, lowestFree}
+use Rattle.model.specs.Machine.{value}
+use Rattle.model.specs.Reading.{stateOf}
+
+-- a question with its number: refused at the slot found, or on to the next
+abbrev pub asked : ℕ → Found → Answer → Answer
+asked n Nothing next = next
+asked n (At i) next = Refused n i
+
+-- a question of the request as a whole
+abbrev pub tested : ℕ → Bool → Answer → Answer
+tested n true next = next
+tested n false next = Refused n 0
+
+-- the lowest slot of first..last that fails a question of cells, or a test of what the book shows
+abbrev pub cellsFail : Grid → List ℕ → Ask → ℕ → ℕ → ℕ → ℕ → Found
+cellsFail g b q j w first last = foundOf (failing (holdsAt g b q j w) first last)
+
+abbrev pub slotsFail : Settings → List ℕ → Test → ℕ → ℕ → ℕ → ℕ → Found
+slotsFail S b t who n first last = foundOf (failing (holdsIn S (stateOf b) t who n) first last)
+
+unfoldable pub addStay : Settings → List ℕ → Grid → Slot → ℕ → ℕ → ℕ → ℕ → Answer
+addStay S b g u a v first last =
+    asked 9 (slotsFail S b (OnLeave u) v 0 first last)
+    (asked 11 (cellsFail g b Absent a (v + 1) first last)
+    (asked 12 (cellsFail g b Empty a (v + 1) first last)
+    (asked 13 (cellsFail g b Alone a (v + 1) first last) (Done 0))))
+
+unfoldable pub attendAdds : Settings → List ℕ → Grid → ℕ → ℕ → ℕ → ℕ → Answer
+attendAdds S b g m v first last =
+    asked 9 (slotsFail S b (OnLeave Sessions) v 0 first last)
+    (asked 10 (slotsFail S b Stands m 0 first last)
+    (asked 11 (cellsFail g b Absent v (m + 1) first last)
+    (asked 13 (cellsFail g b Own v (m + 1) first last) (Done 0))))
+
+unfoldable pub confAdds : Settings → List ℕ → Grid → ℕ → ℕ → ℕ → ℕ → Answer
+confAdds S b g c m first last =
+    asked 10 (slotsFail S b Stands m 0 first last)
+    (asked 11 (cellsFail g b Absent c (m + 1) first last)
+    (asked 12 (cellsFail g b Empty c (m + 1) first last) (Done 0)))
+
+unfoldable pub lunchAdds : Settings → List ℕ → Grid → ℕ → ℕ → ℕ → ℕ → ℕ → Answer
+lunchAdds S b g d m n first last =
+    asked 10 (slotsFail S b StandsThatDate m 0 first last)
+    (asked 11 (cellsFail g b Absent m (d + 1) first last)
+    (asked 13 (cellsFail g b Own m (d + 1) first last)
+    (asked 14 (slotsFail S b RoomLeft d n first last) (Done 0))))
+
+unfoldable pub lunchFits : Settings → List ℕ → Grid → ℕ → ℕ → ℕ → ℕ → ℕ → Answer
+lunchFits S b g d m n first last = tested 8 (within 1 (capacity S d) n) (lunchAdds S b g d m n first last)
+
+unfoldable pub standingEnds : Settings → List ℕ → ℕ → ℕ → ℕ → Answer
+standingEnds S b m first last =
+    asked 19 (slotsFail S b NotHeld m 0 first last)
+    (asked 20 (slotsFail S b Attended m 0 first last) (Done 0))
+
+unfoldable pub eraseAll : Settings → List ℕ → ℕ → ℕ → ℕ → Answer
+eraseAll S b m first last =
+    asked 16 (slotsFail S b HasConf m 0 first last)
+    (asked 17 (slotsFail S b HasLunch m 0 (dateOfSession S first) (dateOfSession S last)) (Done 0))
+
+unfoldable pub erasePair : List ℕ → Grid → ℕ → ℕ → ℕ → ℕ → Answer
+erasePair b g j w first last = asked 15 (cellsFail g b Present j w first last) (Done 0)
+
+-- done with what was found, or refused
+abbrev pub foundOr : ℕ → ℕ → Found → Answer
+foundOr n place (At v) = Done v
+foundOr n place Nothing = Refused n place
+
+-- the answer of each kind past question 7, as the code finds it
+unfoldable pub inWords : Settings → Grids → List ℕ → Request → Kind → Answer
+inWords S g b r addLeave = Done 0
+inWords S g b r endLeave = asked 18 (slotsFail S b NoBookings (r .b) 0 (r .first) (r .last)) (Done 0)
+inWords S g b r removeVisitor = Done (bookings (stateOf b) (r .b) (r .first) (r .last))
+inWords S g b r addHotel = addStay S b (g .hotel) Dates (r .a) (r .b) (r .first) (r .last)
+inWords S g b r eraseHotel = erasePair b (g .hotel) (r .a) (r .b + 1) (r .first) (r .last)
+inWords S g b r addRide = addStay S b (g .ride) Times (r .a) (r .b) (r .first) (r .last)
+inWords S g b r eraseRide = erasePair b (g .ride) (r .a) (r .b + 1) (r .first) (r .last)
+inWords S g b r addStanding = Done 0
+inWords S g b r endStanding = standingEnds S b (r .a) (r .first) (r .last)
+inWords S g b r addAttend = attendAdds S b (g .attend) (r .a) (r .b) (r .first) (r .last)
+inWords S g b r eraseAttend = erasePair b (g .attend) (r .b) (r .a + 1) (r .first) (r .last)
+inWords S g b r addConf = confAdds S b (g .conf) (r .a) (r .b) (r .first) (r .last)
+inWords S g b r eraseConf = asked 16 (slotsFail S b HasConf (r .b) 0 (r .first) (r .last)) (Done 0)
+inWords S g b r addLunch = lunchFits S b (g .lunch) (r .a) (r .b) (r .n) (r .first) (r .last)
+inWords S g b r eraseLunch = erasePair b (g .lunch) (r .b) (r .a + 1) (r .first) (r .last)
+inWords S g b r eraseConfAndLunch = eraseAll S b (r .b) (r .first) (r .last)
+inWords S g b r whichMeeting = foundOr 21 (r .first) (foundOf (meetingOf (stateOf b) (r .first) (r .b)))
+inWords S g b r countLeave = Done (count (λ v. stateOf b .leave (r .first) v) (S .visitors))
+inWords S g b r seatsLeft = Done (capacity S (r .a) - reserved (stateOf b) (r .first) (r .a))
+inWords S g b r freeRoom = foundOr 22 0 (foundOf (lowestFree (stateOf b) (r .first) (r .last)))
+
+-- the model's questions one after the other, and what follows them
+abbrev pub askedAll : State → Request → Kind → List Question → Answer → Answer
+askedAll x r k [] end = end
+askedAll x r k (q ∷ qs) end = asked (number q) (foundOf (ask x r k q)) (askedAll x r k qs end)
+
+-- the answer of a request whose questions up to 7 are answered yes
+abbrev pub answerFor : State → Request → Option Kind → Answer
+answerFor x r none = Refused 3 0
+answerFor x r (some k) = askedAll x r k (further k) (Done (value x r k))
+
+abbrev pub answerAt : List ℕ → Request → Answer
+answerAt b r = answerFor (stateOf b) r (kindOf (r .kind))

@@ -1,0 +1,351 @@
+// The questions of each kind past 7, in order, and the value of a request that is done.
+use crate::cells::Ask;
+use crate::cells::first_failing;
+use crate::slots::Test;
+use crate::slots::capacity;
+use crate::slots::first_without;
+use book::found::Found;
+use book::grid::Grid;
+use book::grid::Grids;
+use book::units::Slot;
+use book::units::date_of_session;
+use model::Answer;
+use model::Request;
+use model::Session;
+use model::Settings;
+use queries::bookings::bookings;
+use queries::dates::members;
+use queries::entries::meeting_of;
+use queries::rooms::lowest_free;
+use queries::rooms::reserved;
+ghost use mathlib.Core.Path.{_≡_};
+ghost use Prim.Native.Nat.{_+_, _-_, _≤_, _<_};
+ghost use lib.ListN.{length};
+ghost use Rattle.model.specs.Kinds.{slotsOf};
+ghost use Rattle.model.specs.Reading.{stateOf};
+ghost use Rattle.model.specs.Site.{allSessions, capacity as capacityOf};
+ghost use Rattle.model.specs.State.{reserved as reservedIn};
+ghost use Rattle.book.specs.Good.{Good};
+ghost use Rattle.book.specs.Grids.{Fits, gridsOf};
+ghost use Rattle.book.specs.Units.{unitOf};
+ghost use Rattle.judge.specs.Rows.{Ready, rowAt};
+ghost use Rattle.judge.specs.Chains.{asked, addStay, attendAdds, confAdds, lunchAdds, lunchFits, standingEnds, eraseAll, erasePair, foundOr, answerAt};
+
+// Done with 0 where the last question found no slot, or refused with its number at the slot found.
+fn settled(number: u32, f: Found) -> Answer
+    ensures { λ a. ⌜ a ≡ asked number f (Answer.Done 0) ⌝ }
+{
+    match f {
+        Found::At(i) => Answer::Refused { number, place: i },
+        Found::Nothing => Answer::Done(0),
+    }
+}
+
+// Kinds 4 and 6: the cells are those of the set, the slots of its unit.
+fn add_stay(
+    book: &[u32],
+    s: Settings,
+    g: Grids,
+    cells: Grid,
+    u: Slot,
+    a: u32,
+    b: u32,
+    first: u32,
+    last: u32,
+) -> Answer
+    requires { ⌜ Good s (now book) ⌝ }
+    requires { ⌜ g ≡ gridsOf s ⌝ }
+    requires { ⌜ Fits cells (length (now book)) ⌝ }
+    requires { ⌜ last < slotsOf s (unitOf u) ⌝ }
+    requires { ⌜ last < cells .slots ⌝ }
+    requires { ⌜ a < cells .items ⌝ }
+    requires { ⌜ b < s .visitors ⌝ }
+    ensures { λ r. ⌜ r ≡ addStay s (now (book .entry)) cells u a b first last ⌝ }
+{
+    if let Found::At(i) = first_without(book, s, g, Test::OnLeave(u), b, 0, first, last) {
+        return Answer::Refused {
+            number: 9,
+            place: i,
+        };
+    }
+    if let Found::At(i) = first_failing(book, cells, Ask::Absent, a, b + 1, first, last) {
+        return Answer::Refused {
+            number: 11,
+            place: i,
+        };
+    }
+    if let Found::At(i) = first_failing(book, cells, Ask::Empty, a, b + 1, first, last) {
+        return Answer::Refused {
+            number: 12,
+            place: i,
+        };
+    }
+    settled(
+        13,
+        first_failing(book, cells, Ask::Alone, a, b + 1, first, last),
+    )
+}
+
+// Kind 10.
+fn add_attend(book: &[u32], s: Settings, g: Grids, a: u32, b: u32, first: u32, last: u32) -> Answer
+    requires { ⌜ Good s (now book) ⌝ }
+    requires { ⌜ g ≡ gridsOf s ⌝ }
+    requires { ⌜ last < allSessions s ⌝ }
+    requires { ⌜ a < s .meetings ⌝ }
+    requires { ⌜ b < s .visitors ⌝ }
+    ensures { λ r. ⌜ r ≡ attendAdds s (now (book .entry)) (g .attend) a b first last ⌝ }
+{
+    if let Found::At(i) = first_without(
+        book,
+        s,
+        g,
+        Test::OnLeave(Slot::Sessions),
+        b,
+        0,
+        first,
+        last,
+    ) {
+        return Answer::Refused {
+            number: 9,
+            place: i,
+        };
+    }
+    if let Found::At(i) = first_without(book, s, g, Test::Stands, a, 0, first, last) {
+        return Answer::Refused {
+            number: 10,
+            place: i,
+        };
+    }
+    let cells = g.attend;
+    if let Found::At(i) = first_failing(book, cells, Ask::Absent, b, a + 1, first, last) {
+        return Answer::Refused {
+            number: 11,
+            place: i,
+        };
+    }
+    settled(
+        13,
+        first_failing(book, cells, Ask::Own, b, a + 1, first, last),
+    )
+}
+
+// Kind 12.
+fn add_conf(book: &[u32], s: Settings, g: Grids, a: u32, b: u32, first: u32, last: u32) -> Answer
+    requires { ⌜ Good s (now book) ⌝ }
+    requires { ⌜ g ≡ gridsOf s ⌝ }
+    requires { ⌜ last < allSessions s ⌝ }
+    requires { ⌜ a < s .rooms ⌝ }
+    requires { ⌜ b < s .meetings ⌝ }
+    ensures { λ r. ⌜ r ≡ confAdds s (now (book .entry)) (g .conf) a b first last ⌝ }
+{
+    if let Found::At(i) = first_without(book, s, g, Test::Stands, b, 0, first, last) {
+        return Answer::Refused {
+            number: 10,
+            place: i,
+        };
+    }
+    let cells = g.conf;
+    if let Found::At(i) = first_failing(book, cells, Ask::Absent, a, b + 1, first, last) {
+        return Answer::Refused {
+            number: 11,
+            place: i,
+        };
+    }
+    settled(
+        12,
+        first_failing(book, cells, Ask::Empty, a, b + 1, first, last),
+    )
+}
+
+// Kind 14 from question 10 on.
+fn add_lunch(
+    book: &[u32],
+    s: Settings,
+    g: Grids,
+    a: u32,
+    b: u32,
+    n: u32,
+    first: u32,
+    last: u32,
+) -> Answer
+    requires { ⌜ Good s (now book) ⌝ }
+    requires { ⌜ g ≡ gridsOf s ⌝ }
+    requires { ⌜ last < s .dates ⌝ }
+    requires { ⌜ a < s .dining ⌝ }
+    requires { ⌜ b < s .meetings ⌝ }
+    requires { ⌜ n ≤ 1000 ⌝ }
+    ensures { λ r. ⌜ r ≡ lunchAdds s (now (book .entry)) (g .lunch) a b n first last ⌝ }
+{
+    if let Found::At(i) = first_without(book, s, g, Test::StandsThatDate, b, 0, first, last) {
+        return Answer::Refused {
+            number: 10,
+            place: i,
+        };
+    }
+    let cells = g.lunch;
+    if let Found::At(i) = first_failing(book, cells, Ask::Absent, b, a + 1, first, last) {
+        return Answer::Refused {
+            number: 11,
+            place: i,
+        };
+    }
+    if let Found::At(i) = first_failing(book, cells, Ask::Own, b, a + 1, first, last) {
+        return Answer::Refused {
+            number: 13,
+            place: i,
+        };
+    }
+    settled(
+        14,
+        first_without(book, s, g, Test::RoomLeft, a, n, first, last),
+    )
+}
+
+// Kind 14.
+fn lunch_fits(
+    book: &[u32],
+    s: Settings,
+    g: Grids,
+    a: u32,
+    b: u32,
+    n: u32,
+    first: u32,
+    last: u32,
+) -> Answer
+    requires { ⌜ Good s (now book) ⌝ }
+    requires { ⌜ g ≡ gridsOf s ⌝ }
+    requires { ⌜ last < s .dates ⌝ }
+    requires { ⌜ a < s .dining ⌝ }
+    requires { ⌜ b < s .meetings ⌝ }
+    ensures { λ r. ⌜ r ≡ lunchFits s (now (book .entry)) (g .lunch) a b n first last ⌝ }
+{
+    if n < 1 {
+        return Answer::Refused {
+            number: 8,
+            place: 0,
+        };
+    }
+    if capacity(s, a) < n {
+        return Answer::Refused {
+            number: 8,
+            place: 0,
+        };
+    }
+    add_lunch(book, s, g, a, b, n, first, last)
+}
+
+// Kind 9.
+fn end_standing(book: &[u32], s: Settings, g: Grids, a: u32, first: u32, last: u32) -> Answer
+    requires { ⌜ Good s (now book) ⌝ }
+    requires { ⌜ g ≡ gridsOf s ⌝ }
+    requires { ⌜ last < allSessions s ⌝ }
+    requires { ⌜ a < s .meetings ⌝ }
+    ensures { λ r. ⌜ r ≡ standingEnds s (now (book .entry)) a first last ⌝ }
+{
+    if let Found::At(i) = first_without(book, s, g, Test::NotHeld, a, 0, first, last) {
+        return Answer::Refused {
+            number: 19,
+            place: i,
+        };
+    }
+    settled(
+        20,
+        first_without(book, s, g, Test::Attended, a, 0, first, last),
+    )
+}
+
+// Kind 16: a conference room in each session, and a lunch on each date from first's to last's.
+fn erase_all(book: &[u32], s: Settings, g: Grids, b: u32, first: u32, last: u32) -> Answer
+    requires { ⌜ Good s (now book) ⌝ }
+    requires { ⌜ g ≡ gridsOf s ⌝ }
+    requires { ⌜ last < allSessions s ⌝ }
+    requires { ⌜ b < s .meetings ⌝ }
+    ensures { λ r. ⌜ r ≡ eraseAll s (now (book .entry)) b first last ⌝ }
+{
+    if let Found::At(i) = first_without(book, s, g, Test::HasConf, b, 0, first, last) {
+        return Answer::Refused {
+            number: 16,
+            place: i,
+        };
+    }
+    let from = date_of_session(s, Session(first));
+    let to = date_of_session(s, Session(last));
+    settled(
+        17,
+        first_without(book, s, g, Test::HasLunch, b, 0, from.0, to.0),
+    )
+}
+
+// Kinds 5, 7, 11 and 15: the item's cell holds w in each slot.
+fn erase(book: &[u32], cells: Grid, item: u32, w: u32, first: u32, last: u32) -> Answer
+    requires { ⌜ Fits cells (length (now book)) ⌝ }
+    requires { ⌜ last < cells .slots ⌝ }
+    requires { ⌜ item < cells .items ⌝ }
+    ensures { λ r. ⌜ r ≡ erasePair (now (book .entry)) cells item w first last ⌝ }
+{
+    settled(
+        15,
+        first_failing(book, cells, Ask::Present, item, w, first, last),
+    )
+}
+
+// Kinds 17 and 20: done with what was found, or refused where there is nothing.
+fn found_or(number: u32, place: u32, f: Found) -> Answer
+    ensures { λ a. ⌜ a ≡ foundOr number place f ⌝ }
+{
+    match f {
+        Found::At(v) => Answer::Done(v),
+        Found::Nothing => Answer::Refused { number, place },
+    }
+}
+
+// Kind 19.
+fn seats_left(book: &[u32], s: Settings, g: Grids, date: u32, room: u32) -> u32
+    requires { ⌜ Good s (now book) ⌝ }
+    requires { ⌜ g ≡ gridsOf s ⌝ }
+    requires { ⌜ date < s .dates ⌝ }
+    requires { ⌜ room < s .dining ⌝ }
+    ensures { λ r. ⌜ r ≡ capacityOf s room - reservedIn (stateOf (now (book .entry))) date room ⌝ }
+{
+    capacity(s, room) - reserved(book, s, g, date, room)
+}
+
+// The answer of a request whose questions up to 7 are answered yes; the last kind is 20.
+pub fn answer(book: &[u32], s: Settings, g: Grids, r: Request) -> Answer
+    requires { ⌜ Good s (now book) ⌝ }
+    requires { ⌜ g ≡ gridsOf s ⌝ }
+    requires { ⌜ 1 ≤ r .kind ⌝ }
+    requires { ⌜ r .kind ≤ 20 ⌝ }
+    requires { ⌜ Ready s (rowAt (r .kind)) r ⌝ }
+    ensures { λ a. ⌜ a ≡ answerAt (now (book .entry)) r ⌝ }
+{
+    let kind = r.kind;
+    match kind {
+        1 => Answer::Done(0),
+        2 => settled(
+            18,
+            first_without(book, s, g, Test::NoBookings, r.b, 0, r.first, r.last),
+        ),
+        3 => Answer::Done(bookings(book, s, g, r.b, r.first, r.last)),
+        4 => add_stay(book, s, g, g.hotel, Slot::Dates, r.a, r.b, r.first, r.last),
+        5 => erase(book, g.hotel, r.a, r.b + 1, r.first, r.last),
+        6 => add_stay(book, s, g, g.ride, Slot::Times, r.a, r.b, r.first, r.last),
+        7 => erase(book, g.ride, r.a, r.b + 1, r.first, r.last),
+        8 => Answer::Done(0),
+        9 => end_standing(book, s, g, r.a, r.first, r.last),
+        10 => add_attend(book, s, g, r.a, r.b, r.first, r.last),
+        11 => erase(book, g.attend, r.b, r.a + 1, r.first, r.last),
+        12 => add_conf(book, s, g, r.a, r.b, r.first, r.last),
+        13 => settled(
+            16,
+            first_without(book, s, g, Test::HasConf, r.b, 0, r.first, r.last),
+        ),
+        14 => lunch_fits(book, s, g, r.a, r.b, r.n, r.first, r.last),
+        15 => erase(book, g.lunch, r.b, r.a + 1, r.first, r.last),
+        16 => erase_all(book, s, g, r.b, r.first, r.last),
+        17 => found_or(21, r.first, meeting_of(book, s, g, r.first, r.b)),
+        18 => Answer::Done(members(book, s, g, r.first)),
+        19 => Answer::Done(seats_left(book, s, g, r.first, r.a)),
+        _ => found_or(22, 0, lowest_free(book, s, g, r.first, r.last)),
+    }
+}

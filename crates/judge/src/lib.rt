@@ -1,0 +1,47 @@
+// The answer of a request on a book that passes questions 1 and 2: reads only.
+pub mod answers;
+pub mod cells;
+pub mod kinds;
+pub mod slots;
+
+use book::grid::Grids;
+use model::Answer;
+use model::Request;
+use model::Settings;
+ghost use mathlib.Core.Path.{_≡_};
+ghost use Rattle.model.specs.Machine.{step};
+ghost use Rattle.model.specs.Reading.{stateOf};
+ghost use Rattle.book.specs.Good.{Good};
+ghost use Rattle.book.specs.Grids.{gridsOf};
+
+// The number of the last kind.
+const LAST_KIND: u32 = 20;
+
+// Every answer of the machine from question 3 on.
+pub fn judge(book: &[u32], s: Settings, g: Grids, r: Request) -> Answer
+    requires { ⌜ Good s (now book) ⌝ }
+    requires { ⌜ g ≡ gridsOf s ⌝ }
+    ensures { λ a. ⌜ a ≡ step (stateOf (now (book .entry))) r .answer ⌝ }
+{
+    let kind = r.kind;
+    if kind == 0 {
+        return Answer::Refused {
+            number: 3,
+            place: 0,
+        };
+    }
+    if LAST_KIND < kind {
+        return Answer::Refused {
+            number: 3,
+            place: 0,
+        };
+    }
+    let no = kinds::fields(s, kinds::row_of(kind), r);
+    if no != 0 {
+        return Answer::Refused {
+            number: no,
+            place: 0,
+        };
+    }
+    answers::answer(book, s, g, r)
+}
