@@ -2,5 +2,4 @@
 pub mod hex;
 pub mod lay;
 pub mod line;
-pub mod standin;
 pub mod stream;
