@@ -18,7 +18,7 @@ use Rattle.model.specs.Lines.{isFrame, wordDigits, hexadecimal, lineWords, show
 use Rattle.model.proofs.Search.{and-left, and-right}
 use Rattle.model.proofs.Places.{length-list, getD-list}
 use Rattle.lines.specs.Digits.{digitsOnly}
-use Rattle.lines.specs.Frame.{framed, number, place, value}
+use Rattle.lines.specs.Frame.{framed}
 use Rattle.lines.specs.declared.line.Framed.{Framed}
 use Rattle.lines.specs.declared.line.Framed.the-variants.{Frame, Other}
 
@@ -103,8 +103,16 @@ module _ (l : List ℕ) where
   pub framed-long : (length l ≡ 56 → ⊥) → Other ≡ framed l
   framed-long h = framed-no (frame-long h)
 
--- an answer line is its three words, and byte 10
-pub answer-line : (a : Answer) → wordDigits (number a) ++ (wordDigits (place a) ++ (wordDigits (value a) ++ (10 ∷ []))) ≡ answerLine a
+-- the words of an answer, written by its kind
+pub done-line : {a : Answer} {v : ℕ} → a ≡ Done v → wordDigits 0 ++ (wordDigits 0 ++ wordDigits v) ≡ hexadecimal (answerWords a)
 unfolding hexadecimal
-answer-line (Done v) = refl
-answer-line (Refused n p) = refl
+done-line {a} {v} e = sym (ap (λ (b : Answer). hexadecimal (answerWords b)) e)
+
+pub refused-line : {a : Answer} {n p : ℕ} → a ≡ Refused n p → wordDigits n ++ (wordDigits p ++ wordDigits 0) ≡ hexadecimal (answerWords a)
+unfolding hexadecimal
+refused-line {a} {n} {p} e = sym (ap (λ (b : Answer). hexadecimal (answerWords b)) e)
+
+pub words-line : (a : Answer) → length (hexadecimal (answerWords a)) ≡ 24
+unfolding hexadecimal
+words-line (Done v) = refl
+words-line (Refused n p) = refl

@@ -44,3 +44,7 @@ put-all {out₀} {out} {at} bytes i e p = rw (e, take-length bytes) at p
 -- the bytes by another name
 pub put-as : {a b : List ℕ} {at : ℕ} {xs ys : List ℕ} → xs ≡ ys → Put a b at xs → Put a b at ys
 put-as {a} {b} {at} e p = rw e at p
+
+-- two writes, where the first has n bytes
+pub join-at : {a b c : List ℕ} {at n : ℕ} {xs ys : List ℕ} → length xs ≡ n → Put a b at xs → Put b c (at + n) ys → Put a c at (xs ++ ys)
+join-at {a} {b} {c} {at} {n} {xs} {ys} e p q = join p (rw e q)

@@ -1,6 +1,6 @@
 -- Digits and lines as the code takes them apart.
 -- Assumes nothing.
-use Prim.Native.Nat.{ℕ, _+_, _≤_, _<_}
+use Prim.Native.Nat.{ℕ, _+_, _*_, _%_, _≤_, _<_}
 use mathlib.Core.Path.{_≡_}
 use mathlib.Core.Bool.{Bool, cond}
 use mathlib.Core.List.{List, [], _∷_, _++_}
@@ -17,6 +17,18 @@ valueOf b = found (digitValue b) (λ d. d)
 
 abbrev pub digitsOnly : List ℕ → Bool
 digitsOnly l = every isDigit l
+
+-- d are the values of the digits s
+pub record Values (s d : List ℕ) : Type 0 where
+  pub long : length d ≡ 56
+  pub at : (k : ℕ) → k < 56 → getD d k 0 ≡ valueOf (getD s k 0)
+
+-- the number of four values, and the word of eight
+abbrev pub halfOf : List ℕ → ℕ → ℕ
+halfOf d k = getD d k 0 * 4096 + getD d (k + 1) 0 * 256 + getD d (k + 2) 0 * 16 + getD d (k + 3) 0
+
+unfoldable pub wordOf : List ℕ → ℕ → ℕ
+wordOf d k = halfOf d k % 65536 * 65536 + halfOf d (k + 4) % 65536
 
 -- `bytes` were written at `at`, behind what stood there
 pub record Put (before after : List ℕ) (at : ℕ) (bytes : List ℕ) : Type 0 where

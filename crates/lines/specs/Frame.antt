@@ -1,12 +1,11 @@
--- A frame line's request, and the three words of an answer one by one.
+-- A frame line's request.
 -- Assumes nothing.
 use Prim.Native.Nat.{ℕ}
 use mathlib.Core.Bool.{Bool, _&&_, cond}
 use lib.Dec.{ltb, eqb}
 use mathlib.Core.List.{List}
 use lib.ListN.{length, take, getD}
-use Rattle.model.specs.declared.Answer.{Answer}
-use Rattle.model.specs.Machine.{answerWords, requestOf}
+use Rattle.model.specs.Machine.{requestOf}
 use Rattle.model.specs.Lines.{isFrame, lineWords}
 use Rattle.lines.specs.Digits.{digitsOnly}
 use Rattle.lines.specs.declared.line.Framed.{Framed}
@@ -19,13 +18,3 @@ framed l = cond (isFrame l) (Frame (requestOf (lineWords l))) Other
 -- the input begins with a frame line: 56 digits and byte 10
 unfoldable pub frameAhead : List ℕ → Bool
 frameAhead l = ltb 56 (length l) && eqb (getD l 56 0) 10 && digitsOnly (take 56 l)
-
--- the words of an answer
-abbrev pub number : Answer → ℕ
-number a = getD (answerWords a) 0 0
-
-abbrev pub place : Answer → ℕ
-place a = getD (answerWords a) 1 0
-
-abbrev pub value : Answer → ℕ
-value a = getD (answerWords a) 2 0

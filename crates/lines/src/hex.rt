@@ -5,7 +5,7 @@ ghost use mathlib.Core.List.{[], _∷_};
 ghost use Prim.Native.Nat.{_+_, _*_, _/_, _<_, _≤_};
 ghost use lib.ListN.{length, take, drop};
 ghost use Rattle.model.specs.Lines.{digit as digitByte, shown, wordDigits, lineWords};
-ghost use Rattle.lines.specs.Digits.{isDigit, valueOf, digitsOnly, Put};
+ghost use Rattle.lines.specs.Digits.{isDigit, valueOf, digitsOnly, Values, halfOf, wordOf, Put};
 
 // Whether a byte is one of the sixteen digits.
 pub fn is_digit(b: u8) -> bool
@@ -48,6 +48,44 @@ pub fn word(s: &[u8], at: usize) -> u32
         i += 1;
     }
     w
+}
+
+// The values of the 56 digits of a frame. The compiler takes many bytes at a time.
+pub fn values(s: &[u8]) -> [u8; 56]
+    requires { ⌜ digitsOnly (now s) ≡ true ⌝ }
+    requires { ⌜ length (now s) ≡ 56 ⌝ }
+    ensures { λ r. ⌜ Values (now (s .entry)) r ⌝ }
+{
+    let mut d = [0u8; 56];
+    let mut i: usize = 0;
+    while i < 56 {
+        let b = s[i];
+        d[i] = b % 16 + b / 64 * 9;
+        i += 1;
+    }
+    d
+}
+
+fn wide(b: u8) -> u32
+    ensures { λ r. ⌜ (r ≡ b) × (r < 256) ⌝ }
+{
+    b as u32
+}
+
+// The number of four values.
+fn half_of(d: &[u8; 56], at: usize) -> u32
+    requires { ⌜ at ≤ 52 ⌝ }
+    ensures { λ r. ⌜ r ≡ halfOf (now (d .entry)) at ⌝ }
+{
+    wide(d[at]) * 0x1000 + wide(d[at + 1]) * 0x100 + wide(d[at + 2]) * 0x10 + wide(d[at + 3])
+}
+
+// The word of eight values.
+pub fn word_of(d: &[u8; 56], at: usize) -> u32
+    requires { ⌜ at ≤ 48 ⌝ }
+    ensures { λ r. ⌜ r ≡ wordOf (now (d .entry)) at ⌝ }
+{
+    half_of(d, at) % 0x1_0000 * 0x1_0000 + half_of(d, at + 4) % 0x1_0000
 }
 
 // The byte of a digit.

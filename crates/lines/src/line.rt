@@ -3,11 +3,11 @@ ghost use mathlib.Core.Path.{_≡_};
 ghost use mathlib.Core.Bool.{true};
 ghost use Prim.Native.Nat.{_+_, _*_, _/_, _<_, _≤_};
 ghost use lib.ListN.{length, take};
-ghost use Rattle.model.specs.Machine.{requestOf};
-ghost use Rattle.model.specs.Lines.{wholeWords, lineWords, answerLine};
+ghost use Rattle.model.specs.Machine.{answerWords, requestOf};
+ghost use Rattle.model.specs.Lines.{hexadecimal, wholeWords, lineWords, answerLine};
 ghost use Rattle.lines.specs.Digits.{digitsOnly, Put, LineEnd};
 ghost use Rattle.lines.specs.Post.{NextOf};
-ghost use Rattle.lines.specs.Frame.{framed, frameAhead, number, place, value};
+ghost use Rattle.lines.specs.Frame.{framed, frameAhead};
 use model::Answer;
 use model::Request;
 
@@ -37,14 +37,15 @@ pub fn request(line: &[u8]) -> Request
     requires { ⌜ length (now line) ≡ 56 ⌝ }
     ensures { λ r. ⌜ r ≡ requestOf (lineWords (now (line .entry))) ⌝ }
 {
+    let d = crate::hex::values(line);
     Request {
-        kind: crate::hex::word(line, 0),
-        a: crate::hex::word(line, 8),
-        b: crate::hex::word(line, 16),
-        first: crate::hex::word(line, 24),
-        last: crate::hex::word(line, 32),
-        n: crate::hex::word(line, 40),
-        info: crate::hex::word(line, 48),
+        kind: crate::hex::word_of(&d, 0),
+        a: crate::hex::word_of(&d, 8),
+        b: crate::hex::word_of(&d, 16),
+        first: crate::hex::word_of(&d, 24),
+        last: crate::hex::word_of(&d, 32),
+        n: crate::hex::word_of(&d, 40),
+        info: crate::hex::word_of(&d, 48),
     }
 }
 
@@ -115,33 +116,21 @@ pub fn line_words(line: &[u8], words: &mut [u32])
     }
 }
 
-pub fn number_of(a: Answer) -> u32
-    ensures { λ r. ⌜ r ≡ number a ⌝ }
+// The three words of an answer behind what was written.
+fn put_words(out: &mut [u8], at: usize, a: Answer)
+    requires { ⌜ at + 24 ≤ length (now out) ⌝ }
+    ensures { λ _. ⌜ Put (now (out .entry)) (now (out .exit)) at (hexadecimal (answerWords a)) ⌝ }
 {
     match a {
-        Answer::Done(_) => 0,
-        Answer::Refused { number, place: _ } => number,
-    }
-}
-
-pub fn place_of(a: Answer) -> u32
-    ensures { λ r. ⌜ r ≡ place a ⌝ }
-{
-    match a {
-        Answer::Done(_) => 0,
-        Answer::Refused { number: _, place } => place,
-    }
-}
-
-pub fn value_of(a: Answer) -> u32
-    ensures { λ r. ⌜ r ≡ value a ⌝ }
-{
-    match a {
-        Answer::Done(v) => v,
-        Answer::Refused {
-            number: _,
-            place: _,
-        } => 0,
+        Answer::Done(value) => {
+            crate::hex::put(out, at, b"0000000000000000");
+            crate::hex::put_word(out, at + 16, value);
+        }
+        Answer::Refused { number, place } => {
+            crate::hex::put_word(out, at, number);
+            crate::hex::put_word(out, at + 8, place);
+            crate::hex::put(out, at + 16, b"00000000");
+        }
     }
 }
 
@@ -150,8 +139,6 @@ pub fn put_answer(out: &mut [u8], at: usize, a: Answer)
     requires { ⌜ at + 25 ≤ length (now out) ⌝ }
     ensures { λ _. ⌜ Put (now (out .entry)) (now (out .exit)) at (answerLine a) ⌝ }
 {
-    crate::hex::put_word(out, at, number_of(a));
-    crate::hex::put_word(out, at + 8, place_of(a));
-    crate::hex::put_word(out, at + 16, value_of(a));
+    put_words(out, at, a);
     crate::hex::put(out, at + 24, b"\n");
 }

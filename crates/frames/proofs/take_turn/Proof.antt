@@ -24,7 +24,7 @@ slice-aggregate-feed : tie.Need-slice-aggregate-feed
 slice-aggregate-feed c = search needs
 
 feed-requires : tie.Need-feed-requires
-feed-requires c κs = search needs
+feed-requires c κs = (c .before .before .before .before .before .before .before .before .before .before .before .before .before .pre .0, (c .before .before .before .before .before .before .before .before .before .before .before .before .before .pre .1 .0, search needs))
 
 slice-reshare-prefix-write-all : tie.Need-slice-reshare-prefix-write-all
 slice-reshare-prefix-write-all c = search needs
