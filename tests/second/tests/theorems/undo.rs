@@ -1,0 +1,55 @@
+//! Theorem 2, proofs/Undo: a request and then its opposite with the same words, seats and
+//! information 0.
+
+use crate::common::{after, is_done, of_kind, only_b, slots_word, walk_ranges, Counts, DONE};
+use second::machine::{Request, State};
+
+const SEED: u64 = 0x7e20;
+
+/// The kind that undoes this one and leaves the state as it was, for every request that was done.
+fn opposite(kind: u32) -> Option<u32> {
+    match kind {
+        4 | 6 | 10 | 14 => Some(kind + 1),
+        5 | 7 | 11 => Some(kind - 1),
+        _ => None,
+    }
+}
+
+#[test]
+fn the_opposite_with_the_same_words_restores() {
+    let mut counts = Counts::new();
+    walk_ranges(SEED, 200, 60, |state, request| {
+        let Some(kind) = opposite(request.kind) else { return };
+        let (answer, between) = after(state, request);
+        if is_done(answer) {
+            assert_eq!(answer, DONE);
+            assert_eq!(after(&between, &of_kind(kind, request)), (DONE, state.clone()), "{request:?}");
+            counts.add((request.kind, slots_word(request)));
+        }
+    });
+    let sorts = [4, 5, 6, 7, 10, 11, 14].into_iter().flat_map(|kind| [(kind, "one"), (kind, "more")]);
+    counts.want(SEED, "undo by kind and slots", sorts, 20);
+}
+
+/// Does the meeting of a request of kind 12 hold a conference room in one of its sessions?
+fn holds_a_room(state: &State, request: &Request) -> bool {
+    let there = |session: u32| request.first <= session && session <= request.last;
+    state.conf.keys().any(|(session, _, meeting)| *meeting == request.b && there(session.0))
+}
+
+#[test]
+fn a_conference_room_given_and_erased_restores_exactly_when_none_was_held() {
+    let mut counts = Counts::new();
+    walk_ranges(SEED + 1, 200, 60, |state, request| {
+        let (answer, between) = after(state, request);
+        if request.kind != 12 || !is_done(answer) {
+            return;
+        }
+        let (erased, restored) = after(&between, &only_b(13, request));
+        assert_eq!((answer, erased), (DONE, DONE), "{request:?}");
+        assert_eq!(restored == *state, !holds_a_room(state, request), "{request:?}");
+        counts.add((if holds_a_room(state, request) { "held" } else { "not held" }, slots_word(request)));
+    });
+    let sorts = [("held", "one"), ("held", "more"), ("not held", "one"), ("not held", "more")];
+    counts.want(SEED + 1, "12 then 13, a room held before or not, by slots", sorts, 20);
+}

@@ -1,0 +1,144 @@
+"""The commands."""
+
+import argparse
+import os
+import sys
+from pathlib import Path
+
+from . import typed as words_typed
+from .explain import explained, sentence_alone
+from .lines import printable, read_answer, read_lines, text_lines, written
+from .paper import KINDS, QUESTIONS, Problem
+
+BAD_INPUT = 2
+
+ABOUT = """The booking book for people: typed requests to the lines that the program reads, its answers to sentences.
+
+    caviar frame < site.txt > requests
+    frames < requests > answers
+    caviar explain --with site.txt < answers
+"""
+
+
+def text_of(data):
+    """Bytes that are no text pass through as they are."""
+    return data.decode("utf-8", "surrogateescape")
+
+
+def standard_input():
+    return text_of(sys.stdin.buffer.read())
+
+
+def frame(options):
+    """The lines of a typed text: of the arguments, or of standard input."""
+    arguments = options.words
+    if not arguments:
+        text = standard_input()
+    elif any(len(argument.split()) > 1 for argument in arguments):
+        text = "\n".join(arguments)
+    else:
+        text = " ".join(arguments)
+    return [written(entry) for entry in words_typed.parse_text(text)]
+
+
+def words(_):
+    """The typed words of the program's input lines."""
+    return [words_typed.typed(entry) for entry in read_lines(standard_input())]
+
+
+def answers_of(text):
+    """The answers of a text of answer lines; a Problem names the line."""
+    answers = []
+    for at, line in enumerate(text_lines(text), 1):
+        try:
+            answers.append(read_answer(line))
+            sentence_alone(answers[-1])
+        except Problem as problem:
+            raise Problem(f"line {at}: {problem}") from None
+    return answers
+
+
+def requests_of(path):
+    """The entries of a file of requests, typed or in lines."""
+    try:
+        text = text_of(Path(path).read_bytes())
+    except OSError as error:
+        raise Problem(f"{path}: {error.strerror}") from None
+    if not words_typed.is_typed(text):
+        return read_lines(text)
+    try:
+        return words_typed.parse_text(text)
+    except Problem as problem:
+        raise Problem(f"{path}: {problem}") from None
+
+
+def explain(options):
+    """The sentences of the answer lines on standard input."""
+    entries = requests_of(options.requests) if options.requests else None
+    answers = answers_of(standard_input())
+    if entries is None:
+        return [sentence_alone(answer) for answer in answers]
+    lines = explained(entries, answers)
+    unanswered = max(len(entries) - 1, 0) - len(answers)
+    refused = len(answers) == 1 and answers[0][0] in (24, 25)
+    return lines + [f"Requests without an answer here: {unanswered}."] * (unanswered > 0 and not refused)
+
+
+def table(_):
+    """The refusal numbers with their questions in words."""
+    lines = []
+    for number, (question, asked) in QUESTIONS.items():
+        of = f"  (kind{'s' * (len(asked) > 1)} {', '.join(map(str, asked))})" if 8 <= number <= 22 else ""
+        lines.append(f"{number:2}  {question}{of}")
+    return lines + [
+        "",
+        "An answer carries the number of the first question answered no. Its place is the lowest slot that fails (9 to",
+        "16 and 19 to 21), a date (17 and 18) or 0. n is the seats. a is the hotel, conference or dining room, the",
+        "transport, or the meeting of kinds 8 to 11. b is the visitor, or the meeting of kinds 12 to 16.",
+    ]
+
+
+def kinds(_):
+    """The table of kinds."""
+    widest = max(len(kind.name) for kind in KINDS)
+    fields = max(len(" ".join(kind.uses())) for kind in KINDS)
+    return [f"{kind.number:2}  {kind.name:{widest}}  {' '.join(kind.uses()):{fields}}  {kind.does}" for kind in KINDS]
+
+
+def parser():
+    plain = argparse.RawDescriptionHelpFormatter
+    top = argparse.ArgumentParser(prog="caviar", description=ABOUT, formatter_class=plain)
+    commands = top.add_subparsers(title="commands", metavar="COMMAND", required=True)
+
+    def command(run, name, summary, more=""):
+        added = commands.add_parser(name, help=summary, description=f"{summary}\n{more}", formatter_class=plain)
+        added.set_defaults(run=run)
+        return added
+
+    typing = words_typed.__doc__.partition("\n")[2]
+    framing = command(frame, "frame", "write the program's lines from typed settings and requests", typing)
+    framing.add_argument("words", nargs="*", metavar="WORD",
+                         help="one typed line, or several quoted ones; else standard input")
+    command(words, "words", "write typed settings and requests from the program's lines on standard input")
+    explaining = command(explain, "explain", "say each answer line on standard input in a sentence")
+    explaining.add_argument("--with", dest="requests", metavar="REQUESTS",
+                            help="the file that was answered, typed or in lines; sentences then say what and when")
+    command(table, "table", "print the refusal numbers 1 to 25 with their questions")
+    command(kinds, "kinds", "print the kinds of requests and the words that each takes")
+    return top
+
+
+def main(arguments):
+    """Runs one command. It writes when everything is understood, and else nothing but what is wrong."""
+    options = parser().parse_args(arguments)
+    try:
+        lines = options.run(options)
+    except Problem as problem:
+        sys.stderr.buffer.write(f"caviar: {printable(str(problem))}\n".encode())
+        return BAD_INPUT
+    try:
+        sys.stdout.buffer.write("".join(line + "\n" for line in lines).encode("utf-8", "surrogateescape"))
+        sys.stdout.buffer.flush()
+    except BrokenPipeError:
+        os.dup2(os.open(os.devnull, os.O_WRONLY), sys.stdout.fileno())
+    return 0

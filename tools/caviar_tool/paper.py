@@ -1,0 +1,191 @@
+"""The paper's tables: the limits of a site, the kinds of requests and the questions."""
+
+from typing import NamedTuple, Optional
+
+WORD_LIMIT = 2 ** 32
+
+# The program keeps a book of at most so many words.
+MOST_WORDS = 16_384
+
+# The limits in the order of the settings, each from 1 to its greatest.
+LIMITS = {
+    "dates": 400,
+    "sessions": 16,
+    "times": 96,
+    "visitors": 512,
+    "meetings": 128,
+    "rooms": 64,
+    "dining": 16,
+    "hotels": 512,
+    "transports": 128,
+}
+GREATEST_CAPACITY = 1000
+
+
+class Problem(Exception):
+    """Something that the tool does not understand; the message says what."""
+
+
+class Thing(NamedTuple):
+    """What the number in a or b names: the word that is typed, the noun in a sentence, the limit in the settings."""
+
+    word: str
+    noun: str
+    limit: str
+
+
+VISITOR = Thing("visitor", "visitor", "visitors")
+MEETING = Thing("meeting", "meeting", "meetings")
+CONFERENCE_ROOM = Thing("room", "conference room", "rooms")
+DINING_ROOM = Thing("dining", "dining room", "dining")
+HOTEL_ROOM = Thing("room", "hotel room", "hotels")
+TRANSPORT = Thing("transport", "transport", "transports")
+
+
+class Kind(NamedTuple):
+    """One line of the table of kinds. Every kind uses first and last."""
+
+    number: int
+    name: str
+    does: str
+    a: Optional[Thing]
+    b: Optional[Thing]
+    unit: str
+    seats: bool = False
+    info: bool = False
+    one: bool = False
+
+    def uses(self):
+        """The words that a typed request of this kind takes, in their order."""
+        words = [thing.word for thing in (self.a, self.b) if thing]
+        words.append(self.unit if self.one else self.unit + "s")
+        return words + ["seats"] * self.seats + ["info"] * self.info
+
+
+KINDS = [
+    Kind(1, "add-leave", "give the visitor leave", None, VISITOR, "date"),
+    Kind(2, "end-leave", "end the visitor's leave", None, VISITOR, "date"),
+    Kind(3, "remove-visitor", "end leave, erase their hotel, ride and attend entries of those dates",
+         None, VISITOR, "date"),
+    Kind(4, "add-hotel", "book the hotel room for the visitor", HOTEL_ROOM, VISITOR, "date"),
+    Kind(5, "erase-hotel", "erase that booking", HOTEL_ROOM, VISITOR, "date"),
+    Kind(6, "add-ride", "book the transport for the visitor", TRANSPORT, VISITOR, "time"),
+    Kind(7, "erase-ride", "erase that booking", TRANSPORT, VISITOR, "time"),
+    Kind(8, "add-standing", "let the meeting stand", MEETING, None, "session"),
+    Kind(9, "end-standing", "end standing, erase the meeting's attend entries there", MEETING, None, "session"),
+    Kind(10, "add-attend", "let the visitor attend the meeting", MEETING, VISITOR, "session"),
+    Kind(11, "erase-attend", "erase that attendance", MEETING, VISITOR, "session"),
+    Kind(12, "add-conf", "give the meeting the conference room", CONFERENCE_ROOM, MEETING, "session", info=True),
+    Kind(13, "erase-conf", "erase all the meeting's conference rooms there", None, MEETING, "session"),
+    Kind(14, "add-lunch", "reserve seats in the dining room for the meeting", DINING_ROOM, MEETING, "date",
+         seats=True, info=True),
+    Kind(15, "erase-lunch", "erase that lunch", DINING_ROOM, MEETING, "date"),
+    Kind(16, "erase-conf-and-lunch", "erase its conference rooms, and its lunches on dates from first's to last's",
+         None, MEETING, "session"),
+    Kind(17, "which-meeting", "which meeting the visitor attends", None, VISITOR, "session", one=True),
+    Kind(18, "count-leave", "the number of visitors with leave", None, None, "date", one=True),
+    Kind(19, "seats-left", "the dining room's capacity less the seats reserved", DINING_ROOM, None, "date", one=True),
+    Kind(20, "free-room", "the lowest conference room free in every slot", None, None, "session"),
+]
+BY_NUMBER = {kind.number: kind for kind in KINDS}
+BY_NAME = {kind.name: kind for kind in KINDS}
+
+# The questions with the kinds that they are asked of; none where a line, a book or settings are asked about.
+EVERY = tuple(BY_NUMBER)
+QUESTIONS = {
+    1: ("Is the book at least 9 words, are limits and capacities in range, and is its length as laid out?", ()),
+    2: ("Do all laws hold?", ()),
+    3: ("Is the kind 1..20?", ()),
+    4: ("Is every unused field 0?", EVERY),
+    5: ("Is a below its limit?", (4, 5, 6, 7, 8, 9, 10, 11, 12, 14, 15, 19)),
+    6: ("Is b below its limit?", (1, 2, 3, 4, 5, 6, 7, 10, 11, 12, 13, 14, 15, 16, 17)),
+    7: ("Is first ≤ last, last a slot of the unit, and first = last for kinds 17 to 19?", EVERY),
+    8: ("Is n from 1 to the room's capacity?", (14,)),
+    9: ("Has the visitor leave on each slot's date?", (4, 6, 10)),
+    10: ("Does the meeting stand in each slot, or for kind 14 in some session of each date?", (10, 12, 14)),
+    11: ("Is this very pair absent in each slot?", (4, 6, 10, 12, 14)),
+    12: ("Is a free in each slot?", (4, 6, 12)),
+    13: ("Has b no such entry with any other a in each slot?", (4, 6, 10, 14)),
+    14: ("Is reserved + n at most capacity on each date?", (14,)),
+    15: ("Is this pair present in each slot?", (5, 7, 11, 15)),
+    16: ("Has the meeting a conference room in each slot?", (13, 16)),
+    17: ("Has it a lunch on each of the dates?", (16,)),
+    18: ("Has the visitor no hotel, ride or attend entry on each date?", (2,)),
+    19: ("In each slot, has the meeting no conf there and no lunch on its date?", (9,)),
+    20: ("Does somebody attend it in each slot?", (9,)),
+    21: ("Does the visitor attend a meeting?", (17,)),
+    22: ("Is there such a room?", (20,)),
+    23: ("Is the line lower-case hexadecimal of 56 digits?", ()),
+    24: ("Are the settings of length 9 + G with all ranges kept?", ()),
+    25: ("Has the lent book the needed length, in the program at most 16,384 words?", ()),
+}
+
+
+def has_place(number):
+    """Is a place told with this number? Else it is 0."""
+    return 9 <= number <= 21
+
+
+class Settings(NamedTuple):
+    """The limits in the paper's order, and the seat capacities."""
+
+    limits: tuple
+    capacities: tuple
+
+    def limit(self, name):
+        return self.limits[list(LIMITS).index(name)]
+
+    def slots(self, unit):
+        """How many slots of the unit the site has."""
+        return self.limit("dates") * self.per_date(unit)
+
+    def per_date(self, unit):
+        return 1 if unit == "date" else self.limit(unit + "s")
+
+    def date_of(self, unit, slot):
+        return slot // self.per_date(unit)
+
+    def words(self):
+        return self.limits + self.capacities
+
+    def book_length(self):
+        """How many words the book of this site has, region by region."""
+        dates, _, _, visitors, meetings, rooms, _, hotels, transports = self.limits
+        sessions, times = self.slots("session"), self.slots("time")
+        of_dates = dates * (-(-visitors // 32) + hotels + 3 * meetings)
+        of_sessions = sessions * (-(-meetings // 32) + visitors + 2 * rooms)
+        return len(self.words()) + of_dates + of_sessions + times * transports
+
+
+def settings_of(words):
+    """The settings of these words, or a Problem that says what is wrong with them."""
+    limits, capacities = tuple(words[:len(LIMITS)]), tuple(words[len(LIMITS):])
+    if len(limits) < len(LIMITS):
+        raise Problem(f"there are {len(limits)} numbers, and settings have {len(LIMITS)} before the capacities")
+    for (name, greatest), word in zip(LIMITS.items(), limits):
+        if not 1 <= word <= greatest:
+            raise Problem(f"{name} {word} is not from 1 to {greatest}")
+    if len(capacities) != limits[6]:
+        raise Problem(f"dining {limits[6]} wants as many capacities, and there are {len(capacities)}")
+    for capacity in capacities:
+        if not 1 <= capacity <= GREATEST_CAPACITY:
+            raise Problem(f"capacity {capacity} is not from 1 to {GREATEST_CAPACITY}")
+    return Settings(limits, capacities)
+
+
+class Request(NamedTuple):
+    """The seven words of a request."""
+
+    kind: int
+    a: int = 0
+    b: int = 0
+    first: int = 0
+    last: int = 0
+    n: int = 0
+    info: int = 0
+
+
+class Raw(NamedTuple):
+    """A line that is taken as it stands."""
+
+    text: str

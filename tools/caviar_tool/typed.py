@@ -1,0 +1,176 @@
+"""The words that a person types: settings and requests to their words, and back.
+
+    settings dates 2 sessions 2 times 2 visitors 3 meetings 2 rooms 2 dining 1 hotels 2 transports 1 capacities 4
+    add-hotel room 0 visitor 1 dates 0..1      # a kind by name or number, then its fields in any order
+    4 room 0 visitor 1 date 0                  # one slot; a field that is not given is 0
+    add-leave b 1 first 0 last 1               # the paper's own field names do as well
+
+Settings come first. `raw TEXT` stands for the line TEXT as it is. Numbers are in base ten, or with 0x in base sixteen.
+The words are written as they are typed: whether a request is accepted is for the program to say.
+"""
+
+import difflib
+import re
+
+from .lines import text_lines
+from .paper import BY_NAME, BY_NUMBER, LIMITS, WORD_LIMIT, Problem, Raw, Request, Settings, settings_of
+
+FIELDS = ("a", "b", "first", "last", "n", "info")
+UNITS = {"date": "date", "dates": "date", "session": "session", "sessions": "session", "time": "time", "times": "time"}
+RAW = re.compile(r"\s*raw(?: (.*))?", re.DOTALL)
+
+
+def number(text):
+    """A 32-bit word, in base ten or with 0x in base sixteen."""
+    if not re.fullmatch(r"[0-9]+|0x[0-9a-f]+", text, re.ASCII):
+        raise Problem(f"'{text}' is not a number")
+    value = int(text, 16 if text.startswith("0x") else 10)
+    if value >= WORD_LIMIT:
+        raise Problem(f"{text} does not fit in 32 bits")
+    return value
+
+
+def slots(text):
+    """The first and the last slot of `3` or `0..1`."""
+    ends = text.split("..")
+    if len(ends) > 2 or "" in ends:
+        raise Problem(f"'{text}' is neither a slot nor a run of slots first..last")
+    return number(ends[0]), number(ends[-1])
+
+
+def kind_of(text):
+    """The number of a kind given by name or number."""
+    if text in BY_NAME:
+        return BY_NAME[text].number
+    if re.fullmatch(r"[0-9]+|0x[0-9a-f]+", text, re.ASCII):
+        return number(text)
+    near = difflib.get_close_matches(text, list(BY_NAME) + ["settings", "raw"], 1)
+    hint = f"did you mean {near[0]}?" if near else "`caviar kinds` lists the kinds"
+    raise Problem(f"there is no kind '{text}'; {hint}")
+
+
+def called(kind_number):
+    """The kind's name, or its number."""
+    kind = BY_NUMBER.get(kind_number)
+    return kind.name if kind else f"kind {kind_number}"
+
+
+def fields_named(kind_number, word):
+    """The request's fields that a word of this kind names."""
+    kind = BY_NUMBER.get(kind_number)
+    if word in FIELDS:
+        return (word,)
+    if word in UNITS:
+        if kind and UNITS[word] != kind.unit:
+            raise Problem(f"{kind.name} takes {kind.unit}s, not {UNITS[word]}s")
+        if kind:
+            return ("first", "last")
+    names = {}
+    if kind:
+        names = {thing.word: (field,) for field, thing in (("a", kind.a), ("b", kind.b)) if thing}
+        names.update({"seats": ("n",)} if kind.seats else {})
+    if word not in names:
+        takes = ", ".join(kind.uses()) if kind else ", ".join(FIELDS)
+        raise Problem(f"{called(kind_number)} takes no '{word}'; it takes {takes}")
+    return names[word]
+
+
+def pairs(words):
+    """The words two by two: a name and what comes after it."""
+    if len(words) % 2:
+        raise Problem(f"nothing comes after '{words[-1]}'")
+    return zip(words[::2], words[1::2])
+
+
+def parse_request(head, words):
+    kind_number = kind_of(head)
+    given = {}
+    for word, text in pairs(words):
+        fields = fields_named(kind_number, word)
+        values = slots(text) if len(fields) == 2 else (number(text),)
+        for field, value in zip(fields, values):
+            if field in given:
+                raise Problem(f"'{word}' says again what was said before")
+            given[field] = value
+    return Request(kind_number, **given)
+
+
+def parse_settings(words):
+    given = {}
+    at = words.index("capacities") if "capacities" in words else len(words)
+    for word, text in pairs(words[:at]):
+        if word not in LIMITS:
+            raise Problem(f"settings take no '{word}'; they take {', '.join(LIMITS)}, capacities")
+        if word in given:
+            raise Problem(f"'{word}' says again what was said before")
+        given[word] = number(text)
+    missing = [name for name in LIMITS if name not in given] + ["capacities"] * (at == len(words))
+    if missing:
+        raise Problem(f"settings lack {', '.join(missing)}")
+    return settings_of([given[name] for name in LIMITS] + [number(text) for text in words[at + 1:]])
+
+
+def parse_line(line, first):
+    """What a typed line holds, or None for a blank line or a comment. Settings are for the first one."""
+    raw = RAW.fullmatch(line)
+    if raw:
+        return Raw(raw.group(1) or "")
+    words = line.partition("#")[0].lower().split()
+    if not words:
+        return None
+    if words[0] != "settings":
+        return parse_request(words[0], words[1:])
+    if not first:
+        raise Problem("settings come first, before every request")
+    return parse_settings(words[1:])
+
+
+def parse_text(text):
+    """What a typed text holds; a Problem names the line."""
+    entries = []
+    for at, line in enumerate(text_lines(text), 1):
+        try:
+            entry = parse_line(line, not entries)
+        except Problem as problem:
+            raise Problem(f"line {at}: {problem}") from None
+        if entry is not None:
+            entries.append(entry)
+    return entries
+
+
+def is_typed(text):
+    """Is this a typed text, and not lines of the program? Its first words tell."""
+    for line in text_lines(text):
+        words = line.partition("#")[0].lower().split()
+        if words:
+            by_number = re.fullmatch(r"[0-9]{1,10}", words[0], re.ASCII) and words[1:2] and words[1].isalpha()
+            return bool(words[0] in BY_NAME or words[0] in ("settings", "raw") or by_number)
+    return True
+
+
+def typed_slots(unit, first, last):
+    return f" {unit} {first}" if first == last else f" {unit}s {first}..{last}"
+
+
+def typed_request(request):
+    """The request as it would be typed: its kind's words, and by the paper's names whatever else is not 0."""
+    kind = BY_NUMBER.get(request.kind)
+    rest = request._asdict()
+    text = kind.name if kind else str(request.kind)
+    del rest["kind"]
+    if kind:
+        for field, thing in (("a", kind.a), ("b", kind.b)):
+            text += f" {thing.word} {rest.pop(field)}" if thing else ""
+        text += typed_slots(kind.unit, rest.pop("first"), rest.pop("last"))
+        text += f" seats {rest.pop('n')}" if kind.seats else ""
+    return text + "".join(f" {field} {value}" for field, value in rest.items() if value)
+
+
+def typed(entry):
+    """An entry as it would be typed."""
+    if isinstance(entry, Raw):
+        return f"raw {entry.text}" if entry.text else "raw"
+    if isinstance(entry, Settings):
+        limits = " ".join(f"{name} {limit}" for name, limit in zip(LIMITS, entry.limits))
+        return f"settings {limits} capacities {' '.join(map(str, entry.capacities))}"
+    return typed_request(entry)
