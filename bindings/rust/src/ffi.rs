@@ -1,9 +1,28 @@
 //! The exported functions, as include/caviar.h declares them.
 
-use crate::Answer;
+use crate::{Answer, Request};
 
 extern "C" {
     pub fn caviar_book_len(settings: *const u32, settings_len: usize) -> u64;
     pub fn caviar_lay(settings: *const u32, settings_len: usize, book: *mut u32, book_len: usize) -> Answer;
     pub fn caviar_check(book: *const u32, book_len: usize) -> Answer;
+    pub fn caviar_request(book: *mut u32, book_len: usize, request: Request) -> Answer;
+    pub fn caviar_requests(
+        book: *mut u32,
+        book_len: usize,
+        requests: *const u32,
+        requests_len: usize,
+        answers: *mut u32,
+        answers_len: usize,
+    ) -> Answer;
+    pub fn caviar_serve(
+        settings: *const u32,
+        settings_len: usize,
+        book: *mut u32,
+        book_len: usize,
+        requests: *const u32,
+        requests_len: usize,
+        answers: *mut u32,
+        answers_len: usize,
+    ) -> Answer;
 }

@@ -52,6 +52,33 @@ pub struct Refusal {
     pub place: u32,
 }
 
+/// A request: seven words. A field that the kind does not use is 0.
+#[repr(C)]
+#[derive(Clone, Copy, Debug, Default, PartialEq, Eq)]
+pub struct Request {
+    /// 1 to 20.
+    pub kind: u32,
+    /// A room, a transport or a meeting, by kind.
+    pub a: u32,
+    /// A visitor or a meeting, by kind.
+    pub b: u32,
+    /// The first slot: a date, a session or a time, by kind.
+    pub first: u32,
+    /// The last slot, included.
+    pub last: u32,
+    /// Seats, for kind 14.
+    pub n: u32,
+    /// Information, for kinds 12 and 14.
+    pub info: u32,
+}
+
+impl Request {
+    /// A request from its seven words in the order of the fields.
+    pub fn from_words([kind, a, b, first, last, n, info]: [u32; 7]) -> Request {
+        Request { kind, a, b, first, last, n, info }
+    }
+}
+
 /// How many words the book of these settings has: 20 to [`MOST_WORDS`]. 0 for settings that
 /// question 24 refuses, that is when they are not 9 + G words (nine limits, then G capacities) with
 /// all ranges kept.
@@ -74,4 +101,73 @@ pub fn lay(settings: &[u32], book: &mut [u32]) -> Answer {
 pub fn check(book: &[u32]) -> Answer {
     // SAFETY: the pointer and the length are those of one slice, which is only read.
     unsafe { ffi::caviar_check(book.as_ptr(), book.len()) }
+}
+
+/// One request on a book that may hold any words. A book that question 1 or 2 refuses gives that
+/// refusal. Else the answer and every word of the book afterwards are those of the paper's diary
+/// machine, started in the state that the book shows. A refusal leaves the book as it was. Each
+/// call checks the whole book: [`requests`] checks it once for a list.
+pub fn request(book: &mut [u32], request: Request) -> Answer {
+    // SAFETY: the pointer and the length are those of one slice, lent as `&mut`.
+    unsafe { ffi::caviar_request(book.as_mut_ptr(), book.len(), request) }
+}
+
+/// A list of requests on a book that may hold any words: as many are answered as both slices have
+/// places for, each as [`request`] would answer it after those before, and the answer is done with
+/// that number. Places of `answers` behind them stay. The book is checked once. One that question 1
+/// or 2 refuses gives that refusal, and then the book and the answers stay as they were.
+pub fn requests(book: &mut [u32], list: &[Request], answers: &mut [Answer]) -> Answer {
+    requests_words(book, request_words(list), answer_words(answers))
+}
+
+/// The same with plain words, seven a request and three an answer; words that are left over at an
+/// end count for nothing.
+pub fn requests_words(book: &mut [u32], list: &[u32], answers: &mut [u32]) -> Answer {
+    // SAFETY: each pointer has its slice's length, and no two slices overlap where one is `&mut`.
+    unsafe {
+        ffi::caviar_requests(
+            book.as_mut_ptr(),
+            book.len(),
+            list.as_ptr(),
+            list.len(),
+            answers.as_mut_ptr(),
+            answers.len(),
+        )
+    }
+}
+
+/// Lays the book and answers a list of requests on it: [`lay`], then [`requests`] without a check.
+/// The answers and every word of the book are the diary machine's from fresh, for every list.
+/// Refused with 24 or 25 as laying is, and then the book and the answers stay as they were.
+pub fn serve(settings: &[u32], book: &mut [u32], list: &[Request], answers: &mut [Answer]) -> Answer {
+    serve_words(settings, book, request_words(list), answer_words(answers))
+}
+
+/// The same with plain words, seven a request and three an answer.
+pub fn serve_words(settings: &[u32], book: &mut [u32], list: &[u32], answers: &mut [u32]) -> Answer {
+    // SAFETY: each pointer has its slice's length, and no two slices overlap where one is `&mut`.
+    unsafe {
+        ffi::caviar_serve(
+            settings.as_ptr(),
+            settings.len(),
+            book.as_mut_ptr(),
+            book.len(),
+            list.as_ptr(),
+            list.len(),
+            answers.as_mut_ptr(),
+            answers.len(),
+        )
+    }
+}
+
+/// The words of a list of requests, which has seven in each place and nothing between.
+fn request_words(list: &[Request]) -> &[u32] {
+    // SAFETY: `Request` is seven `u32` in order (`repr(C)`), with their alignment and no padding.
+    unsafe { std::slice::from_raw_parts(list.as_ptr().cast(), list.len() * 7) }
+}
+
+/// The words of a list of answers, three in each place; every word is a value of its field.
+fn answer_words(answers: &mut [Answer]) -> &mut [u32] {
+    // SAFETY: `Answer` is three `u32` in order (`repr(C)`), with their alignment and no padding.
+    unsafe { std::slice::from_raw_parts_mut(answers.as_mut_ptr().cast(), answers.len() * 3) }
 }

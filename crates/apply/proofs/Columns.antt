@@ -16,7 +16,7 @@ use Rattle.model.specs.Kinds.{Kind, row, slotsOf}
 use Rattle.model.specs.Kinds.{Kind.addHotel, Kind.eraseHotel, Kind.addRide, Kind.eraseRide}
 use Rattle.model.specs.Kinds.{Kind.addAttend, Kind.eraseAttend, Kind.addConf}
 use Rattle.model.specs.Kinds.{Kind.addLunch, Kind.eraseLunch}
-use Rattle.model.specs.Questions.{ask, test, always, further, Question, Question.aBelow, Question.bBelow, Question.absent, Question.present}
+use Rattle.model.specs.Questions.{ask, test, always, further, Question, Question.aBelow, Question.bBelow, Question.absent, Question.elsewhere, Question.present}
 use Rattle.model.specs.Machine.{change, slot, withLunch}
 use Rattle.model.specs.Words.{Region, hotelCells, attendCells, confPairs, lunchTriples, rideCells, slots, items, width, word, cell, infoOf, lunchInfo}
 use Rattle.model.proofs.Search.{and-left, and-right}
@@ -78,7 +78,7 @@ module _ (x : State) (s : Sound x) (r : Request) (b : List ℕ) (a : Carries (x 
   there k p e i h = yes-slot x r k (present p) refl e i h
 
   -- b has no a at all in the set
-  alone : (k : Kind) (p : Pairs) → ask x r k (absent p) ≡ none → ask x r k (Question.elsewhere p) ≡ none → (i c : ℕ) → slot r i ≡ true → booked x p i c (r .b) ≡ true → ⊥
+  alone : (k : Kind) (p : Pairs) → ask x r k (absent p) ≡ none → ask x r k (elsewhere p) ≡ none → (i c : ℕ) → slot r i ≡ true → booked x p i c (r .b) ≡ true → ⊥
   unfolding test
   alone k p e f i c h q =
       let z : booked x p i (r .a) (r .b) ≡ false = not-true _ (yes-slot x r k (absent p) refl e i h) in
@@ -109,28 +109,32 @@ module _ (x : State) (s : Sound x) (r : Request) (b : List ℕ) (a : Carries (x 
         ∙ ap₂ (cond (slot r i && eqb j A)) (sym (only-word empty m (c .word))) (sym (before i j m)))
 
   -- kinds 4 and 5, 6 and 7: the item is a, and its cells hold b
-  pub write-addHotel : Yes x r addHotel (always ++ further addHotel) → Carries S (change x r addHotel) (filled (gridOf S hotelCells) (r .a) (full (r .b) 0 0) (r .first) (r .last + 1) b)
+  pub write-addHotel : Yes x r addHotel (always ++ further addHotel)
+      → Carries S (change x r addHotel) (filled (gridOf S hotelCells) (r .a) (full (r .b) 0 0) (r .first) (r .last + 1) b)
   unfolding change test word
   write-addHotel y =
       put-one addHotel y hotelCells refl refl (x .hotel) _ (S .visitors) (r .a) (r .b) (change x r addHotel) (hotel-frame x _)
       (ltb-true _ _ (yes x r addHotel aBelow refl (y .1 .0))) (λ i j m. refl) (λ i j m. refl) (λ i j u. refl)
       (ltb-true _ _ (yes x r addHotel bBelow refl (y .1 .1 .0))) (λ i u h. is-free x r addHotel s hotels (y .1 .1 .1 .1 .1 .1 .0) i u h)
 
-  pub write-eraseHotel : Yes x r eraseHotel (always ++ further eraseHotel) → Carries S (change x r eraseHotel) (filled (gridOf S hotelCells) (r .a) empty (r .first) (r .last + 1) b)
+  pub write-eraseHotel : Yes x r eraseHotel (always ++ further eraseHotel)
+      → Carries S (change x r eraseHotel) (filled (gridOf S hotelCells) (r .a) empty (r .first) (r .last + 1) b)
   unfolding change test word
   write-eraseHotel y =
       take-one eraseHotel y hotelCells refl refl (x .hotel) _ (S .visitors) (r .a) (r .b) (change x r eraseHotel) (hotel-frame x _)
       (ltb-true _ _ (yes x r eraseHotel aBelow refl (y .1 .0))) (λ i j m. refl) (λ i j m. refl) (λ i j u. refl)
       (λ i u h e. s .oneB hotels refl i (r .a) u (r .b) e (there eraseHotel hotels (y .1 .1 .1 .1 .0) i h))
 
-  pub write-addRide : Yes x r addRide (always ++ further addRide) → Carries S (change x r addRide) (filled (gridOf S rideCells) (r .a) (full (r .b) 0 0) (r .first) (r .last + 1) b)
+  pub write-addRide : Yes x r addRide (always ++ further addRide)
+      → Carries S (change x r addRide) (filled (gridOf S rideCells) (r .a) (full (r .b) 0 0) (r .first) (r .last + 1) b)
   unfolding change test word
   write-addRide y =
       put-one addRide y rideCells refl refl (x .ride) _ (S .visitors) (r .a) (r .b) (change x r addRide) (ride-frame x _)
       (ltb-true _ _ (yes x r addRide aBelow refl (y .1 .0))) (λ i j m. refl) (λ i j m. refl) (λ i j u. refl)
       (ltb-true _ _ (yes x r addRide bBelow refl (y .1 .1 .0))) (λ i u h. is-free x r addRide s rides (y .1 .1 .1 .1 .1 .1 .0) i u h)
 
-  pub write-eraseRide : Yes x r eraseRide (always ++ further eraseRide) → Carries S (change x r eraseRide) (filled (gridOf S rideCells) (r .a) empty (r .first) (r .last + 1) b)
+  pub write-eraseRide : Yes x r eraseRide (always ++ further eraseRide)
+      → Carries S (change x r eraseRide) (filled (gridOf S rideCells) (r .a) empty (r .first) (r .last + 1) b)
   unfolding change test word
   write-eraseRide y =
       take-one eraseRide y rideCells refl refl (x .ride) _ (S .visitors) (r .a) (r .b) (change x r eraseRide) (ride-frame x _)
@@ -138,7 +142,8 @@ module _ (x : State) (s : Sound x) (r : Request) (b : List ℕ) (a : Carries (x 
       (λ i u h e. s .oneB rides refl i (r .a) u (r .b) e (there eraseRide rides (y .1 .1 .1 .1 .0) i h))
 
   -- kinds 10 and 11: the item is b, and its cells hold a
-  pub write-addAttend : Yes x r addAttend (always ++ further addAttend) → Carries S (change x r addAttend) (filled (gridOf S attendCells) (r .b) (full (r .a) 0 0) (r .first) (r .last + 1) b)
+  pub write-addAttend : Yes x r addAttend (always ++ further addAttend)
+      → Carries S (change x r addAttend) (filled (gridOf S attendCells) (r .b) (full (r .a) 0 0) (r .first) (r .last + 1) b)
   unfolding change test word
   write-addAttend y =
       put-one addAttend y attendCells refl refl (λ i j m. x .attend i m j) _ (S .meetings) (r .b) (r .a) (change x r addAttend) (attend-frame x _)
@@ -146,7 +151,8 @@ module _ (x : State) (s : Sound x) (r : Request) (b : List ℕ) (a : Carries (x 
       (λ i j u. ap (λ (t : Bool). x .attend i u j || t) (swap (slot r i) (eqb u (r .a)) (eqb j (r .b))))
       (ltb-true _ _ (yes x r addAttend aBelow refl (y .1 .0))) (λ i u h. alone addAttend attends (y .1 .1 .1 .1 .1 .1 .0) (y .1 .1 .1 .1 .1 .1 .1 .0) i u h)
 
-  pub write-eraseAttend : Yes x r eraseAttend (always ++ further eraseAttend) → Carries S (change x r eraseAttend) (filled (gridOf S attendCells) (r .b) empty (r .first) (r .last + 1) b)
+  pub write-eraseAttend : Yes x r eraseAttend (always ++ further eraseAttend)
+      → Carries S (change x r eraseAttend) (filled (gridOf S attendCells) (r .b) empty (r .first) (r .last + 1) b)
   unfolding change test word
   write-eraseAttend y =
       take-one eraseAttend y attendCells refl refl (λ i j m. x .attend i m j) _ (S .meetings) (r .b) (r .a) (change x r eraseAttend) (attend-frame x _)
@@ -183,7 +189,8 @@ module _ (x : State) (s : Sound x) (r : Request) (b : List ℕ) (a : Carries (x 
           pair-added r (λ i j m. isSome (x .conf i j m)) (λ i j m. isSome (C i j m)) (S .meetings) (λ i j. suc) (λ i j. suc) (r .a) (r .b) (λ i j _ u. refl)
           (λ i j u. some-or _ (r .info) (x .conf i j u)) hb (r .b + 1) (λ i _. one-more (r .b)) free i j
       here i j (suc zero) c =
-          pair-added r (λ i j m. isSome (x .conf i j m)) (λ i j m. isSome (C i j m)) (S .meetings) (λ i j m. infoOf (x .conf i j m)) (λ i j m. infoOf (C i j m)) (r .a) (r .b)
+          pair-added r (λ i j m. isSome (x .conf i j m)) (λ i j m. isSome (C i j m)) (S .meetings) (λ i j m. infoOf (x .conf i j m))
+          (λ i j m. infoOf (C i j m)) (r .a) (r .b)
           (λ i j e u. ap infoOf (off i j e u)) (λ i j u. some-or _ (r .info) (x .conf i j u)) hb (r .info) (λ i e. ap infoOf (new i e)) free i j
       here i j (suc (suc k)) c = absurd (omega (arith, c .word))
 
@@ -208,9 +215,11 @@ module _ (x : State) (s : Sound x) (r : Request) (b : List ℕ) (a : Carries (x 
         → Carries S (withLunch x U) (filled (gridOf S lunchTriples) (r .b) c (r .first) (r .last + 1) b)
     unfolding word
     lunch-column c w0 w1 w2 =
-        column a lunchTriples (slot r) (r .first) (r .last + 1) (rw unit (last-slot x r k y)) (λ i _. in-slots r i) (withLunch x U) (lunch-frame x U) (r .b) c hb here
+        column a lunchTriples (slot r) (r .first) (r .last + 1) (rw unit (last-slot x r k y)) (λ i _. in-slots r i) (withLunch x U) (lunch-frame x U)
+        (r .b) c hb here
       where
-        here : (i j m : ℕ) → Cell S lunchTriples i j m → word (withLunch x U) lunchTriples i j m ≡ cond (slot r i && eqb j (r .b)) (wordIn c m) (word x lunchTriples i j m)
+        here : (i j m : ℕ) → Cell S lunchTriples i j m
+            → word (withLunch x U) lunchTriples i j m ≡ cond (slot r i && eqb j (r .b)) (wordIn c m) (word x lunchTriples i j m)
         here i j zero cell = w0 i j
         here i j (suc zero) cell = w1 i j
         here i j (suc (suc zero)) cell = w2 i j
@@ -240,7 +249,8 @@ module _ (x : State) (s : Sound x) (r : Request) (b : List ℕ) (a : Carries (x 
       q i j g = isSome (U addLunch y refl hb new i g j)
 
       is : (i j u : ℕ) → q i j u ≡ p i j u || (slot r i && eqb j (r .b) && eqb u (r .a))
-      is i j u = some-or _ (record { seats = r .n; info = r .info }) (x .lunch i u j) ∙ ap (λ (t : Bool). p i j u || t) (swap (slot r i) (eqb u (r .a)) (eqb j (r .b)))
+      is i j u = some-or _ (record { seats = r .n; info = r .info }) (x .lunch i u j)
+          ∙ ap (λ (t : Bool). p i j u || t) (swap (slot r i) (eqb u (r .a)) (eqb j (r .b)))
 
       free : (i u : ℕ) → slot r i ≡ true → p i (r .b) u ≡ true → ⊥
       free i u h = alone addLunch lunches (y .1 .1 .1 .1 .1 .1 .0) (y .1 .1 .1 .1 .1 .1 .1 .0) i u h
@@ -268,7 +278,8 @@ module _ (x : State) (s : Sound x) (r : Request) (b : List ℕ) (a : Carries (x 
       q i j g = isSome (U eraseLunch y refl hb none i g j)
 
       is : (i j u : ℕ) → q i j u ≡ p i j u && not (slot r i && eqb j (r .b) && eqb u (r .a))
-      is i j u = some-less (slot r i && eqb u (r .a) && eqb j (r .b)) (x .lunch i u j) ∙ ap (λ (t : Bool). p i j u && not t) (swap (slot r i) (eqb u (r .a)) (eqb j (r .b)))
+      is i j u = some-less (slot r i && eqb u (r .a) && eqb j (r .b)) (x .lunch i u j)
+          ∙ ap (λ (t : Bool). p i j u && not t) (swap (slot r i) (eqb u (r .a)) (eqb j (r .b)))
 
       only : (i u : ℕ) → slot r i ≡ true → p i (r .b) u ≡ true → u ≡ r .a
       only i u h e = s .oneA lunches refl i (r .b) u (r .a) e (there eraseLunch lunches (y .1 .1 .1 .1 .0) i h)

@@ -125,7 +125,8 @@ pub turned-bits : (on : Bool) (p : ℕ → Bool) (t : Bool) (v j : ℕ)
 turned-bits on p false v j = pack-same (λ u. turned on (p u) false) p (j * 32) (j * 32) 32 (λ k _. turned-off on (p (j * 32 + k)))
 turned-bits on p true v j = go (eqb j (v / 32)) refl
   where
-    go : (t : Bool) → eqb j (v / 32) ≡ t → packFrom (λ u. turned on (p u) (eqb u v)) (j * 32) 32 ≡ cond t (flipped on (packFrom p (j * 32) 32) (v % 32)) (packFrom p (j * 32) 32)
+    go : (t : Bool) → eqb j (v / 32) ≡ t → packFrom (λ u. turned on (p u) (eqb u v)) (j * 32) 32
+        ≡ cond t (flipped on (packFrom p (j * 32) 32) (v % 32)) (packFrom p (j * 32) 32)
     go true e =
         let k : j ≡ v / 32 = eqb-true _ _ e in
         let z : j * 32 + v % 32 ≡ v = omega arith in

@@ -39,14 +39,16 @@ module _ {S : Settings} (x : State) {b : List ℕ} (a : Carries S x b) (t : ℕ 
       → Carries S (withLeave x (λ d u. turned on (x .leave d u) (t d && eqb u v))) (markedAll (gridOf S leaves) on v from to b)
   unfolding word
   leave-bits on v h most agree =
-      bits a leaves t from to most agree (withLeave x (λ d u. turned on (x .leave d u) (t d && eqb u v))) (leave-frame x _) refl on v (group-lt (S .visitors) v h)
+      bits a leaves t from to most agree (withLeave x (λ d u. turned on (x .leave d u) (t d && eqb u v))) (leave-frame x _) refl on v
+      (group-lt (S .visitors) v h)
       (λ i j k c. turned-bits on (x .leave i) (t i) v j)
 
   standing-bits : (on : Bool) (m : ℕ) → m < S .meetings → to ≤ slots S standings → ((i : ℕ) → i < slots S standings → t i ≡ leb from i && ltb i to)
       → Carries S (withStanding x (λ i u. turned on (x .standing i u) (t i && eqb u m))) (markedAll (gridOf S standings) on m from to b)
   unfolding word
   standing-bits on m h most agree =
-      bits a standings t from to most agree (withStanding x (λ i u. turned on (x .standing i u) (t i && eqb u m))) (standing-frame x _) refl on m (group-lt (S .meetings) m h)
+      bits a standings t from to most agree (withStanding x (λ i u. turned on (x .standing i u) (t i && eqb u m))) (standing-frame x _) refl on m
+      (group-lt (S .meetings) m h)
       (λ i j k c. turned-bits on (x .standing i) (t i) m j)
 
   -- rows of cells of one word lose the entry v: p before, q after
@@ -82,7 +84,8 @@ module _ {S : Settings} (x : State) {b : List ℕ} (a : Carries S x b) (t : ℕ 
       → Carries S (withAttend x (λ i u v. minus (x .attend i u v) (t i && eqb u m))) (swept (gridOf S attendCells) (m + 1) from to b)
   unfolding word
   attend-rows m most agree one =
-      cell-rows attendCells (λ i v u. x .attend i u v) (λ i v u. minus (x .attend i u v) (t i && eqb u m)) (x .settings .meetings) m _ (attend-frame x _) most agree
+      cell-rows attendCells (λ i v u. x .attend i u v) (λ i v u. minus (x .attend i u v) (t i && eqb u m)) (x .settings .meetings) m _
+      (attend-frame x _) most agree
       (λ i j m. refl) (λ i j m. refl) (λ i j u. refl) one
 
   conf-rows : (m : ℕ) → to ≤ slots S confPairs → ((i : ℕ) → i < slots S confPairs → t i ≡ leb from i && ltb i to)
@@ -125,11 +128,13 @@ module _ {S : Settings} (x : State) {b : List ℕ} (a : Carries S x b) (t : ℕ 
       U d g u = cond (t d && eqb u m) none (x .lunch d g u)
 
       by : (i j : ℕ) (f h : ℕ → ℕ) → (t i && eqb j m ≡ false → (g : ℕ) → h g ≡ f g)
-          → found (lowest (λ g. isSome (U i g j)) 0 (x .settings .dining)) h ≡ cond (t i && eqb j m) 0 (found (lowest (λ g. isSome (x .lunch i g j)) 0 (x .settings .dining)) f)
+          → found (lowest (λ g. isSome (U i g j)) 0 (x .settings .dining)) h
+          ≡ cond (t i && eqb j m) 0 (found (lowest (λ g. isSome (x .lunch i g j)) 0 (x .settings .dining)) f)
       by i j f h off =
           emptied (λ g. isSome (x .lunch i g j)) (λ g. isSome (U i g j)) (x .settings .dining) f h (t i && eqb j m) (λ e g. rw e) (λ e g. rw e) off
 
-      here : (i j k : ℕ) → Cell S lunchTriples i j k → word (withLunch x U) lunchTriples i j k ≡ cond (t i && eqb j m) (wordIn empty k) (word x lunchTriples i j k)
+      here : (i j k : ℕ) → Cell S lunchTriples i j k
+          → word (withLunch x U) lunchTriples i j k ≡ cond (t i && eqb j m) (wordIn empty k) (word x lunchTriples i j k)
       here i j zero c = by i j suc suc (λ _ g. refl)
       here i j (suc zero) c = by i j (λ g. seatsOf (x .lunch i g j)) (λ g. seatsOf (U i g j)) (λ e g. rw e)
       here i j (suc (suc zero)) c = by i j (λ g. lunchInfo (x .lunch i g j)) (λ g. lunchInfo (U i g j)) (λ e g. rw e)
@@ -142,36 +147,46 @@ module _ (x : State) (s : Sound x) (r : Request) (b : List ℕ) (a : Carries (x 
   S = x .settings
 
   -- kinds 1, 2 and 8
-  pub write-addLeave : Yes x r addLeave (always ++ further addLeave) → Carries S (change x r addLeave) (markedAll (gridOf S leaves) true (r .b) (r .first) (r .last + 1) b)
+  pub write-addLeave : Yes x r addLeave (always ++ further addLeave)
+      → Carries S (change x r addLeave) (markedAll (gridOf S leaves) true (r .b) (r .first) (r .last + 1) b)
   unfolding change test
-  write-addLeave y = leave-bits x a (slot r) (r .first) (r .last + 1) true (r .b) (ltb-true _ _ (yes x r addLeave bBelow refl (y .1 .1 .0))) (last-slot x r addLeave y) (λ i _. in-slots r i)
+  write-addLeave y = leave-bits x a (slot r) (r .first) (r .last + 1) true (r .b) (ltb-true _ _ (yes x r addLeave bBelow refl (y .1 .1 .0)))
+      (last-slot x r addLeave y) (λ i _. in-slots r i)
 
-  pub write-endLeave : Yes x r endLeave (always ++ further endLeave) → Carries S (change x r endLeave) (markedAll (gridOf S leaves) false (r .b) (r .first) (r .last + 1) b)
+  pub write-endLeave : Yes x r endLeave (always ++ further endLeave)
+      → Carries S (change x r endLeave) (markedAll (gridOf S leaves) false (r .b) (r .first) (r .last + 1) b)
   unfolding change test
-  write-endLeave y = leave-bits x a (slot r) (r .first) (r .last + 1) false (r .b) (ltb-true _ _ (yes x r endLeave bBelow refl (y .1 .1 .0))) (last-slot x r endLeave y) (λ i _. in-slots r i)
+  write-endLeave y = leave-bits x a (slot r) (r .first) (r .last + 1) false (r .b) (ltb-true _ _ (yes x r endLeave bBelow refl (y .1 .1 .0)))
+      (last-slot x r endLeave y) (λ i _. in-slots r i)
 
-  pub write-addStanding : Yes x r addStanding (always ++ further addStanding) → Carries S (change x r addStanding) (markedAll (gridOf S standings) true (r .a) (r .first) (r .last + 1) b)
+  pub write-addStanding : Yes x r addStanding (always ++ further addStanding)
+      → Carries S (change x r addStanding) (markedAll (gridOf S standings) true (r .a) (r .first) (r .last + 1) b)
   unfolding change test
-  write-addStanding y = standing-bits x a (slot r) (r .first) (r .last + 1) true (r .a) (ltb-true _ _ (yes x r addStanding aBelow refl (y .1 .0))) (last-slot x r addStanding y) (λ i _. in-slots r i)
+  write-addStanding y = standing-bits x a (slot r) (r .first) (r .last + 1) true (r .a) (ltb-true _ _ (yes x r addStanding aBelow refl (y .1 .0)))
+      (last-slot x r addStanding y) (λ i _. in-slots r i)
 
   -- kind 9: the standing, then the meeting's entries in the attend rows
   pub write-endStanding : Yes x r endStanding (always ++ further endStanding)
-      → Carries S (change x r endStanding) (swept (gridOf S attendCells) (r .a + 1) (r .first) (r .last + 1) (markedAll (gridOf S standings) false (r .a) (r .first) (r .last + 1) b))
+      → Carries S (change x r endStanding) (swept (gridOf S attendCells) (r .a + 1) (r .first) (r .last + 1)
+      (markedAll (gridOf S standings) false (r .a) (r .first) (r .last + 1) b))
   unfolding change test
   write-endStanding y =
       attend-rows (withStanding x _)
-      (standing-bits x a (slot r) (r .first) (r .last + 1) false (r .a) (ltb-true _ _ (yes x r endStanding aBelow refl (y .1 .0))) (last-slot x r endStanding y) (λ i _. in-slots r i))
+      (standing-bits x a (slot r) (r .first) (r .last + 1) false (r .a) (ltb-true _ _ (yes x r endStanding aBelow refl (y .1 .0)))
+      (last-slot x r endStanding y) (λ i _. in-slots r i))
       (slot r) (r .first) (r .last + 1) (r .a) (last-slot x r endStanding y) (λ i _. in-slots r i) (s .oneA attends refl)
 
   -- kind 13
-  pub write-eraseConf : Yes x r eraseConf (always ++ further eraseConf) → Carries S (change x r eraseConf) (swept (gridOf S confPairs) (r .b + 1) (r .first) (r .last + 1) b)
+  pub write-eraseConf : Yes x r eraseConf (always ++ further eraseConf)
+      → Carries S (change x r eraseConf) (swept (gridOf S confPairs) (r .b + 1) (r .first) (r .last + 1) b)
   unfolding change
   write-eraseConf y = conf-rows x a (slot r) (r .first) (r .last + 1) (r .b) (last-slot x r eraseConf y) (λ i _. in-slots r i) (s .oneB confs refl)
 
   -- kind 16: the same, then the meeting's lunches on "dates from first's to last's"
   pub write-eraseConfAndLunch : Yes x r eraseConfAndLunch (always ++ further eraseConfAndLunch)
       → Carries S (change x r eraseConfAndLunch)
-      (filled (gridOf S lunchTriples) (r .b) empty (dateOfSession S (r .first)) (dateOfSession S (r .last) + 1) (swept (gridOf S confPairs) (r .b + 1) (r .first) (r .last + 1) b))
+      (filled (gridOf S lunchTriples) (r .b) empty (dateOfSession S (r .first)) (dateOfSession S (r .last) + 1)
+      (swept (gridOf S confPairs) (r .b + 1) (r .first) (r .last + 1) b))
   unfolding change test
   write-eraseConfAndLunch y =
       lunch-column (withConf x _)
@@ -197,8 +212,10 @@ module _ (x : State) (s : Sound x) (r : Request) (b : List ℕ) (a : Carries (x 
       (hotel-rows (withLeave x _)
       (leave-bits x a (slot r) (r .first) (r .last + 1) false (r .b) hb (last-slot x r removeVisitor y) (λ i _. in-slots r i))
       (slot r) (r .first) (r .last + 1) (r .b) (last-slot x r removeVisitor y) (λ i _. in-slots r i) (s .oneB hotels refl))
-      (λ i. slot r (dateOfTime S i)) lo hi (r .b) (times .ends .most) (between-cuts S Times (r .first) (r .last) lo hi (times .begins) (times .ends)) (s .oneB rides refl))
-      (λ i. slot r (dateOfSession S i)) from to (r .b) hb (sessions .ends .most) (between-cuts S Sessions (r .first) (r .last) from to (sessions .begins) (sessions .ends))
+      (λ i. slot r (dateOfTime S i)) lo hi (r .b) (times .ends .most) (between-cuts S Times (r .first) (r .last) lo hi (times .begins) (times .ends))
+      (s .oneB rides refl))
+      (λ i. slot r (dateOfSession S i)) from to (r .b) hb (sessions .ends .most)
+      (between-cuts S Sessions (r .first) (r .last) from to (sessions .begins) (sessions .ends))
     where
       hb : r .b < S .visitors
       hb = ltb-true _ _ (yes x r removeVisitor bBelow refl (y .1 .1 .0))

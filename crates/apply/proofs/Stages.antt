@@ -48,7 +48,8 @@ carries-words x s =
 abbrev pub Frame : Region → State → State → Type 0
 Frame g x y = (h : Region) → eqb (index h) (index g) ≡ false → (i j k : ℕ) → word y h i j k ≡ word x h i j k
 
-module _ {S : Settings} {x : State} {b : List ℕ} (a : Carries S x b) (g : Region) (d : ℕ → ℕ → Bool) (f : ℕ → ℕ → ℕ → ℕ) (F : List ℕ → List ℕ) (w : Writes S g d f F)
+module _ {S : Settings} {x : State} {b : List ℕ} (a : Carries S x b) (g : Region) (d : ℕ → ℕ → Bool) (f : ℕ → ℕ → ℕ → ℕ) (F : List ℕ → List ℕ)
+    (w : Writes S g d f F)
     (y : State) (frame : Frame g x y)
     (here : (i j k : ℕ) → Cell S g i j k → word y g i j k ≡ cond (d i j) (f k (word x g i j 0) (word x g i j k)) (word x g i j k)) where
   at-g : (i j k : ℕ) → Cell S g i j k → (t : Bool) → d i j ≡ t → at S (F b) g i j k ≡ cond t (f k (word x g i j 0) (word x g i j k)) (word x g i j k)
@@ -77,7 +78,8 @@ module _ {S : Settings} {x : State} {b : List ℕ} (a : Carries S x b) (g : Regi
       → Carries S y (filled (gridOf S g) j c from to b)
   column j c hj here =
       next a g (λ i j'. t i && eqb j' j) (λ k _ _. wordIn c k) (filled (gridOf S g) j c from to)
-      (writes-as (λ i j'. t i && eqb j' j) (λ i j' h _. and-comm (t i) (eqb j' j) ∙ ap (λ (s : Bool). eqb j' j && s) (agree i h)) (filled-writes S g j c from to most hj))
+      (writes-as (λ i j'. t i && eqb j' j) (λ i j' h _. and-comm (t i) (eqb j' j) ∙ ap (λ (s : Bool). eqb j' j && s) (agree i h))
+      (filled-writes S g j c from to most hj))
       y frame here
 
   pub rows : (w : ℕ)
@@ -93,7 +95,8 @@ module _ {S : Settings} {x : State} {b : List ℕ} (a : Carries S x b) (g : Regi
       → Carries S y (markedAll (gridOf S g) on v from to b)
   bits one-word on v hv here =
       next a g (λ i j. t i && eqb j (v / 32)) (λ k m o. flipped on o (v % 32)) (markedAll (gridOf S g) on v from to)
-      (writes-as (λ i j. t i && eqb j (v / 32)) (λ i j h _. and-comm (t i) (eqb j (v / 32)) ∙ ap (λ (s : Bool). eqb j (v / 32) && s) (agree i h)) (markedAll-writes S g one-word on v from to most hv))
+      (writes-as (λ i j. t i && eqb j (v / 32)) (λ i j h _. and-comm (t i) (eqb j (v / 32)) ∙ ap (λ (s : Bool). eqb j (v / 32) && s) (agree i h))
+      (markedAll-writes S g one-word on v from to most hv))
       y frame here
 
 -- from ≤ i ≤ last, and before last + 1

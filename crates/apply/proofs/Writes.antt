@@ -234,7 +234,8 @@ module _ (S : Settings) (g : Region) where
 
   -- a cell is not among those at (i, j): none of its words is there
   apart : {i j : ℕ} (d : ℕ → ℕ → Bool) → d i j ≡ true → i < slots S g → j < items S g
-      → (h : Region) (i' j' k' : ℕ) → Cell S h i' j' k' → among g d h i' j' ≡ false → (k : ℕ) → k < width g → address S h i' j' k' ≡ place (gridOf S g) i j 0 + k → ⊥
+      → (h : Region) (i' j' k' : ℕ) → Cell S h i' j' k' → among g d h i' j' ≡ false → (k : ℕ) → k < width g
+      → address S h i' j' k' ≡ place (gridOf S g) i j 0 + k → ⊥
   apart {i} {j} d here hi hj h i' j' k' c q k l e =
       let s : Same h g i' j' k' i j k = address-inj S h g c (record { slot = hi; item = hj; word = l }) (e ∙ sym (place-is i j k)) in
       let t : d i' j' ≡ true = rw (s .slot, s .item) here in
@@ -247,7 +248,8 @@ module _ (S : Settings) (g : Region) where
       let a : address S g i j (width g - 1) < bookLength S = address-lt S g (record { slot = c .slot; item = c .item; word = n }) in
       omega (arith, a, place-is i j (width g - 1), l)
 
-  module _ (i j : ℕ) (hi : i < slots S g) (hj : j < items S g) (d : ℕ → ℕ → Bool) (only : (i' j' : ℕ) → d i' j' ≡ true → (i' ≡ i) × (j' ≡ j)) (here : d i j ≡ true) where
+  module _ (i j : ℕ) (hi : i < slots S g) (hj : j < items S g) (d : ℕ → ℕ → Bool) (only : (i' j' : ℕ) → d i' j' ≡ true → (i' ≡ i) × (j' ≡ j))
+      (here : d i j ≡ true) where
     pub stored-writes : (c : Content) → Writes S g d (λ k a o. wordIn c k) (stored (gridOf S g) c i j)
     unfolding stored
     stored-writes c =
@@ -273,7 +275,8 @@ module _ (S : Settings) (g : Region) where
           head = λ b. head (eqb (cellAt (gridOf S g) b i j) w) b;
           other = λ b h i' j' k' cell q. other (eqb (cellAt (gridOf S g) b i j) w) b h i' j' k' cell q;
           mine = λ b l i' j' k cell q.
-              rw (only i' j' q .0, only i' j' q .1) (mine (eqb (cellAt (gridOf S g) b i j) w) b l k (record { slot = hi; item = hj; word = cell .word }) (ap (λ (a : ℕ). eqb a w) (cell-is b)));
+              rw (only i' j' q .0, only i' j' q .1) (mine (eqb (cellAt (gridOf S g) b i j) w) b l k
+              (record { slot = hi; item = hj; word = cell .word }) (ap (λ (a : ℕ). eqb a w) (cell-is b)));
         }
       where
         long : (t : Bool) (b : List ℕ) → length (cond t (stored (gridOf S g) empty i j b) b) ≡ length b

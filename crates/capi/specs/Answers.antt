@@ -1,17 +1,29 @@
--- What a caller in C or Rust is handed: the words of the model's answer, and the lent book afterwards.
+-- What a caller in C or Rust hands over and is handed: the words of a request and of the model's answer, and what was lent, afterwards.
 -- Assumes nothing.
 use Prim.Native.Nat.{ℕ}
 use mathlib.Core.Path.{_≡_}
 use mathlib.Core.List.{List, [], _∷_}
 use Rattle.capi.specs.declared.AnswerWords.{AnswerWords}
-use Rattle.model.specs.Machine.{answerWords}
-use Rattle.model.specs.Calls.{Called}
+use Rattle.capi.specs.declared.RequestWords.{RequestWords}
+use Rattle.model.specs.declared.Request.{Request}
+use Rattle.model.specs.Machine.{answerWords, requestOf}
+use Rattle.model.specs.Calls.{Called, Listed}
 
 -- the three words of the struct, in the order of its fields
 abbrev pub wordsOf : AnswerWords → List ℕ
 wordsOf r = r .number ∷ r .place ∷ r .value ∷ []
 
+-- the request that the seven words of the struct are
+abbrev pub requestBy : RequestWords → Request
+requestBy w = requestOf (w .kind ∷ w .a ∷ w .b ∷ w .first ∷ w .last ∷ w .n ∷ w .info ∷ [])
+
 -- the answer r and the book b are those of the model's call
 pub record Tells (c : Called) (r : AnswerWords) (b : List ℕ) : Type 0 where
   pub answer : wordsOf r ≡ answerWords (c .answer)
   pub book : b ≡ c .book
+
+-- the answer r, the book b and the lent words a of the answers are those of the model's list
+pub record TellsList (l : Listed) (r : AnswerWords) (b a : List ℕ) : Type 0 where
+  pub answer : wordsOf r ≡ answerWords (l .answer)
+  pub book : b ≡ l .book
+  pub answers : a ≡ l .answers

@@ -2,7 +2,9 @@
 use book::lay::lay;
 use book::settings::book_len;
 use checking::check;
+use engine::list;
 use model::Answer;
+use model::Request;
 ghost use mathlib.Core.Path.{_≡_};
 ghost use mathlib.Core.Bool.{cond};
 ghost use Rattle.model.specs.Machine.{answerWords};
@@ -10,7 +12,7 @@ ghost use Rattle.model.specs.Words.{bookLength};
 ghost use Rattle.model.specs.Reading.{settingsOf};
 ghost use Rattle.model.specs.Calls;
 ghost use Rattle.model.specs.Calls.{settingsGood};
-ghost use Rattle.capi.specs.Answers.{wordsOf, Tells};
+ghost use Rattle.capi.specs.Answers.{wordsOf, requestBy, Tells, TellsList};
 
 // An answer's three words: number and place, both 0 when done, then the value.
 #[repr(C)]
@@ -18,6 +20,32 @@ pub struct AnswerWords {
     pub number: u32,
     pub place: u32,
     pub value: u32,
+}
+
+// A request's seven words.
+#[repr(C)]
+pub struct RequestWords {
+    pub kind: u32,
+    pub a: u32,
+    pub b: u32,
+    pub first: u32,
+    pub last: u32,
+    pub n: u32,
+    pub info: u32,
+}
+
+fn asked(w: RequestWords) -> Request
+    ensures { λ r. ⌜ r ≡ requestBy w ⌝ }
+{
+    Request {
+        kind: w.kind,
+        a: w.a,
+        b: w.b,
+        first: w.first,
+        last: w.last,
+        n: w.n,
+        info: w.info,
+    }
 }
 
 fn told(a: Answer) -> AnswerWords
@@ -59,4 +87,37 @@ pub extern "C" fn caviar_check(book: &[u32]) -> AnswerWords
     ensures { λ r. ⌜ wordsOf r ≡ answerWords (Calls.check (now (book .entry))) ⌝ }
 {
     told(check(book))
+}
+
+// One request on any words.
+#[no_mangle]
+pub extern "C" fn caviar_request(book: &mut [u32], request: RequestWords) -> AnswerWords
+    ensures { λ r. ⌜ Tells (Calls.call (now (book .entry)) (requestBy request)) r (now (book .exit)) ⌝ }
+{
+    told(engine::request(book, asked(request)))
+}
+
+// A list of requests on any words, seven a request; three words an answer.
+#[no_mangle]
+pub extern "C" fn caviar_requests(
+    book: &mut [u32],
+    requests: &[u32],
+    answers: &mut [u32],
+) -> AnswerWords
+    ensures { λ r. ⌜ TellsList (Calls.callList (now (book .entry)) (now (requests .entry)) (now (answers .entry))) r (now (book .exit)) (now (answers .exit)) ⌝ }
+{
+    told(list::requests(book, requests, answers))
+}
+
+// Laying, and a list of requests from fresh.
+#[no_mangle]
+pub extern "C" fn caviar_serve(
+    settings: &[u32],
+    book: &mut [u32],
+    requests: &[u32],
+    answers: &mut [u32],
+) -> AnswerWords
+    ensures { λ r. ⌜ TellsList (Calls.serveList (now (settings .entry)) (now (book .entry)) (now (requests .entry)) (now (answers .entry))) r (now (book .exit)) (now (answers .exit)) ⌝ }
+{
+    told(list::serve(settings, book, requests, answers))
 }

@@ -64,27 +64,33 @@ module _ (S : Settings) (b : List ℕ) where
 
   pub leave-at : (d j : ℕ) → j < groups (S .visitors) → at S b leaves d j 0 ≡ getD (dateAt S b leaves d) j 0
   leave-at d j h =
-      ap (λ (i : ℕ). at S b leaves i j 0) (omega arith) ∙ at-is leaves d 0 j 0 (omega arith) (omega arith) ∙ ap (λ (x : ℕ). getD (dateAt S b leaves d) x 0) (omega arith)
+      ap (λ (i : ℕ). at S b leaves i j 0) (omega arith) ∙ at-is leaves d 0 j 0 (omega arith) (omega arith)
+      ∙ ap (λ (x : ℕ). getD (dateAt S b leaves d) x 0) (omega arith)
 
   pub hotel-at : (d j : ℕ) → j < S .hotels → at S b hotelCells d j 0 ≡ getD (dateAt S b hotelCells d) j 0
   hotel-at d j h =
-      ap (λ (i : ℕ). at S b hotelCells i j 0) (omega arith) ∙ at-is hotelCells d 0 j 0 (omega arith) (omega arith) ∙ ap (λ (x : ℕ). getD (dateAt S b hotelCells d) x 0) (omega arith)
+      ap (λ (i : ℕ). at S b hotelCells i j 0) (omega arith) ∙ at-is hotelCells d 0 j 0 (omega arith) (omega arith)
+      ∙ ap (λ (x : ℕ). getD (dateAt S b hotelCells d) x 0) (omega arith)
 
   pub lunch-at : (d j k : ℕ) → j < S .meetings → k < 3 → at S b lunchTriples d j k ≡ getD (dateAt S b lunchTriples d) (j * 3 + k) 0
   lunch-at d j k h l =
-      ap (λ (i : ℕ). at S b lunchTriples i j k) (omega arith) ∙ at-is lunchTriples d 0 j k (omega arith) (omega arith) ∙ ap (λ (x : ℕ). getD (dateAt S b lunchTriples d) x 0) (omega arith)
+      ap (λ (i : ℕ). at S b lunchTriples i j k) (omega arith) ∙ at-is lunchTriples d 0 j k (omega arith) (omega arith)
+      ∙ ap (λ (x : ℕ). getD (dateAt S b lunchTriples d) x 0) (omega arith)
 
-  pub stand-word : (d p j : ℕ) → p < S .sessions → j < groups (S .meetings) → at S b standings (d * S .sessions + p) j 0 ≡ getD (dateAt S b standings d) (p * groups (S .meetings) + j) 0
+  pub stand-word : (d p j : ℕ) → p < S .sessions → j < groups (S .meetings)
+      → at S b standings (d * S .sessions + p) j 0 ≡ getD (dateAt S b standings d) (p * groups (S .meetings) + j) 0
   stand-word d p j l h =
       let o : groups (S .meetings) * 1 ≡ groups (S .meetings) = mul-one (groups (S .meetings)) in
       let e : p * (groups (S .meetings) * 1) ≡ p * groups (S .meetings) = ap (λ (x : ℕ). p * x) o in
       at-is standings d p j 0 (ap (λ (x : ℕ). S .sessions * x) (sym o)) (omega (arith, e, row-inside p (S .sessions) (groups (S .meetings)) l))
       ∙ ap (λ (x : ℕ). getD (dateAt S b standings d) x 0) (omega (arith, e))
 
-  pub stand-at : (d p j : ℕ) → p < S .sessions → j < groups (S .meetings) → at S b standings (d * S .sessions + p) j 0 ≡ getD (rowAt (groups (S .meetings)) p (dateAt S b standings d)) j 0
+  pub stand-at : (d p j : ℕ) → p < S .sessions → j < groups (S .meetings)
+      → at S b standings (d * S .sessions + p) j 0 ≡ getD (rowAt (groups (S .meetings)) p (dateAt S b standings d)) j 0
   stand-at d p j l h = stand-word d p j l h ∙ sym (row-at (groups (S .meetings)) p (dateAt S b standings d) j h)
 
-  pub attend-at : (d p j : ℕ) → p < S .sessions → j < S .visitors → at S b attendCells (d * S .sessions + p) j 0 ≡ getD (rowAt (S .visitors) p (dateAt S b attendCells d)) j 0
+  pub attend-at : (d p j : ℕ) → p < S .sessions → j < S .visitors
+      → at S b attendCells (d * S .sessions + p) j 0 ≡ getD (rowAt (S .visitors) p (dateAt S b attendCells d)) j 0
   attend-at d p j l h =
       let o : S .visitors * 1 ≡ S .visitors = mul-one (S .visitors) in
       let e : p * (S .visitors * 1) ≡ p * S .visitors = ap (λ (x : ℕ). p * x) o in
@@ -92,7 +98,8 @@ module _ (S : Settings) (b : List ℕ) where
       ∙ ap (λ (x : ℕ). getD (dateAt S b attendCells d) x 0) (omega (arith, e))
       ∙ sym (row-at (S .visitors) p (dateAt S b attendCells d) j h)
 
-  pub ride-at : (d q j : ℕ) → q < S .times → j < S .transports → at S b rideCells (d * S .times + q) j 0 ≡ getD (rowAt (S .transports) q (dateAt S b rideCells d)) j 0
+  pub ride-at : (d q j : ℕ) → q < S .times → j < S .transports
+      → at S b rideCells (d * S .times + q) j 0 ≡ getD (rowAt (S .transports) q (dateAt S b rideCells d)) j 0
   ride-at d p j l h =
       let o : S .transports * 1 ≡ S .transports = mul-one (S .transports) in
       let e : p * (S .transports * 1) ≡ p * S .transports = ap (λ (x : ℕ). p * x) o in
@@ -100,7 +107,8 @@ module _ (S : Settings) (b : List ℕ) where
       ∙ ap (λ (x : ℕ). getD (dateAt S b rideCells d) x 0) (omega (arith, e))
       ∙ sym (row-at (S .transports) p (dateAt S b rideCells d) j h)
 
-  pub conf-at : (d p j k : ℕ) → p < S .sessions → j < S .rooms → k < 2 → at S b confPairs (d * S .sessions + p) j k ≡ getD (rowAt (S .rooms * 2) p (dateAt S b confPairs d)) (j * 2 + k) 0
+  pub conf-at : (d p j k : ℕ) → p < S .sessions → j < S .rooms → k < 2
+      → at S b confPairs (d * S .sessions + p) j k ≡ getD (rowAt (S .rooms * 2) p (dateAt S b confPairs d)) (j * 2 + k) 0
   conf-at d p j k l h m =
       at-is confPairs d p j k refl (omega (arith, row-inside p (S .sessions) (S .rooms * 2) l))
       ∙ sym (row-at (S .rooms * 2) p (dateAt S b confPairs d) (j * 2 + k) (omega arith))

@@ -22,7 +22,8 @@ use Rattle.pool.specs.Pool.{member}
 use Rattle.checking.proofs.Zeros.{none-zero}
 
 -- the bits of a table
-pub table-more : (row : List ℕ) (v : ℕ) (t : List Bool) (here : Bool) → v < 512 → Barred row v t → here ≡ not (member row v) → Barred row (v + 1) (set t (v + 1) here)
+pub table-more : (row : List ℕ) (v : ℕ) (t : List Bool) (here : Bool) → v < 512 → Barred row v t → here ≡ not (member row v)
+    → Barred row (v + 1) (set t (v + 1) here)
 table-more row v t here h b e = record {
   size = length-set t (v + 1) here ∙ b .size;
   none = getD-set-other t (v + 1) 0 here false (λ q. omega (arith, q)) ∙ b .none;
@@ -31,7 +32,8 @@ table-more row v t here h b e = record {
       (ap (λ (k : ℕ). getD (set t (v + 1) here) k false) (sym (add-one v)) ∙ getD-set-same t (v + 1) here false (omega (arith, b .size)) ∙ e);
 }
 
-pub most-more : (t : List Bool) (v limit : ℕ) (m : List ℕ) (here : ℕ) → v < 512 → Most t v limit m → here ≡ cond (getD t (suc v) false) 0 limit → Most t (v + 1) limit (set m v here)
+pub most-more : (t : List Bool) (v limit : ℕ) (m : List ℕ) (here : ℕ) → v < 512 → Most t v limit m → here ≡ cond (getD t (suc v) false) 0 limit
+    → Most t (v + 1) limit (set m v here)
 most-more t v limit m here h b e = record {
   size = length-set m v here ∙ b .size;
   low = λ u. go u (ℕ-discrete u v);
@@ -45,7 +47,8 @@ most-more t v limit m here h b e = record {
     fits false = omega arith
 
     go : (u : ℕ) → Dec (u ≡ v) → getD (set m v here) u 0 ≤ limit
-    go u (yes q) = omega (arith, ap (λ (k : ℕ). getD (set m v here) k 0) q, getD-set-same m v here 0 (omega (arith, b .size)), e, fits (getD t (suc v) false))
+    go u (yes q) =
+        omega (arith, ap (λ (k : ℕ). getD (set m v here) k 0) q, getD-set-same m v here 0 (omega (arith, b .size)), e, fits (getD t (suc v) false))
     go u (no n) = omega (arith, getD-set-other m v u here 0 n, b .low u)
 
 pub table-none : (row : List ℕ) → Barred row 0 (replicate 513 false)
@@ -100,7 +103,8 @@ bit-ors f (suc n) k =
     back p h e (yes q) = rw (ap f (sym q), e) (or-true (any (λ p. bit (f p) k) n))
     back p h e (no q) = rw (true-any (λ p. bit (f p) k) n p (omega (arith, q)) e)
 
-pub column-more : (rows : List ℕ) (n width k : ℕ) (r : List ℕ) (here : ℕ) → k < 4 → Columns rows n k width r → here ≡ ors (λ p. getD rows (p * width + k) 0) n
+pub column-more : (rows : List ℕ) (n width k : ℕ) (r : List ℕ) (here : ℕ) → k < 4 → Columns rows n k width r
+    → here ≡ ors (λ p. getD rows (p * width + k) 0) n
     → Columns rows n (k + 1) width (set r k here)
 column-more rows n width k r here h b e = record {
   size = length-set r k here ∙ b .size;
@@ -113,7 +117,8 @@ column-more rows n width k r here h b e = record {
 pub table-less : (row : List ℕ) (n m : ℕ) (t : List Bool) → m ≤ n → Barred row n t → Barred row m t
 table-less row n m t h b = record { size = b .size; none = b .none; each = λ v l. b .each v (omega arith) }
 
-pub table-bit : (row : List ℕ) (i k : ℕ) (t : List Bool) (here : Bool) → i < 16 → k < 32 → here ≡ not (bit (getD row i 0) k) → Barred row (i * 32 + k) t
+pub table-bit : (row : List ℕ) (i k : ℕ) (t : List Bool) (here : Bool) → i < 16 → k < 32 → here ≡ not (bit (getD row i 0) k)
+    → Barred row (i * 32 + k) t
     → Barred row (i * 32 + (k + 1)) (set t (i * 32 + k + 1) here)
 table-bit row i k t here h l q b =
     let e : (i * 32 + k) / 32 ≡ i = omega arith in

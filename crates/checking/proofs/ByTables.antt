@@ -16,10 +16,12 @@ use Rattle.checking.proofs.Barring.{cell-member, member-cell}
 
 module _ (leave : List ℕ) (limit : ℕ) (t : List Bool) (b : Barred leave limit t) where
   pub guested : (row : List ℕ) → Guests row limit t → Guested row leave limit
-  guested row g = record { range = g .range; onLeave = λ i v h e. cell-member leave limit t b (getD row i 0) (g .range i h) (g .free i h) v e; once = g .once }
+  guested row g =
+      record { range = g .range; onLeave = λ i v h e. cell-member leave limit t b (getD row i 0) (g .range i h) (g .free i h) v e; once = g .once }
 
   pub guests : (row : List ℕ) → Guested row leave limit → Guests row limit t
-  guests row g = record { range = g .range; free = λ i h. member-cell leave limit t b (getD row i 0) (g .range i h) (λ v e. g .onLeave i v h e); once = g .once }
+  guests row g =
+      record { range = g .range; free = λ i h. member-cell leave limit t b (getD row i 0) (g .range i h) (λ v e. g .onLeave i v h e); once = g .once }
 
   -- a column's bound, and leave
   module _ (meetings : ℕ) (bounds : List ℕ) (m : Most t limit meetings bounds) where
@@ -71,8 +73,17 @@ module _ (stand : List ℕ) (n width meetings : ℕ) (t : List Bool) (b : Barred
       → Eaten dining caps (standsIn stand n width j) (getD lunch (j * 3) 0) (getD lunch (j * 3 + 1) 0) (getD lunch (j * 3 + 2) 0)
   eaten l j h =
       let r = l .each j h in
-      record { range = r .range; fit = r .fit; some = r .some; stood = λ k. not-false (standsIn stand n width j) (sym (absent j h) ∙ r .stands k); beside = r .beside }
+      record {
+        range =
+            r .range;
+        fit =
+            r .fit;
+        some = r .some;
+        stood = λ k. not-false (standsIn stand n width j) (sym (absent j h) ∙ r .stands k);
+        beside = r .beside;
+      }
 
-  pub triple : (j : ℕ) → j < meetings → Eaten dining caps (standsIn stand n width j) (getD lunch (j * 3) 0) (getD lunch (j * 3 + 1) 0) (getD lunch (j * 3 + 2) 0)
+  pub triple : (j : ℕ) → j < meetings
+      → Eaten dining caps (standsIn stand n width j) (getD lunch (j * 3) 0) (getD lunch (j * 3 + 1) 0) (getD lunch (j * 3 + 2) 0)
       → Triple dining caps (getD t (j + 1) false) (getD lunch (j * 3) 0) (getD lunch (j * 3 + 1) 0) (getD lunch (j * 3 + 2) 0)
   triple j h r = record { range = r .range; fit = r .fit; some = r .some; stands = λ k. absent j h ∙ ap not (r .stood k); beside = r .beside }

@@ -16,10 +16,12 @@ use Rattle.checking.proofs.Answers.{decide}
 use Rattle.checking.proofs.Barring.{cell-member, member-cell}
 
 -- a pair that is within the limit
-pub pair-said : (limit : ℕ) (t : List Bool) (w info : ℕ) → w ≤ limit → Decides (not (getD t w false || (eqb w 0 && not (eqb info 0)))) (Pair limit t w info)
+pub pair-said : (limit : ℕ) (t : List Bool) (w info : ℕ) → w ≤ limit
+    → Decides (not (getD t w false || (eqb w 0 && not (eqb info 0)))) (Pair limit t w info)
 pair-said limit t w info h = decide _ (yes-pair (getD t w false) refl (eqb w 0) refl (eqb info 0) refl) (λ p. no-pair p)
   where
-    yes-pair : (s : Bool) → getD t w false ≡ s → (z : Bool) → eqb w 0 ≡ z → (i : Bool) → eqb info 0 ≡ i → not (s || (z && not i)) ≡ true → Pair limit t w info
+    yes-pair : (s : Bool) → getD t w false ≡ s → (z : Bool) → eqb w 0 ≡ z → (i : Bool) → eqb info 0 ≡ i → not (s || (z && not i)) ≡ true
+        → Pair limit t w info
     yes-pair true e z f i g q = absurd (false≢true q)
     yes-pair false e true f true g q = record { range = h; stands = e; beside = λ _. eqb-true info 0 g }
     yes-pair false e true f false g q = absurd (false≢true q)
@@ -42,11 +44,29 @@ module _ (dining : ℕ) (caps : List ℕ) (absent : Bool) (w seats info : ℕ) w
     where
       go : (z : Bool) → eqb w 0 ≡ z → (i : Bool) → eqb info 0 ≡ i → (n : Bool) → eqb seats 0 ≡ n → (a : Bool) → absent ≡ a
           → z && not i || (not z && (n || a)) ≡ false → Triple dining caps absent w seats info
-      go true p true q n r a s f = record { range = h; fit = l; some = λ k. absurd (k (eqb-true w 0 p)); stands = λ k. absurd (k (eqb-true w 0 p)); beside = λ k. eqb-true info 0 q }
+      go true p true q n r a s f =
+          record {
+            range =
+                h;
+            fit = l;
+            some = λ k. absurd (k (eqb-true w 0 p));
+            stands = λ k. absurd (k (eqb-true w 0 p));
+            beside = λ k. eqb-true info 0 q;
+          }
       go true p false q n r a s f = absurd (true≢false f)
       go false p i q true r a s f = absurd (true≢false f)
       go false p i q false r true s f = absurd (true≢false f)
-      go false p i q false r false s f = record { range = h; fit = l; some = λ k. let nz : seats ≡ 0 → ⊥ = eqb-false seats 0 r in omega (arith, nz); stands = λ k. s; beside = λ k. absurd (eqb-false w 0 p k) }
+      go false p i q false r false s f =
+          record {
+            range =
+                h;
+            fit =
+                l;
+            some =
+                λ k. let nz : seats ≡ 0 → ⊥ = eqb-false seats 0 r in omega (arith, nz);
+            stands = λ k. s;
+            beside = λ k. absurd (eqb-false w 0 p k);
+          }
 
   pub triple-is : Triple dining caps absent w seats info → wrong ≡ false
   triple-is t = go (eqb w 0) refl
@@ -98,7 +118,8 @@ module _ (stand attend conf bounds : List ℕ) (rooms meetings : ℕ) (t : List 
   }
 
   pub session-attended : Session stand attend conf bounds rooms meetings → Attended attend bounds t
-  session-attended s i h = (s .attends i h, member-cell stand meetings t b (getD attend i 0) (omega (arith, s .attends i h, low i)) (λ m e. s .attended i m h e))
+  session-attended s i h =
+      (s .attends i h, member-cell stand meetings t b (getD attend i 0) (omega (arith, s .attends i h, low i)) (λ m e. s .attended i m h e))
 
   pub session-paired : Session stand attend conf bounds rooms meetings → Paired conf rooms meetings t
   session-paired s j h = record {
@@ -107,7 +128,8 @@ module _ (stand attend conf bounds : List ℕ) (rooms meetings : ℕ) (t : List 
     beside = s .beside j h;
   }
 
-pub session-blank : (stand attend conf bounds : List ℕ) (rooms meetings : ℕ) → Padded stand meetings → Blanks attend conf → Session stand attend conf bounds rooms meetings
+pub session-blank : (stand attend conf bounds : List ℕ) (rooms meetings : ℕ) → Padded stand meetings → Blanks attend conf
+    → Session stand attend conf bounds rooms meetings
 session-blank stand attend conf bounds rooms meetings p z = record {
   pad = p;
   attends = λ i h. omega (arith, z .first i);

@@ -60,14 +60,16 @@ module _ (S : Settings) (caps b : List ℕ) (r : Ranges S) (laid : length b ≡ 
       (stand-at S b d p (m / 32) k (omega arith))
 
   -- meeting m stands in some session of date d
-  pub stands-same : (d m : ℕ) → d < S .dates → m < S .meetings → standsOn (readState S b) d m ≡ standsIn (dateAt S b standings d) (S .sessions) (groups (S .meetings)) m
+  pub stands-same : (d m : ℕ) → d < S .dates → m < S .meetings
+      → standsOn (readState S b) d m ≡ standsIn (dateAt S b standings d) (S .sessions) (groups (S .meetings)) m
   unfolding standsOn readState
   stands-same d m h l =
       bool-eq (any (λ s. eqb (s / S .sessions) d && bitAt S b standings s m) (allSessions S)) (any (λ p. bit (getD (dateAt S b standings d) (p * groups (S .meetings) + m / 32) 0) (m % 32)) (S .sessions))
       (λ e. forth (any-true (λ s. eqb (s / S .sessions) d && bitAt S b standings s m) (allSessions S) e))
       (λ e. back (any-true (λ p. bit (getD (dateAt S b standings d) (p * groups (S .meetings) + m / 32) 0) (m % 32)) (S .sessions) e))
     where
-      word : (p : ℕ) → p < S .sessions → bitAt S b standings (d * S .sessions + p) m ≡ bit (getD (dateAt S b standings d) (p * groups (S .meetings) + m / 32) 0) (m % 32)
+      word : (p : ℕ) → p < S .sessions
+          → bitAt S b standings (d * S .sessions + p) m ≡ bit (getD (dateAt S b standings d) (p * groups (S .meetings) + m / 32) 0) (m % 32)
       word p k =
           rw (inside-by S b standings (d * S .sessions + p) (m / 32) (within-slots (S .dates) (S .sessions) d p h k) (omega arith), stand-word S b d p (m / 32) k (omega arith))
 
@@ -99,8 +101,10 @@ module _ (S : Settings) (caps b : List ℕ) (r : Ranges S) (laid : length b ≡ 
   long-ride : (d q : ℕ) → d < S .dates → q < S .times → length (rowAt (S .transports) q (dateAt S b rideCells d)) ≡ S .transports
   long-ride d q h k = row-long-is (S .transports) q (S .times) (dateAt S b rideCells d) k (omega (arith, long rideCells d h))
 
-  conf-zero : (d p j : ℕ) → p < S .sessions → j < S .rooms → at S b confPairs (d * S .sessions + p) j 0 ≡ getD (rowAt (S .rooms * 2) p (dateAt S b confPairs d)) (j * 2) 0
-  conf-zero d p j k l = conf-at S b d p j 0 k l (omega arith) ∙ ap (λ (x : ℕ). getD (rowAt (S .rooms * 2) p (dateAt S b confPairs d)) x 0) (omega arith)
+  conf-zero : (d p j : ℕ) → p < S .sessions → j < S .rooms
+      → at S b confPairs (d * S .sessions + p) j 0 ≡ getD (rowAt (S .rooms * 2) p (dateAt S b confPairs d)) (j * 2) 0
+  conf-zero d p j k l =
+      conf-at S b d p j 0 k l (omega arith) ∙ ap (λ (x : ℕ). getD (rowAt (S .rooms * 2) p (dateAt S b confPairs d)) x 0) (omega arith)
 
   lunch-zero : (d j : ℕ) → j < S .meetings → at S b lunchTriples d j 0 ≡ getD (dateAt S b lunchTriples d) (j * 3) 0
   lunch-zero d j l = lunch-at S b d j 0 l (omega arith) ∙ ap (λ (x : ℕ). getD (dateAt S b lunchTriples d) x 0) (omega arith)

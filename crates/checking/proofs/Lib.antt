@@ -11,5 +11,5 @@ pub mod Addresses
 pub mod Empties
 pub mod Slots
 pub mod Facts
-pub mod Link
+pub mod Question2
 pub mod Verdicts

@@ -1,7 +1,7 @@
 -- Rows of a list, one after the other, and parts of it.
 -- Assumes nothing.
 use Prim.Native.Nat.{ℕ, _+_, _*_, _-_, _≤_, _<_}
-use mathlib.Core.Path.{_≡_, _∙_, ap, ap₂}
+use mathlib.Core.Path.{_≡_, _∙_, ap}
 use mathlib.Core.List.{List}
 use native.Mathlib.Nat.{suc-mul, mul-le-mul-right}
 use native.Mathlib.Numerals.{add-one}
@@ -20,11 +20,12 @@ row-inside d n width h = rw (next-row d width) (mul-le-mul-right width (omega ar
 pub part-by : (cells : List ℕ) (at n : ℕ) → at + n ≤ length cells → Part (take (at + n - at) (drop at cells)) n (take n (drop at cells))
 part-by cells at n h =
     let e : at + n - at ≡ n = omega arith in
-    record { is = ap (λ (k : ℕ). take k (drop at cells)) e; long = ap (λ (k : ℕ). length (take k (drop at cells))) e ∙ length-take-le n (drop at cells) (omega (arith, length-drop at cells)) }
-
-pub part-is : (cells : List ℕ) (d width at : ℕ) → at ≡ d * width → take (at + width - at) (drop at cells) ≡ rowAt width d cells
-part-is cells d width at e =
-    let n : at + width - at ≡ width = omega arith in ap₂ (λ (x y : ℕ). take x (drop y cells)) n e
+    record {
+      is =
+          ap (λ (k : ℕ). take k (drop at cells)) e;
+      long = ap (λ (k : ℕ). length (take k (drop at cells))) e
+          ∙ length-take-le n (drop at cells) (omega (arith, length-drop at cells));
+    }
 
 pub row-long : (width i : ℕ) (cells : List ℕ) → length (rowAt width i cells) ≤ width
 row-long width i cells = omega (arith, length-take width (drop (i * width) cells))

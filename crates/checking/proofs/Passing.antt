@@ -10,7 +10,7 @@ use native.Mathlib.Omega.{arith}
 use lib.Dec.{leb, eqb}
 use lib.ListN.{length, getD, set, drop, length-set, drop-of-length-le}
 use lib.Seq.{getD-set-same, getD-set-other, drop-cons}
-use borrow.Author.Tests.{leb-true, le-leb, lt-leb, eqb-true, eq-eqb, ne-eqb}
+use borrow.Author.Tests.{leb-true, le-leb, eqb-true, eq-eqb, ne-eqb}
 use Rattle.checking.specs.Rows.{Guests}
 
 -- a pass over a row: those seen are barred from then on
@@ -30,7 +30,8 @@ module _ (limit : ℕ) where
   pass-bad [] seen = refl
   pass-bad (w ∷ row) seen = go (leb w limit) (pass-bad row (set seen w (not (eqb w 0))))
     where
-      go : (b : Bool) → pass row limit (set seen w (not (eqb w 0))) true ≡ false → cond b (pass row limit (set seen w (not (eqb w 0))) true) false ≡ false
+      go : (b : Bool) → pass row limit (set seen w (not (eqb w 0))) true ≡ false
+          → cond b (pass row limit (set seen w (not (eqb w 0))) true) false ≡ false
       go true e = e
       go false e = refl
 
@@ -39,10 +40,6 @@ module _ (limit : ℕ) where
       → pass (drop i row) limit seen bad
       ≡ pass (drop (i + 1) row) limit (set seen (getD row i 0) (not (eqb (getD row i 0) 0))) (bad || getD seen (getD row i 0) false)
   pass-more row seen bad i h l = rw (drop-cons row i 0 h, le-leb (getD row i 0) limit l, add-one)
-
-  pub pass-over : (row : List ℕ) (seen : List Bool) (bad : Bool) (i : ℕ) → i < length row → limit < getD row i 0
-      → pass (drop i row) limit seen bad ≡ false
-  pass-over row seen bad i h l = rw (drop-cons row i 0 h, lt-leb (getD row i 0) limit l)
 
   pub pass-end : (row : List ℕ) (seen : List Bool) (bad : Bool) (i : ℕ) → length row ≤ i → not bad ≡ pass (drop i row) limit seen bad
   pass-end row seen bad i h = rw (drop-of-length-le row {i = i} h)
@@ -72,9 +69,11 @@ module _ (limit : ℕ) where
 
   pub says : (row : List ℕ) (seen : List Bool) → limit < length seen → pass row limit seen false ≡ true → Guests row limit seen
   says [] seen h e = record { range = λ i l. absurd (omega arith); free = λ i l. absurd (omega arith); once = λ i j l m q. absurd (omega arith) }
-  says (w ∷ row) seen h e = go (says row (set seen w (not (eqb w 0))) (omega (arith, length-set seen w (not (eqb w 0))))) (leb w limit) refl (getD seen w false) refl e
+  says (w ∷ row) seen h e =
+      go (says row (set seen w (not (eqb w 0))) (omega (arith, length-set seen w (not (eqb w 0))))) (leb w limit) refl (getD seen w false) refl e
     where
-      go : (pass row limit (set seen w (not (eqb w 0))) false ≡ true → Guests row limit (set seen w (not (eqb w 0)))) → (b : Bool) → leb w limit ≡ b → (f : Bool) → getD seen w false ≡ f → cond b (pass row limit (set seen w (not (eqb w 0))) f) false ≡ true → Guests (w ∷ row) limit seen
+      go : (pass row limit (set seen w (not (eqb w 0))) false ≡ true → Guests row limit (set seen w (not (eqb w 0)))) → (b : Bool) → leb w limit ≡ b
+          → (f : Bool) → getD seen w false ≡ f → cond b (pass row limit (set seen w (not (eqb w 0))) f) false ≡ true → Guests (w ∷ row) limit seen
       go rec false q f g e = absurd (false≢true e)
       go rec true q true g e = absurd (false≢true (sym (pass-bad row (set seen w (not (eqb w 0)))) ∙ e))
       go rec true q false g e =
@@ -86,11 +85,13 @@ module _ (limit : ℕ) where
           range l r zero m = l
           range l r (suc i) m = r .range i (omega arith)
 
-          free : w ≤ limit → Guests row limit (set seen w (not (eqb w 0))) → (i : ℕ) → i < suc (length row) → getD seen (getD (w ∷ row) i 0) false ≡ false
+          free : w ≤ limit → Guests row limit (set seen w (not (eqb w 0))) → (i : ℕ) → i < suc (length row)
+              → getD seen (getD (w ∷ row) i 0) false ≡ false
           free l r zero m = g
           free l r (suc i) m = next seen w (getD row i 0) (omega arith) g .0 (r .free i (omega arith)) .0
 
-          once : w ≤ limit → Guests row limit (set seen w (not (eqb w 0))) → (i j : ℕ) → i < j → j < suc (length row) → getD (w ∷ row) i 0 ≡ getD (w ∷ row) j 0 → getD (w ∷ row) i 0 ≡ 0
+          once : w ≤ limit → Guests row limit (set seen w (not (eqb w 0))) → (i j : ℕ) → i < j → j < suc (length row)
+              → getD (w ∷ row) i 0 ≡ getD (w ∷ row) j 0 → getD (w ∷ row) i 0 ≡ 0
           once l r i zero m k q = absurd (omega arith)
           once l r zero (suc j) m k q = next seen w (getD row j 0) (omega arith) g .0 (r .free j (omega arith)) .1 (sym q)
           once l r (suc i) (suc j) m k q = r .once i j (omega arith) (omega arith) q

@@ -1,7 +1,7 @@
 -- Rows of visitors (hotel, ride): what the words say, and the model's tests.
 -- Assumes nothing.
 use Prim.Native.Nat.{ℕ, suc, _+_, _*_, _/_, _%_, _≤_, _<_}
-use mathlib.Core.Path.{_≡_, refl, sym, _∙_}
+use mathlib.Core.Path.{_≡_, refl, sym, _∙_, ap}
 use mathlib.Core.Bool.{Bool, true, false}
 use mathlib.Core.List.{List}
 use native.Mathlib.Nat.{div-lt-iff-lt-mul, mod-lt, div-add-mod'}
@@ -11,16 +11,18 @@ use lib.ListN.{length, getD, take, drop, length-drop}
 use lib.Seq.{length-take-le}
 use borrow.Author.Tests.{ltb-true, ltb-false, lt-ltb, le-leb, eqb-true, eq-eqb}
 use Rattle.model.specs.declared.Settings.{Settings}
-use Rattle.model.specs.Words.{base, bookLength, Region, leaves, slots, items}
+use Rattle.model.specs.Words.{base, bookLength, Region, leaves, slots, items, hotelCells, standings, attendCells, confPairs, lunchTriples, rideCells}
 use Rattle.model.specs.Reading.{at, inside, bitAt, holds}
 use Rattle.model.specs.Laws.{cellsWithin}
 use Rattle.model.proofs.Search.{and-left, and-right, and-true, true-all}
 use Rattle.book.proofs.Regions.{end-le}
 use Rattle.checking.proofs.Addresses.{size-is}
-use Rattle.book.specs.Grids.{Laid}
+use Rattle.book.specs.declared.grid.Grids.{Grids}
+use Rattle.book.specs.Grids.{gridsOf}
+use Rattle.checking.specs.declared.dates.Shares.{Shares}
 use Rattle.checking.specs.Rows.{rowAt, Part}
 use Rattle.pool.specs.Pool.{member}
-use Rattle.checking.specs.Days.{Guested, shareOf, dateAt}
+use Rattle.checking.specs.Days.{Guested, shareOf, dateAt, sharesOf, At}
 use Rattle.checking.proofs.Parts.{row-inside}
 
 -- a slot is a date and a place in it
@@ -55,7 +57,8 @@ module _ (S : Settings) (b : List ℕ) where
   pub holds-by : (g : Region) (i j v : ℕ) → i < slots S g → j < items S g → at S b g i j 0 ≡ suc v → holds S b g i j v ≡ true
   holds-by g i j v h k e = and-true (inside-by g i j h k) (eq-eqb _ _ e)
 
-  pub bit-is : (g : Region) (i v : ℕ) (row : List ℕ) → i < slots S g → v / 32 < items S g → at S b g i (v / 32) 0 ≡ getD row (v / 32) 0 → bitAt S b g i v ≡ member row v
+  pub bit-is : (g : Region) (i v : ℕ) (row : List ℕ) → i < slots S g → v / 32 < items S g → at S b g i (v / 32) 0 ≡ getD row (v / 32) 0
+      → bitAt S b g i v ≡ member row v
   bit-is g i v row h k e = rw (inside-by g i (v / 32) h k, e)
 
   pub within-by : (g : Region) (n : ℕ) → ((i j : ℕ) → i < slots S g → j < items S g → at S b g i j 0 ≤ n) → cellsWithin S b g n ≡ true
@@ -119,13 +122,56 @@ module _ (S : Settings) (b : List ℕ) where
         length-take-le (shareOf S g) (drop (base S g + d * shareOf S g) b)
         (omega (arith, length-drop (base S g + d * shareOf S g) b, row-inside d (S .dates) (shareOf S g) h, fits g))
 
--- the part of a region that the code takes for date d, with the region's first word at x and y words a date
-module _ (S : Settings) (b : List ℕ) (l : Laid S b) (d : ℕ) (h : d < S .dates) (g : Region) (x y : ℕ) (start : x ≡ base S g) (share : y ≡ shareOf S g) where
-  pub part-fits : (d < S .dates) × (x + S .dates * y ≤ length b)
-  part-fits = (h, rw (start, share) (fits S b (l .long) g))
+-- the part of a region that the code takes for date d
+abbrev startIn : Grids → Region → ℕ
+startIn g leaves = g .leave .base
+startIn g hotelCells = g .hotel .base
+startIn g standings = g .standing .base
+startIn g attendCells = g .attend .base
+startIn g confPairs = g .conf .base
+startIn g lunchTriples = g .lunch .base
+startIn g rideCells = g .ride .base
 
-  pub part-date : {r : List ℕ} → Part r y (take y (drop (x + d * y) b)) → Part r (shareOf S g) (dateAt S b g d)
-  part-date {r} p = rw (start, share) at p
+abbrev shareIn : Shares → Region → ℕ
+shareIn h leaves = h .leave
+shareIn h hotelCells = h .hotel
+shareIn h standings = h .stand
+shareIn h attendCells = h .attend
+shareIn h confPairs = h .conf
+shareIn h lunchTriples = h .lunch
+shareIn h rideCells = h .ride
+
+start-is : (S : Settings) (g : Region) → startIn (gridsOf S) g ≡ base S g
+start-is S leaves = refl
+start-is S hotelCells = refl
+start-is S standings = refl
+start-is S attendCells = refl
+start-is S confPairs = refl
+start-is S lunchTriples = refl
+start-is S rideCells = refl
+
+share-is : (S : Settings) (g : Region) → shareIn (sharesOf S) g ≡ shareOf S g
+share-is S leaves = refl
+share-is S hotelCells = refl
+share-is S standings = refl
+share-is S attendCells = refl
+share-is S confPairs = refl
+share-is S lunchTriples = refl
+share-is S rideCells = refl
+
+module _ {S : Settings} {b : List ℕ} {G : Grids} {H : Shares} {d : ℕ} (p : At S b G H d) (g : Region) where
+  start : startIn G g ≡ base S g
+  start = ap (λ (G : Grids). startIn G g) (p .starts) ∙ start-is S g
+
+  share : shareIn H g ≡ shareOf S g
+  share = ap (λ (H : Shares). shareIn H g) (p .sizes) ∙ share-is S g
+
+  pub part-fits : (d < S .dates) × (startIn G g + S .dates * shareIn H g ≤ length b)
+  part-fits = (p .date, rw (start, share) (fits S b (p .laid .long) g))
+
+  pub part-date : {r : List ℕ} → Part r (shareIn H g) (take (shareIn H g) (drop (startIn G g + d * shareIn H g) b))
+      → Part r (shareOf S g) (dateAt S b g d)
+  part-date {r} q = rw (start, share) at q
 
 pub row-long-is : (w p n : ℕ) (cells : List ℕ) → p < n → n * w ≤ length cells → length (rowAt w p cells) ≡ w
 row-long-is w p n cells h l = length-take-le w (drop (p * w) cells) (omega (arith, length-drop (p * w) cells, row-inside p n w h))

@@ -31,7 +31,8 @@ ors-zero f (suc n) e k h = go (ors-zero f n (or-zero (ors f n) (f n) e .0) k) (�
     go r (no q) = r (omega (arith, q))
 
 -- n words more that are 0
-pub zeros-more : (row : List ℕ) (i n : ℕ) → ((j : ℕ) → j < i → getD row j 0 ≡ 0) → ors (λ k. getD row (i + k) 0) n ≡ 0 → (j : ℕ) → j < i + n → getD row j 0 ≡ 0
+pub zeros-more : (row : List ℕ) (i n : ℕ) → ((j : ℕ) → j < i → getD row j 0 ≡ 0) → ors (λ k. getD row (i + k) 0) n ≡ 0 → (j : ℕ) → j < i + n
+    → getD row j 0 ≡ 0
 zeros-more row i n f e j h = go (ltb j i) refl
   where
     go : (b : Bool) → ltb j i ≡ b → getD row j 0 ≡ 0

@@ -8,6 +8,8 @@ use lib.ListN.{length, getD, take, drop}
 use Rattle.model.specs.declared.Settings.{Settings}
 use Rattle.model.specs.Bounded.{any, sum, bit}
 use Rattle.model.specs.Words.{groups, base, Region, leaves, hotelCells, standings, attendCells, confPairs, lunchTriples, rideCells}
+use Rattle.book.specs.declared.grid.Grids.{Grids}
+use Rattle.book.specs.Grids.{Laid, gridsOf}
 use Rattle.checking.specs.declared.dates.Shares.{Shares}
 use Rattle.checking.specs.Rows.{Blank, Padded, rowAt, seatsIn}
 use Rattle.pool.specs.Pool.{member}
@@ -96,6 +98,13 @@ sharesOf S =
       lunch = shareOf S lunchTriples;
       ride = shareOf S rideCells;
     }
+
+-- where the code finds date d of a well-laid book
+pub record At (S : Settings) (b : List ℕ) (grids : Grids) (shares : Shares) (d : ℕ) : Type 0 where
+  pub laid : Laid S b
+  pub starts : grids ≡ gridsOf S
+  pub sizes : shares ≡ sharesOf S
+  pub date : d < S .dates
 
 -- date d of a region of a book
 abbrev pub dateAt : Settings → List ℕ → Region → ℕ → List ℕ

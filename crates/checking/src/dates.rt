@@ -11,7 +11,7 @@ ghost use Rattle.model.specs.Words.{groups};
 ghost use Rattle.book.specs.Ranges.{Ranges};
 ghost use Rattle.book.specs.Grids.{gridsOf, Laid};
 ghost use Rattle.checking.specs.Rows.{Decides, Blanks, Padded, Session, rowAt, Part};
-ghost use Rattle.checking.specs.Days.{Day, Long, Empty, Caps, DayAt, sharesOf};
+ghost use Rattle.checking.specs.Days.{Day, Long, Empty, Caps, At, DayAt, sharesOf};
 
 // The words of one date in each region.
 pub struct Shares {
@@ -226,11 +226,8 @@ fn date_at(
     caps: &[u32; 17],
     d: usize,
 ) -> bool
-    requires { ⌜ Laid s (now book) ⌝ }
-    requires { ⌜ grids ≡ gridsOf s ⌝ }
-    requires { ⌜ shares ≡ sharesOf s ⌝ }
+    requires { ⌜ At s (now book) grids shares d ⌝ }
     requires { ⌜ Caps s (now caps) ⌝ }
-    requires { ⌜ d < s .dates ⌝ }
     ensures { λ r. ⌜ Decides r (DayAt s (now (caps .entry)) (now (book .entry)) d) ⌝ }
 {
     let days = s.dates as usize;

@@ -1,12 +1,11 @@
 -- What a question of cells asks of a grid, from what is known of a good book.
 -- Assumes nothing.
-use Prim.Native.Nat.{ℕ, _≤_, _<_}
-use mathlib.Core.Path.{_≡_, sym, subst, ap}
+use Prim.Native.Nat.{ℕ, _<_}
+use mathlib.Core.Path.{_≡_, sym, subst}
 use mathlib.Core.List.{List}
 use lib.ListN.{length}
 use Rattle.book.specs.declared.grid.Grid.{Grid}
-use Rattle.book.specs.declared.grid.Grids.{Grids}
-use Rattle.book.specs.Grids.{Fits, gridOf, gridsOf}
+use Rattle.book.specs.Grids.{Fits, gridOf}
 use Rattle.book.specs.Good.{Good}
 use Rattle.book.proofs.Goods.{good-laid}
 use Rattle.book.proofs.Regions.{fits}

@@ -4,3 +4,4 @@ pub mod Grounds
 pub mod Pairs
 pub mod Meanings
 pub mod Whole
+pub mod Nights

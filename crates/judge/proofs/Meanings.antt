@@ -1,12 +1,11 @@
 -- The answer of each kind as the code finds it is the answer of the model's questions, asked one after the other.
 -- Assumes nothing.
-use Prim.Native.Nat.{ℕ, zero, suc, _+_, _≤_, _<_}
+use Prim.Native.Nat.{ℕ}
 use mathlib.Core.Path.{_≡_, refl, sym, _∙_, ap, ap₂, subst}
-use mathlib.Core.Bool.{Bool, true, false, not, _&&_, cond}
+use mathlib.Core.Bool.{Bool, true, false, cond}
 use mathlib.Core.Option.{Option, none, some}
-use mathlib.Core.List.{List, [], _∷_}
+use mathlib.Core.List.{List}
 use native.Mathlib.Omega.{arith}
-use lib.Dec.{leb, eqb}
 use Rattle.book.specs.declared.grid.Grids.{Grids}
 use Rattle.book.specs.Founds.{foundOf}
 use Rattle.book.specs.Grids.{gridsOf}
@@ -19,7 +18,7 @@ use Rattle.judge.proofs.Pairs.{present-fails, absent-fails, free-fails,
 use Rattle.model.specs.declared.Settings.{Settings}
 use Rattle.model.specs.declared.Request.{Request}
 use Rattle.model.specs.declared.Answer.{Answer}
-use Rattle.model.specs.declared.Answer.the-variants.{Done, Refused}
+use Rattle.model.specs.declared.Answer.the-variants.{Done}
 use Rattle.model.specs.Bounded.{failing, found, isSome, within}
 use Rattle.model.specs.Site.{capacity}
 use Rattle.model.specs.State.{hotels, rides, attends, confs, lunches}

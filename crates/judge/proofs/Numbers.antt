@@ -1,10 +1,9 @@
 -- Kinds by number: the last one is what is left when the others are excluded, and past it there is none.
 -- Assumes nothing.
-use Prim.Native.Nat.{ℕ, zero, suc, _+_, _≤_, _<_}
-use mathlib.Core.Path.{_≡_, refl}
+use Prim.Native.Nat.{ℕ, zero, suc, _≤_, _<_}
+use mathlib.Core.Path.{_≡_}
 use mathlib.Core.Option.{none}
 use native.Mathlib.Omega.{arith}
-use Rattle.model.specs.Kinds.{kindOf}
 
 -- k is none of 1 to n
 abbrev pub Others : ℕ → ℕ → Type 0

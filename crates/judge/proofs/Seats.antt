@@ -2,7 +2,7 @@
 -- Assumes nothing.
 use Prim.Native.Nat.{ℕ, _≤_, _<_}
 use mathlib.Core.Path.{_≡_, sym, subst}
-use mathlib.Core.Bool.{Bool, true, cond}
+use mathlib.Core.Bool.{true, cond}
 use mathlib.Core.List.{List}
 use native.Mathlib.Omega.{arith}
 use lib.Dec.{ltb, eqb}
@@ -13,9 +13,7 @@ use Rattle.model.specs.Site.{capacity, validSettings, ranges}
 use Rattle.model.specs.State.{State, reserved}
 use Rattle.model.specs.Reading.{readState, stateOf}
 use Rattle.model.proofs.Search.{Each, conj-is, all-true, within-true}
-use Rattle.model.proofs.Laws.{Sound}
 use Rattle.book.specs.Good.{Good}
-use Rattle.book.specs.Ranges.{Ranges}
 use Rattle.book.proofs.Goods.{good-laid, good-state, good-sound}
 
 module _ {S : Settings} {b : List ℕ} (good : Good S b) where

@@ -144,8 +144,8 @@ fn add_conf(book: &[u32], s: Settings, g: Grids, a: u32, b: u32, first: u32, las
             place: i,
         };
     }
-    let cells = g.conf;
-    if let Found::At(i) = first_failing(book, cells, Ask::Absent, a, b + 1, first, last) {
+    let pairs = g.conf;
+    if let Found::At(i) = first_failing(book, pairs, Ask::Absent, a, b + 1, first, last) {
         return Answer::Refused {
             number: 11,
             place: i,
@@ -153,7 +153,7 @@ fn add_conf(book: &[u32], s: Settings, g: Grids, a: u32, b: u32, first: u32, las
     }
     settled(
         12,
-        first_failing(book, cells, Ask::Empty, a, b + 1, first, last),
+        first_failing(book, pairs, Ask::Empty, a, b + 1, first, last),
     )
 }
 
@@ -182,14 +182,14 @@ fn add_lunch(
             place: i,
         };
     }
-    let cells = g.lunch;
-    if let Found::At(i) = first_failing(book, cells, Ask::Absent, b, a + 1, first, last) {
+    let triples = g.lunch;
+    if let Found::At(i) = first_failing(book, triples, Ask::Absent, b, a + 1, first, last) {
         return Answer::Refused {
             number: 11,
             place: i,
         };
     }
-    if let Found::At(i) = first_failing(book, cells, Ask::Own, b, a + 1, first, last) {
+    if let Found::At(i) = first_failing(book, triples, Ask::Own, b, a + 1, first, last) {
         return Answer::Refused {
             number: 13,
             place: i,

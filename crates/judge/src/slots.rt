@@ -1,6 +1,7 @@
 // The questions of a visitor, a meeting or a dining room in each slot: 9, 10, 14 and 16 to 20.
 use book::found::Found;
 use book::grid::Grids;
+use book::rows::row_has;
 use book::units::Slot;
 use book::units::date_of_session;
 use model::Session;
@@ -15,8 +16,10 @@ use queries::entries::stands;
 use queries::rooms::reserved;
 ghost use mathlib.Core.Path.{_≡_};
 ghost use Prim.Native.Nat.{_≤_, _<_};
+ghost use lib.Dec.{eqb};
 ghost use Rattle.model.specs.Bounded.{failing};
 ghost use Rattle.model.specs.Kinds.{slotsOf};
+ghost use Rattle.model.specs.Questions.{bookings as bookingsIn};
 ghost use Rattle.model.specs.Reading.{stateOf};
 ghost use Rattle.model.specs.Site.{allSessions, capacity as capacityOf};
 ghost use Rattle.book.specs.Founds.{foundOf};
@@ -79,11 +82,27 @@ fn not_held(book: &[u32], s: Settings, g: Grids, session: u32, meeting: u32) -> 
     requires { ⌜ meeting < s .meetings ⌝ }
     ensures { λ r. ⌜ r ≡ notHeld s (stateOf (now (book .entry))) session meeting ⌝ }
 {
-    if conf_held(book, s, g, session, meeting) {
+    let date = date_of_session(s, Session(session));
+    let lunch = lunch_held(book, s, g, date.0, meeting);
+    let conf = conf_held(book, s, g, session, meeting);
+    if conf {
         return false;
     }
-    let date = date_of_session(s, Session(session));
-    !lunch_held(book, s, g, date.0, meeting)
+    !lunch
+}
+
+// Question 18 on one date. A hotel room is looked for first: most visitors with an entry have one.
+fn no_bookings(book: &[u32], s: Settings, g: Grids, date: u32, visitor: u32) -> bool
+    requires { ⌜ Good s (now book) ⌝ }
+    requires { ⌜ g ≡ gridsOf s ⌝ }
+    requires { ⌜ date < s .dates ⌝ }
+    requires { ⌜ visitor < s .visitors ⌝ }
+    ensures { λ r. ⌜ r ≡ eqb (bookingsIn (stateOf (now (book .entry))) visitor date date) 0 ⌝ }
+{
+    if row_has(book, g.hotel, date, visitor + 1) {
+        return false;
+    }
+    bookings(book, s, g, visitor, date, date) == 0
 }
 
 fn holds(book: &[u32], s: Settings, g: Grids, t: Test, who: u32, n: u32, slot: u32) -> bool
@@ -101,7 +120,7 @@ fn holds(book: &[u32], s: Settings, g: Grids, t: Test, who: u32, n: u32, slot: u
         Test::RoomLeft => room_left(book, s, g, slot, who, n),
         Test::HasConf => conf_held(book, s, g, slot, who),
         Test::HasLunch => lunch_held(book, s, g, slot, who),
-        Test::NoBookings => bookings(book, s, g, who, slot, slot) == 0,
+        Test::NoBookings => no_bookings(book, s, g, slot, who),
         Test::NotHeld => not_held(book, s, g, slot, who),
         Test::Attended => attended(book, s, g, slot, who),
     }

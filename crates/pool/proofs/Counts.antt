@@ -37,7 +37,8 @@ sum-none f i (suc n) e =
     omega (arith, head, sum-none f (suc i) n (λ t h. ap f (omega arith) ∙ e (suc t) (omega arith)))
 
 -- one word more
-pub count-word : (row : List ℕ) (i : ℕ) → getD row i 0 < 2 ^ 32 → count (member row) ((i + 1) * 32) ≡ count (member row) (i * 32) + ones (getD row i 0)
+pub count-word : (row : List ℕ) (i : ℕ) → getD row i 0 < 2 ^ 32
+    → count (member row) ((i + 1) * 32) ≡ count (member row) (i * 32) + ones (getD row i 0)
 count-word row i h =
     let e : (i + 1) * 32 ≡ i * 32 + 32 = omega arith in
     ap (count (member row)) e ∙ sum-split (λ v. one (member row v)) 0 (i * 32) 32

@@ -47,7 +47,8 @@ pack-or : (p q : ℕ → Bool) (i n m : ℕ) → m < 2 ^ n → ((t : ℕ) → t 
 pack-or p q i zero m h e = let z : m ≡ 0 = omega (arith, h) in rw z (sym (or-zero-r 0))
 pack-or p q i (suc n) m h e =
     let low : one (q i) ≡ max (one (p i)) (m % 2)
-    = ap one (ap q (omega arith) ∙ e 0 (omega arith) ∙ ap (λ (v : ℕ). p v || bit m 0) (omega arith)) ∙ one-or (p i) (bit m 0) ∙ ap (max (one (p i))) (one-low m) in
+    = ap one (ap q (omega arith) ∙ e 0 (omega arith) ∙ ap (λ (v : ℕ). p v || bit m 0) (omega arith)) ∙ one-or (p i) (bit m 0)
+    ∙ ap (max (one (p i))) (one-low m) in
     let high : packFrom q (suc i) n ≡ bitOr (packFrom p (suc i) n) (m / 2)
     = pack-or p q (suc i) n (m / 2) (omega (arith, h))
     (λ t l. ap q (omega arith) ∙ e (suc t) (omega (arith, l)) ∙ ap₂ (λ (a b : Bool). a || b) (ap p (omega arith)) (bit-suc m t)) in
@@ -59,7 +60,8 @@ pack-and : (p q : ℕ → Bool) (i n m : ℕ) → ((t : ℕ) → t < n → q (i 
 pack-and p q i zero m e = refl
 pack-and p q i (suc n) m e =
     let low : one (q i) ≡ min (one (p i)) (m % 2)
-    = ap one (ap q (omega arith) ∙ e 0 (omega arith) ∙ ap (λ (v : ℕ). p v && bit m 0) (omega arith)) ∙ one-and (p i) (bit m 0) ∙ ap (min (one (p i))) (one-low m) in
+    = ap one (ap q (omega arith) ∙ e 0 (omega arith) ∙ ap (λ (v : ℕ). p v && bit m 0) (omega arith)) ∙ one-and (p i) (bit m 0)
+    ∙ ap (min (one (p i))) (one-low m) in
     let high : packFrom q (suc i) n ≡ bitAnd (packFrom p (suc i) n) (m / 2)
     = pack-and p q (suc i) n (m / 2)
     (λ t l. ap q (omega arith) ∙ e (suc t) (omega (arith, l)) ∙ ap₂ (λ (a b : Bool). a && b) (ap p (omega arith)) (bit-suc m t)) in
@@ -89,14 +91,16 @@ bit-mask zero k t h l = absurd (omega arith)
 bit-mask (suc n) zero zero h l = ne-eqb ((2 ^ suc n - 1 - 1) / 1 % 2) 1 (λ e. omega (arith, pow-pos n, e))
 bit-mask (suc n) zero (suc t) h l =
     let e : (2 ^ suc n - 1 - 1) / 2 ≡ 2 ^ n - 1 = omega (arith, pow-pos n) in
-    bit-suc (2 ^ suc n - 1 - 1) t ∙ ap (λ (w : ℕ). bit w t) e ∙ bit-ones n t (omega (arith, l)) ∙ sym (ap not (ne-eqb (suc t) 0 (λ q. omega (arith, q))))
+    bit-suc (2 ^ suc n - 1 - 1) t ∙ ap (λ (w : ℕ). bit w t) e ∙ bit-ones n t (omega (arith, l))
+    ∙ sym (ap not (ne-eqb (suc t) 0 (λ q. omega (arith, q))))
 bit-mask (suc n) (suc k) zero h l =
     let g : 2 ^ k < 2 ^ n = pow-lt (omega (arith, h)) in
     eq-eqb ((2 ^ suc n - 1 - 2 ^ suc k) / 1 % 2) 1 (omega (arith, g)) ∙ sym (ap not (ne-eqb 0 (suc k) (λ q. omega (arith, q))))
 bit-mask (suc n) (suc k) (suc t) h l =
     let g : 2 ^ k < 2 ^ n = pow-lt (omega (arith, h)) in
     let e : (2 ^ suc n - 1 - 2 ^ suc k) / 2 ≡ 2 ^ n - 1 - 2 ^ k = omega (arith, g) in
-    bit-suc (2 ^ suc n - 1 - 2 ^ suc k) t ∙ ap (λ (w : ℕ). bit w t) e ∙ bit-mask n k t (omega (arith, h)) (omega (arith, l)) ∙ ap not (sym (eqb·suc-suc t k))
+    bit-suc (2 ^ suc n - 1 - 2 ^ suc k) t ∙ ap (λ (w : ℕ). bit w t) e ∙ bit-mask n k t (omega (arith, h)) (omega (arith, l))
+    ∙ ap not (sym (eqb·suc-suc t k))
 
 -- a word is its bits, and two words of equal bits are equal
 pub pack-bits : (n w : ℕ) → w < 2 ^ n → packFrom (bit w) 0 n ≡ w
@@ -178,8 +182,10 @@ shift (suc i) t k = rw (suc-add i t, suc-add i k) (shift i t k ∙ sym (eqb·suc
 module _ (p : ℕ → Bool) (i k : ℕ) where
   pub put-pack : put (packFrom p i 32) k ≡ packFrom (λ v. p v || eqb v (i + k)) i 32
   unfolding put
-  put-pack = pack-same (λ t. bit (packFrom p i 32) t || eqb t k) (λ v. p v || eqb v (i + k)) 0 i 32 (λ t h. ap₂ _||_ (ap (bit (packFrom p i 32)) (omega arith) ∙ bit-pack p i 32 t h) (ap (λ (t : ℕ). eqb t k) (omega arith) ∙ shift i t k))
+  put-pack =
+      pack-same (λ t. bit (packFrom p i 32) t || eqb t k) (λ v. p v || eqb v (i + k)) 0 i 32 (λ t h. ap₂ _||_ (ap (bit (packFrom p i 32)) (omega arith) ∙ bit-pack p i 32 t h) (ap (λ (t : ℕ). eqb t k) (omega arith) ∙ shift i t k))
 
   pub clear-pack : clear (packFrom p i 32) k ≡ packFrom (λ v. p v && not (eqb v (i + k))) i 32
   unfolding clear
-  clear-pack = pack-same (λ t. bit (packFrom p i 32) t && not (eqb t k)) (λ v. p v && not (eqb v (i + k))) 0 i 32 (λ t h. ap₂ (λ (a b : Bool). a && not b) (ap (bit (packFrom p i 32)) (omega arith) ∙ bit-pack p i 32 t h) (ap (λ (t : ℕ). eqb t k) (omega arith) ∙ shift i t k))
+  clear-pack =
+      pack-same (λ t. bit (packFrom p i 32) t && not (eqb t k)) (λ v. p v && not (eqb v (i + k))) 0 i 32 (λ t h. ap₂ (λ (a b : Bool). a && not b) (ap (bit (packFrom p i 32)) (omega arith) ∙ bit-pack p i 32 t h) (ap (λ (t : ℕ). eqb t k) (omega arith) ∙ shift i t k))

@@ -1,4 +1,5 @@
 // The hotel, ride and attend entries of a visitor on a run of dates.
+use crate::entries::on_leave;
 use book::grid::Grid;
 use book::grid::Grids;
 use book::grid::cell;
@@ -58,8 +59,8 @@ fn column_count(book: &[u32], g: Grid, item: u32, lo: u32, hi: u32) -> u32
     n
 }
 
-// The entries of the visitor on the dates from..to.
-pub fn bookings(book: &[u32], s: Settings, g: Grids, visitor: u32, from: u32, to: u32) -> u32
+// The entries of the visitor on the dates from..to, searched for in every slot of theirs.
+fn entries(book: &[u32], s: Settings, g: Grids, visitor: u32, from: u32, to: u32) -> u32
     requires { ⌜ Good s (now book) ⌝ }
     requires { ⌜ g ≡ gridsOf s ⌝ }
     requires { ⌜ visitor < s .visitors ⌝ }
@@ -77,4 +78,36 @@ pub fn bookings(book: &[u32], s: Settings, g: Grids, visitor: u32, from: u32, to
     let rides = rows_count(book, g.ride, visitor + 1, t0, t1);
     let meetings = column_count(book, g.attend, visitor, s0, s1);
     nights + rides + meetings
+}
+
+// The entries of the visitor on one date: there are none without leave.
+fn on_date(book: &[u32], s: Settings, g: Grids, visitor: u32, date: u32) -> u32
+    requires { ⌜ Good s (now book) ⌝ }
+    requires { ⌜ g ≡ gridsOf s ⌝ }
+    requires { ⌜ visitor < s .visitors ⌝ }
+    requires { ⌜ date < s .dates ⌝ }
+    ensures { λ r. ⌜ r ≡ bookingsIn (stateOf (now (book .entry))) visitor date date ⌝ }
+{
+    if !on_leave(book, s, g, Slot::Dates, date, visitor) {
+        return 0;
+    }
+    entries(book, s, g, visitor, date, date)
+}
+
+// The entries of the visitor on the dates from..to.
+pub fn bookings(book: &[u32], s: Settings, g: Grids, visitor: u32, from: u32, to: u32) -> u32
+    requires { ⌜ Good s (now book) ⌝ }
+    requires { ⌜ g ≡ gridsOf s ⌝ }
+    requires { ⌜ visitor < s .visitors ⌝ }
+    requires { ⌜ from ≤ to ⌝ }
+    requires { ⌜ to < s .dates ⌝ }
+    ensures { λ r. ⌜ r ≡ bookingsIn (stateOf (now (book .entry))) visitor from to ⌝ }
+{
+    let mut n = on_date(book, s, g, visitor, from);
+    let mut date = from;
+    while date < to {
+        date += 1;
+        n += on_date(book, s, g, visitor, date);
+    }
+    n
 }

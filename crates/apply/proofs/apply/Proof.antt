@@ -1,6 +1,7 @@
-use Prim.Native.Nat.{_+_, _/_}
+use Prim.Native.Nat.{ℕ, _+_, _/_}
 use mathlib.Core.Path.{refl, sym, _∙_, ap, subst}
 use mathlib.Core.Bool.{true, false}
+use mathlib.Core.List.{List}
 use native.Mathlib.Omega.{arith}
 use Rattle.model.specs.declared.Settings.{Settings}
 use Rattle.model.specs.Site.{dateOfSession}
@@ -11,13 +12,13 @@ use Rattle.model.specs.Kinds.{Kind.addLunch, Kind.eraseLunch, Kind.eraseConfAnd
 use Rattle.model.specs.Words.{leaves, hotelCells, standings, attendCells, confPairs, lunchTriples, rideCells}
 use Rattle.book.specs.declared.grid.Grids.{Grids}
 use Rattle.book.specs.declared.units.Slot.the-variants.{Sessions, Times}
-use Rattle.book.specs.Grids.{gridOf}
 use Rattle.book.proofs.Regions.{group-lt}
-use Rattle.book.proofs.Goods.{good-laid}
 use Rattle.apply.specs.Stores.{full, empty, filled, swept, markedAll, OnDates}
-use Rattle.apply.proofs.Columns.{write-addHotel, write-eraseHotel, write-addRide, write-eraseRide, write-addAttend, write-eraseAttend, write-addConf, write-addLunch, write-eraseLunch}
-use Rattle.apply.proofs.Erasures.{write-addLeave, write-endLeave, write-removeVisitor, write-addStanding, write-endStanding, write-eraseConf, write-eraseConfAndLunch}
-use Rattle.apply.proofs.Arms.{item-of, slots-ok, a-ok, b-ok, span, arm, unchanged}
+use Rattle.apply.proofs.Columns.{write-addHotel, write-eraseHotel, write-addRide, write-eraseRide, write-addAttend, write-eraseAttend}
+use Rattle.apply.proofs.Columns.{write-addConf, write-addLunch, write-eraseLunch}
+use Rattle.apply.proofs.Erasures.{write-addLeave, write-endLeave, write-removeVisitor, write-addStanding, write-endStanding, write-eraseConf}
+use Rattle.apply.proofs.Erasures.{write-eraseConfAndLunch}
+use Rattle.apply.proofs.Arms.{Known, laid, slots-ok, a-ok, b-ok, span, item, arm, unchanged}
 use borrow.Author.Needs.{needs}
 use Rattle.apply.proofs.apply.Statement.{statement}
 use Rattle.apply.proofs.apply.Tie as tie
@@ -26,113 +27,157 @@ turn-requires : tie.Need-turn-requires
 unfolding kindOf
 turn-requires c κs = let s = c .before .before .before in
     let a = s .args in
-    let k = ap kindOf (c .before .match .keys1) in
-    (span (a .s) (a .book .now) (s .pre .0) (a .r) (s .pre .1 .1) addLeave k leaves refl (a .g .leave) (ap (λ (g : Grids). g .leave) (s .pre .1 .0)), item-of (a .s) leaves (a .g .leave) (ap (λ (g : Grids). g .leave) (s .pre .1 .0)) (a .r .b / 32) (group-lt (a .s .visitors) (a .r .b) (b-ok (a .s) (a .book .now) (s .pre .0) (a .r) (s .pre .1 .1) addLeave k (a .s .visitors) refl)))
+    let w : Known (a .s) (a .book .now) (a .g) (a .r) addLeave
+    = record { good = s .pre .0; grids = s .pre .1 .0; done = s .pre .1 .1; kind = ap kindOf (c .before .match .keys1) } in (
+      span w leaves (λ g. g .leave) refl refl,
+      item w leaves (λ g. g .leave) refl (a .r .b / 32)
+          (group-lt (a .s .visitors) (a .r .b) (b-ok w (a .s .visitors) refl)),
+    )
 
 turn-requires-2 : tie.Need-turn-requires-2
 unfolding kindOf
 turn-requires-2 c κs = let s = c .before .before .before in
     let a = s .args in
-    let k = ap kindOf (c .before .match .keys2) in
-    (span (a .s) (a .book .now) (s .pre .0) (a .r) (s .pre .1 .1) endLeave k leaves refl (a .g .leave) (ap (λ (g : Grids). g .leave) (s .pre .1 .0)), item-of (a .s) leaves (a .g .leave) (ap (λ (g : Grids). g .leave) (s .pre .1 .0)) (a .r .b / 32) (group-lt (a .s .visitors) (a .r .b) (b-ok (a .s) (a .book .now) (s .pre .0) (a .r) (s .pre .1 .1) endLeave k (a .s .visitors) refl)))
+    let w : Known (a .s) (a .book .now) (a .g) (a .r) endLeave
+    = record { good = s .pre .0; grids = s .pre .1 .0; done = s .pre .1 .1; kind = ap kindOf (c .before .match .keys2) } in (
+      span w leaves (λ g. g .leave) refl refl,
+      item w leaves (λ g. g .leave) refl (a .r .b / 32)
+          (group-lt (a .s .visitors) (a .r .b) (b-ok w (a .s .visitors) refl)),
+    )
 
 remove-visitor-requires : tie.Need-remove-visitor-requires
 unfolding kindOf
 remove-visitor-requires c κs = let s = c .before .before .before in
     let a = s .args in
-    let k = ap kindOf (c .before .match .keys3) in
-    (good-laid (s .pre .0), (s .pre .1 .0, (slots-ok (a .s) (a .book .now) (s .pre .0) (a .r) (s .pre .1 .1) removeVisitor k, b-ok (a .s) (a .book .now) (s .pre .0) (a .r) (s .pre .1 .1) removeVisitor k (a .s .visitors) refl)))
+    let w : Known (a .s) (a .book .now) (a .g) (a .r) removeVisitor
+    = record { good = s .pre .0; grids = s .pre .1 .0; done = s .pre .1 .1; kind = ap kindOf (c .before .match .keys3) } in
+    (laid w, (s .pre .1 .0, (slots-ok w, b-ok w (a .s .visitors) refl)))
 
 add-requires : tie.Need-add-requires
 unfolding kindOf
 add-requires c κs = let s = c .before .before .before in
     let a = s .args in
-    let k = ap kindOf (c .before .match .keys4) in
-    (span (a .s) (a .book .now) (s .pre .0) (a .r) (s .pre .1 .1) addHotel k hotelCells refl (a .g .hotel) (ap (λ (g : Grids). g .hotel) (s .pre .1 .0)), (item-of (a .s) hotelCells (a .g .hotel) (ap (λ (g : Grids). g .hotel) (s .pre .1 .0)) (a .r .a) (a-ok (a .s) (a .book .now) (s .pre .0) (a .r) (s .pre .1 .1) addHotel k (a .s .hotels) refl), omega (arith, good-laid (s .pre .0) .ranges .visitors, b-ok (a .s) (a .book .now) (s .pre .0) (a .r) (s .pre .1 .1) addHotel k (a .s .visitors) refl)))
+    let w : Known (a .s) (a .book .now) (a .g) (a .r) addHotel
+    = record { good = s .pre .0; grids = s .pre .1 .0; done = s .pre .1 .1; kind = ap kindOf (c .before .match .keys4) } in (
+      span w hotelCells (λ g. g .hotel) refl refl,
+      (item w hotelCells (λ g. g .hotel) refl (a .r .a) (a-ok w (a .s .hotels) refl), omega (arith, laid w .ranges .visitors, b-ok w (a .s .visitors) refl)),
+    )
 
 take-requires : tie.Need-take-requires
 unfolding kindOf
 take-requires c κs = let s = c .before .before .before in
     let a = s .args in
-    let k = ap kindOf (c .before .match .keys5) in
-    (span (a .s) (a .book .now) (s .pre .0) (a .r) (s .pre .1 .1) eraseHotel k hotelCells refl (a .g .hotel) (ap (λ (g : Grids). g .hotel) (s .pre .1 .0)), item-of (a .s) hotelCells (a .g .hotel) (ap (λ (g : Grids). g .hotel) (s .pre .1 .0)) (a .r .a) (a-ok (a .s) (a .book .now) (s .pre .0) (a .r) (s .pre .1 .1) eraseHotel k (a .s .hotels) refl))
+    let w : Known (a .s) (a .book .now) (a .g) (a .r) eraseHotel
+    = record { good = s .pre .0; grids = s .pre .1 .0; done = s .pre .1 .1; kind = ap kindOf (c .before .match .keys5) } in
+    (span w hotelCells (λ g. g .hotel) refl refl, item w hotelCells (λ g. g .hotel) refl (a .r .a) (a-ok w (a .s .hotels) refl))
 
 add-requires-2 : tie.Need-add-requires-2
 unfolding kindOf
 add-requires-2 c κs = let s = c .before .before .before in
     let a = s .args in
-    let k = ap kindOf (c .before .match .keys6) in
-    (span (a .s) (a .book .now) (s .pre .0) (a .r) (s .pre .1 .1) addRide k rideCells refl (a .g .ride) (ap (λ (g : Grids). g .ride) (s .pre .1 .0)), (item-of (a .s) rideCells (a .g .ride) (ap (λ (g : Grids). g .ride) (s .pre .1 .0)) (a .r .a) (a-ok (a .s) (a .book .now) (s .pre .0) (a .r) (s .pre .1 .1) addRide k (a .s .transports) refl), omega (arith, good-laid (s .pre .0) .ranges .visitors, b-ok (a .s) (a .book .now) (s .pre .0) (a .r) (s .pre .1 .1) addRide k (a .s .visitors) refl)))
+    let w : Known (a .s) (a .book .now) (a .g) (a .r) addRide
+    = record { good = s .pre .0; grids = s .pre .1 .0; done = s .pre .1 .1; kind = ap kindOf (c .before .match .keys6) } in (
+      span w rideCells (λ g. g .ride) refl refl,
+      (item w rideCells (λ g. g .ride) refl (a .r .a) (a-ok w (a .s .transports) refl), omega (arith, laid w .ranges .visitors, b-ok w (a .s .visitors) refl)),
+    )
 
 take-requires-2 : tie.Need-take-requires-2
 unfolding kindOf
 take-requires-2 c κs = let s = c .before .before .before in
     let a = s .args in
-    let k = ap kindOf (c .before .match .keys7) in
-    (span (a .s) (a .book .now) (s .pre .0) (a .r) (s .pre .1 .1) eraseRide k rideCells refl (a .g .ride) (ap (λ (g : Grids). g .ride) (s .pre .1 .0)), item-of (a .s) rideCells (a .g .ride) (ap (λ (g : Grids). g .ride) (s .pre .1 .0)) (a .r .a) (a-ok (a .s) (a .book .now) (s .pre .0) (a .r) (s .pre .1 .1) eraseRide k (a .s .transports) refl))
+    let w : Known (a .s) (a .book .now) (a .g) (a .r) eraseRide
+    = record { good = s .pre .0; grids = s .pre .1 .0; done = s .pre .1 .1; kind = ap kindOf (c .before .match .keys7) } in
+    (span w rideCells (λ g. g .ride) refl refl, item w rideCells (λ g. g .ride) refl (a .r .a) (a-ok w (a .s .transports) refl))
 
 turn-requires-3 : tie.Need-turn-requires-3
 unfolding kindOf
 turn-requires-3 c κs = let s = c .before .before .before in
     let a = s .args in
-    let k = ap kindOf (c .before .match .keys8) in
-    (span (a .s) (a .book .now) (s .pre .0) (a .r) (s .pre .1 .1) addStanding k standings refl (a .g .standing) (ap (λ (g : Grids). g .standing) (s .pre .1 .0)), item-of (a .s) standings (a .g .standing) (ap (λ (g : Grids). g .standing) (s .pre .1 .0)) (a .r .a / 32) (group-lt (a .s .meetings) (a .r .a) (a-ok (a .s) (a .book .now) (s .pre .0) (a .r) (s .pre .1 .1) addStanding k (a .s .meetings) refl)))
+    let w : Known (a .s) (a .book .now) (a .g) (a .r) addStanding
+    = record { good = s .pre .0; grids = s .pre .1 .0; done = s .pre .1 .1; kind = ap kindOf (c .before .match .keys8) } in (
+      span w standings (λ g. g .standing) refl refl,
+      item w standings (λ g. g .standing) refl (a .r .a / 32)
+          (group-lt (a .s .meetings) (a .r .a) (a-ok w (a .s .meetings) refl)),
+    )
 
 end-standing-requires : tie.Need-end-standing-requires
 unfolding kindOf
 end-standing-requires c κs = let s = c .before .before .before in
     let a = s .args in
-    let k = ap kindOf (c .before .match .keys9) in
-    (span (a .s) (a .book .now) (s .pre .0) (a .r) (s .pre .1 .1) endStanding k standings refl (a .g .standing) (ap (λ (g : Grids). g .standing) (s .pre .1 .0)), (span (a .s) (a .book .now) (s .pre .0) (a .r) (s .pre .1 .1) endStanding k attendCells refl (a .g .attend) (ap (λ (g : Grids). g .attend) (s .pre .1 .0)), (item-of (a .s) standings (a .g .standing) (ap (λ (g : Grids). g .standing) (s .pre .1 .0)) (a .r .a / 32) (group-lt (a .s .meetings) (a .r .a) (a-ok (a .s) (a .book .now) (s .pre .0) (a .r) (s .pre .1 .1) endStanding k (a .s .meetings) refl)), omega (arith, good-laid (s .pre .0) .ranges .meetings, a-ok (a .s) (a .book .now) (s .pre .0) (a .r) (s .pre .1 .1) endStanding k (a .s .meetings) refl))))
+    let w : Known (a .s) (a .book .now) (a .g) (a .r) endStanding
+    = record { good = s .pre .0; grids = s .pre .1 .0; done = s .pre .1 .1; kind = ap kindOf (c .before .match .keys9) } in (
+      span w standings (λ g. g .standing) refl refl,
+      (
+        span w attendCells (λ g. g .attend) refl refl,
+        (
+          item w standings (λ g. g .standing) refl (a .r .a / 32) (group-lt (a .s .meetings) (a .r .a) (a-ok w (a .s .meetings) refl)),
+          omega
+              (arith, laid w .ranges .meetings, a-ok w (a .s .meetings) refl),
+        ),
+      ),
+    )
 
 add-requires-3 : tie.Need-add-requires-3
 unfolding kindOf
 add-requires-3 c κs = let s = c .before .before .before in
     let a = s .args in
-    let k = ap kindOf (c .before .match .keys10) in
-    (span (a .s) (a .book .now) (s .pre .0) (a .r) (s .pre .1 .1) addAttend k attendCells refl (a .g .attend) (ap (λ (g : Grids). g .attend) (s .pre .1 .0)), (item-of (a .s) attendCells (a .g .attend) (ap (λ (g : Grids). g .attend) (s .pre .1 .0)) (a .r .b) (b-ok (a .s) (a .book .now) (s .pre .0) (a .r) (s .pre .1 .1) addAttend k (a .s .visitors) refl), omega (arith, good-laid (s .pre .0) .ranges .meetings, a-ok (a .s) (a .book .now) (s .pre .0) (a .r) (s .pre .1 .1) addAttend k (a .s .meetings) refl)))
+    let w : Known (a .s) (a .book .now) (a .g) (a .r) addAttend
+    = record { good = s .pre .0; grids = s .pre .1 .0; done = s .pre .1 .1; kind = ap kindOf (c .before .match .keys10) } in (
+      span w attendCells (λ g. g .attend) refl refl,
+      (item w attendCells (λ g. g .attend) refl (a .r .b) (b-ok w (a .s .visitors) refl), omega (arith, laid w .ranges .meetings, a-ok w (a .s .meetings) refl)),
+    )
 
 take-requires-3 : tie.Need-take-requires-3
 unfolding kindOf
 take-requires-3 c κs = let s = c .before .before .before in
     let a = s .args in
-    let k = ap kindOf (c .before .match .keys11) in
-    (span (a .s) (a .book .now) (s .pre .0) (a .r) (s .pre .1 .1) eraseAttend k attendCells refl (a .g .attend) (ap (λ (g : Grids). g .attend) (s .pre .1 .0)), item-of (a .s) attendCells (a .g .attend) (ap (λ (g : Grids). g .attend) (s .pre .1 .0)) (a .r .b) (b-ok (a .s) (a .book .now) (s .pre .0) (a .r) (s .pre .1 .1) eraseAttend k (a .s .visitors) refl))
+    let w : Known (a .s) (a .book .now) (a .g) (a .r) eraseAttend
+    = record { good = s .pre .0; grids = s .pre .1 .0; done = s .pre .1 .1; kind = ap kindOf (c .before .match .keys11) } in
+    (span w attendCells (λ g. g .attend) refl refl, item w attendCells (λ g. g .attend) refl (a .r .b) (b-ok w (a .s .visitors) refl))
 
 add-requires-4 : tie.Need-add-requires-4
 unfolding kindOf
 add-requires-4 c κs = let s = c .before .before .before in
     let a = s .args in
-    let k = ap kindOf (c .before .match .keys12) in
-    (span (a .s) (a .book .now) (s .pre .0) (a .r) (s .pre .1 .1) addConf k confPairs refl (a .g .conf) (ap (λ (g : Grids). g .conf) (s .pre .1 .0)), (item-of (a .s) confPairs (a .g .conf) (ap (λ (g : Grids). g .conf) (s .pre .1 .0)) (a .r .a) (a-ok (a .s) (a .book .now) (s .pre .0) (a .r) (s .pre .1 .1) addConf k (a .s .rooms) refl), omega (arith, good-laid (s .pre .0) .ranges .meetings, b-ok (a .s) (a .book .now) (s .pre .0) (a .r) (s .pre .1 .1) addConf k (a .s .meetings) refl)))
+    let w : Known (a .s) (a .book .now) (a .g) (a .r) addConf
+    = record { good = s .pre .0; grids = s .pre .1 .0; done = s .pre .1 .1; kind = ap kindOf (c .before .match .keys12) } in (
+      span w confPairs (λ g. g .conf) refl refl,
+      (item w confPairs (λ g. g .conf) refl (a .r .a) (a-ok w (a .s .rooms) refl), omega (arith, laid w .ranges .meetings, b-ok w (a .s .meetings) refl)),
+    )
 
 drop-requires : tie.Need-drop-requires
 unfolding kindOf
 drop-requires c κs = let s = c .before .before .before in
     let a = s .args in
-    let k = ap kindOf (c .before .match .keys13) in
-    (span (a .s) (a .book .now) (s .pre .0) (a .r) (s .pre .1 .1) eraseConf k confPairs refl (a .g .conf) (ap (λ (g : Grids). g .conf) (s .pre .1 .0)), omega (arith, good-laid (s .pre .0) .ranges .meetings, b-ok (a .s) (a .book .now) (s .pre .0) (a .r) (s .pre .1 .1) eraseConf k (a .s .meetings) refl))
+    let w : Known (a .s) (a .book .now) (a .g) (a .r) eraseConf
+    = record { good = s .pre .0; grids = s .pre .1 .0; done = s .pre .1 .1; kind = ap kindOf (c .before .match .keys13) } in
+    (span w confPairs (λ g. g .conf) refl refl, omega (arith, laid w .ranges .meetings, b-ok w (a .s .meetings) refl))
 
 add-requires-5 : tie.Need-add-requires-5
 unfolding kindOf
 add-requires-5 c κs = let s = c .before .before .before in
     let a = s .args in
-    let k = ap kindOf (c .before .match .keys14) in
-    (span (a .s) (a .book .now) (s .pre .0) (a .r) (s .pre .1 .1) addLunch k lunchTriples refl (a .g .lunch) (ap (λ (g : Grids). g .lunch) (s .pre .1 .0)), (item-of (a .s) lunchTriples (a .g .lunch) (ap (λ (g : Grids). g .lunch) (s .pre .1 .0)) (a .r .b) (b-ok (a .s) (a .book .now) (s .pre .0) (a .r) (s .pre .1 .1) addLunch k (a .s .meetings) refl), omega (arith, good-laid (s .pre .0) .ranges .dining, a-ok (a .s) (a .book .now) (s .pre .0) (a .r) (s .pre .1 .1) addLunch k (a .s .dining) refl)))
+    let w : Known (a .s) (a .book .now) (a .g) (a .r) addLunch
+    = record { good = s .pre .0; grids = s .pre .1 .0; done = s .pre .1 .1; kind = ap kindOf (c .before .match .keys14) } in (
+      span w lunchTriples (λ g. g .lunch) refl refl,
+      (item w lunchTriples (λ g. g .lunch) refl (a .r .b) (b-ok w (a .s .meetings) refl), omega (arith, laid w .ranges .dining, a-ok w (a .s .dining) refl)),
+    )
 
 take-requires-4 : tie.Need-take-requires-4
 unfolding kindOf
 take-requires-4 c κs = let s = c .before .before .before in
     let a = s .args in
-    let k = ap kindOf (c .before .match .keys15) in
-    (span (a .s) (a .book .now) (s .pre .0) (a .r) (s .pre .1 .1) eraseLunch k lunchTriples refl (a .g .lunch) (ap (λ (g : Grids). g .lunch) (s .pre .1 .0)), item-of (a .s) lunchTriples (a .g .lunch) (ap (λ (g : Grids). g .lunch) (s .pre .1 .0)) (a .r .b) (b-ok (a .s) (a .book .now) (s .pre .0) (a .r) (s .pre .1 .1) eraseLunch k (a .s .meetings) refl))
+    let w : Known (a .s) (a .book .now) (a .g) (a .r) eraseLunch
+    = record { good = s .pre .0; grids = s .pre .1 .0; done = s .pre .1 .1; kind = ap kindOf (c .before .match .keys15) } in
+    (span w lunchTriples (λ g. g .lunch) refl refl, item w lunchTriples (λ g. g .lunch) refl (a .r .b) (b-ok w (a .s .meetings) refl))
 
 erase-conf-and-lunch-requires : tie.Need-erase-conf-and-lunch-requires
 unfolding kindOf
 erase-conf-and-lunch-requires c κs = let s = c .before .before .before in
     let a = s .args in
-    let k = ap kindOf (c .before .match .keys16) in
-    (good-laid (s .pre .0), (s .pre .1 .0, ((span (a .s) (a .book .now) (s .pre .0) (a .r) (s .pre .1 .1) eraseConfAndLunch k confPairs refl (a .g .conf) (ap (λ (g : Grids). g .conf) (s .pre .1 .0))) .slot, b-ok (a .s) (a .book .now) (s .pre .0) (a .r) (s .pre .1 .1) eraseConfAndLunch k (a .s .meetings) refl)))
+    let w : Known (a .s) (a .book .now) (a .g) (a .r) eraseConfAndLunch
+    = record { good = s .pre .0; grids = s .pre .1 .0; done = s .pre .1 .1; kind = ap kindOf (c .before .match .keys16) } in
+    (laid w, (s .pre .1 .0, ((span w confPairs (λ g. g .conf) refl refl) .slot, b-ok w (a .s .meetings) refl)))
 
 same-length : tie.Need-same-length
 same-length c = search needs
@@ -141,10 +186,11 @@ returns : tie.Need-returns
 unfolding kindOf
 returns c = let s = c .before .before .before .before .before .before in
     let a = s .args in
-    let k = ap kindOf (c .before .before .before .before .match .keys1) in
+    let w : Known (a .s) (a .book .now) (a .g) (a .r) addLeave
+    = record { good = s .pre .0; grids = s .pre .1 .0; done = s .pre .1 .1; kind = ap kindOf (c .before .before .before .before .match .keys1) } in
     c .before .before .turn .ensures
-    ∙ ap (λ (g : Grids). markedAll (g .leave) true (a .r .b) (a .r .first) (a .r .last + 1) (a .book .now)) (s .pre .1 .0)
-    ∙ arm (a .s) (a .book .now) (s .pre .0) (a .r) (s .pre .1 .1) addLeave k (λ (S : Settings). markedAll (gridOf S leaves) true (a .r .b) (a .r .first) (a .r .last + 1) (a .book .now)) (λ x q z l y. write-addLeave x z (a .r) (a .book .now) l y)
+    ∙ arm w (λ S g. markedAll (g .leave) true (a .r .b) (a .r .first) (a .r .last + 1) (a .book .now))
+    (λ x _ z l y. write-addLeave x z (a .r) (a .book .now) l y)
 
 same-length-2 : tie.Need-same-length-2
 same-length-2 c = search needs
@@ -153,10 +199,11 @@ returns-2 : tie.Need-returns-2
 unfolding kindOf
 returns-2 c = let s = c .before .before .before .before .before .before in
     let a = s .args in
-    let k = ap kindOf (c .before .before .before .before .match .keys2) in
+    let w : Known (a .s) (a .book .now) (a .g) (a .r) endLeave
+    = record { good = s .pre .0; grids = s .pre .1 .0; done = s .pre .1 .1; kind = ap kindOf (c .before .before .before .before .match .keys2) } in
     c .before .before .turn2 .ensures
-    ∙ ap (λ (g : Grids). markedAll (g .leave) false (a .r .b) (a .r .first) (a .r .last + 1) (a .book .now)) (s .pre .1 .0)
-    ∙ arm (a .s) (a .book .now) (s .pre .0) (a .r) (s .pre .1 .1) endLeave k (λ (S : Settings). markedAll (gridOf S leaves) false (a .r .b) (a .r .first) (a .r .last + 1) (a .book .now)) (λ x q z l y. write-endLeave x z (a .r) (a .book .now) l y)
+    ∙ arm w (λ S g. markedAll (g .leave) false (a .r .b) (a .r .first) (a .r .last + 1) (a .book .now))
+    (λ x _ z l y. write-endLeave x z (a .r) (a .book .now) l y)
 
 same-length-3 : tie.Need-same-length-3
 same-length-3 c = search needs
@@ -165,11 +212,16 @@ returns-3 : tie.Need-returns-3
 unfolding kindOf
 returns-3 c = let s = c .before .before .before .before .before .before in
     let a = s .args in
-    let k = ap kindOf (c .before .before .before .before .match .keys3) in
+    let w : Known (a .s) (a .book .now) (a .g) (a .r) removeVisitor
+    = record { good = s .pre .0; grids = s .pre .1 .0; done = s .pre .1 .1; kind = ap kindOf (c .before .before .before .before .match .keys3) } in
     let d = c .before .before .remove-visitor .ensures in
+    let W : Grids → List ℕ
+    = λ g. filled (g .attend) (a .r .b) empty (d .from) (d .to)
+    (swept (g .ride) (a .r .b + 1) (d .lo) (d .hi)
+    (swept (g .hotel) (a .r .b + 1) (a .r .first) (a .r .last + 1) (markedAll (g .leave) false (a .r .b) (a .r .first) (a .r .last + 1) (a .book .now)))) in
     d .is
-    ∙ arm (a .s) (a .book .now) (s .pre .0) (a .r) (s .pre .1 .1) removeVisitor k
-    (λ (S : Settings). filled (gridOf S attendCells) (a .r .b) empty (d .from) (d .to) (swept (gridOf S rideCells) (a .r .b + 1) (d .lo) (d .hi) (swept (gridOf S hotelCells) (a .r .b + 1) (a .r .first) (a .r .last + 1) (markedAll (gridOf S leaves) false (a .r .b) (a .r .first) (a .r .last + 1) (a .book .now)))))
+    ∙ ap W (sym (s .pre .1 .0))
+    ∙ arm w (λ S g. W g)
     (λ x q z l y.
     write-removeVisitor x z (a .r) (a .book .now) l y (d .lo) (d .hi) (d .from) (d .to)
     (subst (λ (S : Settings). OnDates S Times (a .r .first) (a .r .last) (d .lo) (d .hi)) (sym q) (d .times))
@@ -182,10 +234,11 @@ returns-4 : tie.Need-returns-4
 unfolding kindOf
 returns-4 c = let s = c .before .before .before .before .before .before in
     let a = s .args in
-    let k = ap kindOf (c .before .before .before .before .match .keys4) in
+    let w : Known (a .s) (a .book .now) (a .g) (a .r) addHotel
+    = record { good = s .pre .0; grids = s .pre .1 .0; done = s .pre .1 .1; kind = ap kindOf (c .before .before .before .before .match .keys4) } in
     c .before .before .add .ensures
-    ∙ ap (λ (g : Grids). filled (g .hotel) (a .r .a) (full (a .r .b) 0 0) (a .r .first) (a .r .last + 1) (a .book .now)) (s .pre .1 .0)
-    ∙ arm (a .s) (a .book .now) (s .pre .0) (a .r) (s .pre .1 .1) addHotel k (λ (S : Settings). filled (gridOf S hotelCells) (a .r .a) (full (a .r .b) 0 0) (a .r .first) (a .r .last + 1) (a .book .now)) (λ x q z l y. write-addHotel x z (a .r) (a .book .now) l y)
+    ∙ arm w (λ S g. filled (g .hotel) (a .r .a) (full (a .r .b) 0 0) (a .r .first) (a .r .last + 1) (a .book .now))
+    (λ x _ z l y. write-addHotel x z (a .r) (a .book .now) l y)
 
 same-length-5 : tie.Need-same-length-5
 same-length-5 c = search needs
@@ -194,10 +247,11 @@ returns-5 : tie.Need-returns-5
 unfolding kindOf
 returns-5 c = let s = c .before .before .before .before .before .before in
     let a = s .args in
-    let k = ap kindOf (c .before .before .before .before .match .keys5) in
+    let w : Known (a .s) (a .book .now) (a .g) (a .r) eraseHotel
+    = record { good = s .pre .0; grids = s .pre .1 .0; done = s .pre .1 .1; kind = ap kindOf (c .before .before .before .before .match .keys5) } in
     c .before .before .take .ensures
-    ∙ ap (λ (g : Grids). filled (g .hotel) (a .r .a) empty (a .r .first) (a .r .last + 1) (a .book .now)) (s .pre .1 .0)
-    ∙ arm (a .s) (a .book .now) (s .pre .0) (a .r) (s .pre .1 .1) eraseHotel k (λ (S : Settings). filled (gridOf S hotelCells) (a .r .a) empty (a .r .first) (a .r .last + 1) (a .book .now)) (λ x q z l y. write-eraseHotel x z (a .r) (a .book .now) l y)
+    ∙ arm w (λ S g. filled (g .hotel) (a .r .a) empty (a .r .first) (a .r .last + 1) (a .book .now))
+    (λ x _ z l y. write-eraseHotel x z (a .r) (a .book .now) l y)
 
 same-length-6 : tie.Need-same-length-6
 same-length-6 c = search needs
@@ -206,10 +260,11 @@ returns-6 : tie.Need-returns-6
 unfolding kindOf
 returns-6 c = let s = c .before .before .before .before .before .before in
     let a = s .args in
-    let k = ap kindOf (c .before .before .before .before .match .keys6) in
+    let w : Known (a .s) (a .book .now) (a .g) (a .r) addRide
+    = record { good = s .pre .0; grids = s .pre .1 .0; done = s .pre .1 .1; kind = ap kindOf (c .before .before .before .before .match .keys6) } in
     c .before .before .add2 .ensures
-    ∙ ap (λ (g : Grids). filled (g .ride) (a .r .a) (full (a .r .b) 0 0) (a .r .first) (a .r .last + 1) (a .book .now)) (s .pre .1 .0)
-    ∙ arm (a .s) (a .book .now) (s .pre .0) (a .r) (s .pre .1 .1) addRide k (λ (S : Settings). filled (gridOf S rideCells) (a .r .a) (full (a .r .b) 0 0) (a .r .first) (a .r .last + 1) (a .book .now)) (λ x q z l y. write-addRide x z (a .r) (a .book .now) l y)
+    ∙ arm w (λ S g. filled (g .ride) (a .r .a) (full (a .r .b) 0 0) (a .r .first) (a .r .last + 1) (a .book .now))
+    (λ x _ z l y. write-addRide x z (a .r) (a .book .now) l y)
 
 same-length-7 : tie.Need-same-length-7
 same-length-7 c = search needs
@@ -218,10 +273,11 @@ returns-7 : tie.Need-returns-7
 unfolding kindOf
 returns-7 c = let s = c .before .before .before .before .before .before in
     let a = s .args in
-    let k = ap kindOf (c .before .before .before .before .match .keys7) in
+    let w : Known (a .s) (a .book .now) (a .g) (a .r) eraseRide
+    = record { good = s .pre .0; grids = s .pre .1 .0; done = s .pre .1 .1; kind = ap kindOf (c .before .before .before .before .match .keys7) } in
     c .before .before .take2 .ensures
-    ∙ ap (λ (g : Grids). filled (g .ride) (a .r .a) empty (a .r .first) (a .r .last + 1) (a .book .now)) (s .pre .1 .0)
-    ∙ arm (a .s) (a .book .now) (s .pre .0) (a .r) (s .pre .1 .1) eraseRide k (λ (S : Settings). filled (gridOf S rideCells) (a .r .a) empty (a .r .first) (a .r .last + 1) (a .book .now)) (λ x q z l y. write-eraseRide x z (a .r) (a .book .now) l y)
+    ∙ arm w (λ S g. filled (g .ride) (a .r .a) empty (a .r .first) (a .r .last + 1) (a .book .now))
+    (λ x _ z l y. write-eraseRide x z (a .r) (a .book .now) l y)
 
 same-length-8 : tie.Need-same-length-8
 same-length-8 c = search needs
@@ -230,10 +286,11 @@ returns-8 : tie.Need-returns-8
 unfolding kindOf
 returns-8 c = let s = c .before .before .before .before .before .before in
     let a = s .args in
-    let k = ap kindOf (c .before .before .before .before .match .keys8) in
+    let w : Known (a .s) (a .book .now) (a .g) (a .r) addStanding
+    = record { good = s .pre .0; grids = s .pre .1 .0; done = s .pre .1 .1; kind = ap kindOf (c .before .before .before .before .match .keys8) } in
     c .before .before .turn3 .ensures
-    ∙ ap (λ (g : Grids). markedAll (g .standing) true (a .r .a) (a .r .first) (a .r .last + 1) (a .book .now)) (s .pre .1 .0)
-    ∙ arm (a .s) (a .book .now) (s .pre .0) (a .r) (s .pre .1 .1) addStanding k (λ (S : Settings). markedAll (gridOf S standings) true (a .r .a) (a .r .first) (a .r .last + 1) (a .book .now)) (λ x q z l y. write-addStanding x z (a .r) (a .book .now) l y)
+    ∙ arm w (λ S g. markedAll (g .standing) true (a .r .a) (a .r .first) (a .r .last + 1) (a .book .now))
+    (λ x _ z l y. write-addStanding x z (a .r) (a .book .now) l y)
 
 same-length-9 : tie.Need-same-length-9
 same-length-9 c = search needs
@@ -242,10 +299,12 @@ returns-9 : tie.Need-returns-9
 unfolding kindOf
 returns-9 c = let s = c .before .before .before .before .before .before in
     let a = s .args in
-    let k = ap kindOf (c .before .before .before .before .match .keys9) in
+    let w : Known (a .s) (a .book .now) (a .g) (a .r) endStanding
+    = record { good = s .pre .0; grids = s .pre .1 .0; done = s .pre .1 .1; kind = ap kindOf (c .before .before .before .before .match .keys9) } in
     c .before .before .end-standing .ensures
-    ∙ ap (λ (g : Grids). swept (g .attend) (a .r .a + 1) (a .r .first) (a .r .last + 1) (markedAll (g .standing) false (a .r .a) (a .r .first) (a .r .last + 1) (a .book .now))) (s .pre .1 .0)
-    ∙ arm (a .s) (a .book .now) (s .pre .0) (a .r) (s .pre .1 .1) endStanding k (λ (S : Settings). swept (gridOf S attendCells) (a .r .a + 1) (a .r .first) (a .r .last + 1) (markedAll (gridOf S standings) false (a .r .a) (a .r .first) (a .r .last + 1) (a .book .now))) (λ x q z l y. write-endStanding x z (a .r) (a .book .now) l y)
+    ∙ arm w (λ S g. swept (g .attend) (a .r .a + 1) (a .r .first) (a .r .last + 1)
+    (markedAll (g .standing) false (a .r .a) (a .r .first) (a .r .last + 1) (a .book .now)))
+    (λ x _ z l y. write-endStanding x z (a .r) (a .book .now) l y)
 
 same-length-10 : tie.Need-same-length-10
 same-length-10 c = search needs
@@ -254,10 +313,11 @@ returns-10 : tie.Need-returns-10
 unfolding kindOf
 returns-10 c = let s = c .before .before .before .before .before .before in
     let a = s .args in
-    let k = ap kindOf (c .before .before .before .before .match .keys10) in
+    let w : Known (a .s) (a .book .now) (a .g) (a .r) addAttend
+    = record { good = s .pre .0; grids = s .pre .1 .0; done = s .pre .1 .1; kind = ap kindOf (c .before .before .before .before .match .keys10) } in
     c .before .before .add3 .ensures
-    ∙ ap (λ (g : Grids). filled (g .attend) (a .r .b) (full (a .r .a) 0 0) (a .r .first) (a .r .last + 1) (a .book .now)) (s .pre .1 .0)
-    ∙ arm (a .s) (a .book .now) (s .pre .0) (a .r) (s .pre .1 .1) addAttend k (λ (S : Settings). filled (gridOf S attendCells) (a .r .b) (full (a .r .a) 0 0) (a .r .first) (a .r .last + 1) (a .book .now)) (λ x q z l y. write-addAttend x z (a .r) (a .book .now) l y)
+    ∙ arm w (λ S g. filled (g .attend) (a .r .b) (full (a .r .a) 0 0) (a .r .first) (a .r .last + 1) (a .book .now))
+    (λ x _ z l y. write-addAttend x z (a .r) (a .book .now) l y)
 
 same-length-11 : tie.Need-same-length-11
 same-length-11 c = search needs
@@ -266,10 +326,11 @@ returns-11 : tie.Need-returns-11
 unfolding kindOf
 returns-11 c = let s = c .before .before .before .before .before .before in
     let a = s .args in
-    let k = ap kindOf (c .before .before .before .before .match .keys11) in
+    let w : Known (a .s) (a .book .now) (a .g) (a .r) eraseAttend
+    = record { good = s .pre .0; grids = s .pre .1 .0; done = s .pre .1 .1; kind = ap kindOf (c .before .before .before .before .match .keys11) } in
     c .before .before .take3 .ensures
-    ∙ ap (λ (g : Grids). filled (g .attend) (a .r .b) empty (a .r .first) (a .r .last + 1) (a .book .now)) (s .pre .1 .0)
-    ∙ arm (a .s) (a .book .now) (s .pre .0) (a .r) (s .pre .1 .1) eraseAttend k (λ (S : Settings). filled (gridOf S attendCells) (a .r .b) empty (a .r .first) (a .r .last + 1) (a .book .now)) (λ x q z l y. write-eraseAttend x z (a .r) (a .book .now) l y)
+    ∙ arm w (λ S g. filled (g .attend) (a .r .b) empty (a .r .first) (a .r .last + 1) (a .book .now))
+    (λ x _ z l y. write-eraseAttend x z (a .r) (a .book .now) l y)
 
 same-length-12 : tie.Need-same-length-12
 same-length-12 c = search needs
@@ -278,10 +339,11 @@ returns-12 : tie.Need-returns-12
 unfolding kindOf
 returns-12 c = let s = c .before .before .before .before .before .before in
     let a = s .args in
-    let k = ap kindOf (c .before .before .before .before .match .keys12) in
+    let w : Known (a .s) (a .book .now) (a .g) (a .r) addConf
+    = record { good = s .pre .0; grids = s .pre .1 .0; done = s .pre .1 .1; kind = ap kindOf (c .before .before .before .before .match .keys12) } in
     c .before .before .add4 .ensures
-    ∙ ap (λ (g : Grids). filled (g .conf) (a .r .a) (full (a .r .b) (a .r .info) 0) (a .r .first) (a .r .last + 1) (a .book .now)) (s .pre .1 .0)
-    ∙ arm (a .s) (a .book .now) (s .pre .0) (a .r) (s .pre .1 .1) addConf k (λ (S : Settings). filled (gridOf S confPairs) (a .r .a) (full (a .r .b) (a .r .info) 0) (a .r .first) (a .r .last + 1) (a .book .now)) (λ x q z l y. write-addConf x z (a .r) (a .book .now) l y)
+    ∙ arm w (λ S g. filled (g .conf) (a .r .a) (full (a .r .b) (a .r .info) 0) (a .r .first) (a .r .last + 1) (a .book .now))
+    (λ x _ z l y. write-addConf x z (a .r) (a .book .now) l y)
 
 same-length-13 : tie.Need-same-length-13
 same-length-13 c = search needs
@@ -290,10 +352,11 @@ returns-13 : tie.Need-returns-13
 unfolding kindOf
 returns-13 c = let s = c .before .before .before .before .before .before in
     let a = s .args in
-    let k = ap kindOf (c .before .before .before .before .match .keys13) in
+    let w : Known (a .s) (a .book .now) (a .g) (a .r) eraseConf
+    = record { good = s .pre .0; grids = s .pre .1 .0; done = s .pre .1 .1; kind = ap kindOf (c .before .before .before .before .match .keys13) } in
     c .before .before .drop .ensures
-    ∙ ap (λ (g : Grids). swept (g .conf) (a .r .b + 1) (a .r .first) (a .r .last + 1) (a .book .now)) (s .pre .1 .0)
-    ∙ arm (a .s) (a .book .now) (s .pre .0) (a .r) (s .pre .1 .1) eraseConf k (λ (S : Settings). swept (gridOf S confPairs) (a .r .b + 1) (a .r .first) (a .r .last + 1) (a .book .now)) (λ x q z l y. write-eraseConf x z (a .r) (a .book .now) l y)
+    ∙ arm w (λ S g. swept (g .conf) (a .r .b + 1) (a .r .first) (a .r .last + 1) (a .book .now))
+    (λ x _ z l y. write-eraseConf x z (a .r) (a .book .now) l y)
 
 same-length-14 : tie.Need-same-length-14
 same-length-14 c = search needs
@@ -302,10 +365,11 @@ returns-14 : tie.Need-returns-14
 unfolding kindOf
 returns-14 c = let s = c .before .before .before .before .before .before in
     let a = s .args in
-    let k = ap kindOf (c .before .before .before .before .match .keys14) in
+    let w : Known (a .s) (a .book .now) (a .g) (a .r) addLunch
+    = record { good = s .pre .0; grids = s .pre .1 .0; done = s .pre .1 .1; kind = ap kindOf (c .before .before .before .before .match .keys14) } in
     c .before .before .add5 .ensures
-    ∙ ap (λ (g : Grids). filled (g .lunch) (a .r .b) (full (a .r .a) (a .r .n) (a .r .info)) (a .r .first) (a .r .last + 1) (a .book .now)) (s .pre .1 .0)
-    ∙ arm (a .s) (a .book .now) (s .pre .0) (a .r) (s .pre .1 .1) addLunch k (λ (S : Settings). filled (gridOf S lunchTriples) (a .r .b) (full (a .r .a) (a .r .n) (a .r .info)) (a .r .first) (a .r .last + 1) (a .book .now)) (λ x q z l y. write-addLunch x z (a .r) (a .book .now) l y)
+    ∙ arm w (λ S g. filled (g .lunch) (a .r .b) (full (a .r .a) (a .r .n) (a .r .info)) (a .r .first) (a .r .last + 1) (a .book .now))
+    (λ x _ z l y. write-addLunch x z (a .r) (a .book .now) l y)
 
 same-length-15 : tie.Need-same-length-15
 same-length-15 c = search needs
@@ -314,10 +378,11 @@ returns-15 : tie.Need-returns-15
 unfolding kindOf
 returns-15 c = let s = c .before .before .before .before .before .before in
     let a = s .args in
-    let k = ap kindOf (c .before .before .before .before .match .keys15) in
+    let w : Known (a .s) (a .book .now) (a .g) (a .r) eraseLunch
+    = record { good = s .pre .0; grids = s .pre .1 .0; done = s .pre .1 .1; kind = ap kindOf (c .before .before .before .before .match .keys15) } in
     c .before .before .take4 .ensures
-    ∙ ap (λ (g : Grids). filled (g .lunch) (a .r .b) empty (a .r .first) (a .r .last + 1) (a .book .now)) (s .pre .1 .0)
-    ∙ arm (a .s) (a .book .now) (s .pre .0) (a .r) (s .pre .1 .1) eraseLunch k (λ (S : Settings). filled (gridOf S lunchTriples) (a .r .b) empty (a .r .first) (a .r .last + 1) (a .book .now)) (λ x q z l y. write-eraseLunch x z (a .r) (a .book .now) l y)
+    ∙ arm w (λ S g. filled (g .lunch) (a .r .b) empty (a .r .first) (a .r .last + 1) (a .book .now))
+    (λ x _ z l y. write-eraseLunch x z (a .r) (a .book .now) l y)
 
 same-length-16 : tie.Need-same-length-16
 same-length-16 c = search needs
@@ -326,15 +391,21 @@ returns-16 : tie.Need-returns-16
 unfolding kindOf
 returns-16 c = let s = c .before .before .before .before .before .before in
     let a = s .args in
-    let k = ap kindOf (c .before .before .before .before .match .keys16) in
+    let w : Known (a .s) (a .book .now) (a .g) (a .r) eraseConfAndLunch
+    = record { good = s .pre .0; grids = s .pre .1 .0; done = s .pre .1 .1; kind = ap kindOf (c .before .before .before .before .match .keys16) } in
     c .before .before .erase-conf-and-lunch .ensures
-    ∙ ap (λ (g : Grids). filled (g .lunch) (a .r .b) empty (dateOfSession (a .s) (a .r .first)) (dateOfSession (a .s) (a .r .last) + 1) (swept (g .conf) (a .r .b + 1) (a .r .first) (a .r .last + 1) (a .book .now))) (s .pre .1 .0)
-    ∙ arm (a .s) (a .book .now) (s .pre .0) (a .r) (s .pre .1 .1) eraseConfAndLunch k (λ (S : Settings). filled (gridOf S lunchTriples) (a .r .b) empty (dateOfSession S (a .r .first)) (dateOfSession S (a .r .last) + 1) (swept (gridOf S confPairs) (a .r .b + 1) (a .r .first) (a .r .last + 1) (a .book .now))) (λ x q z l y. write-eraseConfAndLunch x z (a .r) (a .book .now) l y)
+    ∙ arm w (λ S g. filled (g .lunch) (a .r .b) empty (dateOfSession S (a .r .first)) (dateOfSession S (a .r .last) + 1)
+    (swept (g .conf) (a .r .b + 1) (a .r .first) (a .r .last + 1) (a .book .now)))
+    (λ x _ z l y. write-eraseConfAndLunch x z (a .r) (a .book .now) l y)
 
 returns-17 : tie.Need-returns-17
 returns-17 c = let s = c .before .before in
     let n = c .match .rest in
-    unchanged (s .args .s) (s .args .book .now) (s .pre .0) (s .args .r) (n .0 .0 .0 .0 .0 .0 .0 .0 .0 .0 .0 .0 .0 .0 .0 .1) (n .0 .0 .0 .0 .0 .0 .0 .0 .0 .0 .0 .0 .0 .0 .1) (n .0 .0 .0 .0 .0 .0 .0 .0 .0 .0 .0 .0 .0 .1) (n .0 .0 .0 .0 .0 .0 .0 .0 .0 .0 .0 .0 .1) (n .0 .0 .0 .0 .0 .0 .0 .0 .0 .0 .0 .1) (n .0 .0 .0 .0 .0 .0 .0 .0 .0 .0 .1) (n .0 .0 .0 .0 .0 .0 .0 .0 .0 .1) (n .0 .0 .0 .0 .0 .0 .0 .0 .1) (n .0 .0 .0 .0 .0 .0 .0 .1) (n .0 .0 .0 .0 .0 .0 .1) (n .0 .0 .0 .0 .0 .1) (n .0 .0 .0 .0 .1) (n .0 .0 .0 .1) (n .0 .0 .1) (n .0 .1) (n .1)
+    unchanged (s .args .s) (s .args .book .now) (s .pre .0) (s .args .r) (n .0 .0 .0 .0 .0 .0 .0 .0 .0 .0 .0 .0 .0 .0 .0 .1)
+    (n .0 .0 .0 .0 .0 .0 .0 .0 .0 .0 .0 .0 .0 .0 .1)
+    (n .0 .0 .0 .0 .0 .0 .0 .0 .0 .0 .0 .0 .0 .1) (n .0 .0 .0 .0 .0 .0 .0 .0 .0 .0 .0 .0 .1) (n .0 .0 .0 .0 .0 .0 .0 .0 .0 .0 .0 .1)
+    (n .0 .0 .0 .0 .0 .0 .0 .0 .0 .0 .1) (n .0 .0 .0 .0 .0 .0 .0 .0 .0 .1) (n .0 .0 .0 .0 .0 .0 .0 .0 .1) (n .0 .0 .0 .0 .0 .0 .0 .1)
+    (n .0 .0 .0 .0 .0 .0 .1) (n .0 .0 .0 .0 .0 .1) (n .0 .0 .0 .0 .1) (n .0 .0 .0 .1) (n .0 .0 .1) (n .0 .1) (n .1)
 
 pub apply-spec : {M : Type 1} → statement M
 apply-spec =

@@ -1,7 +1,8 @@
-use mathlib.Core.Path.{_≡_, refl, sym, _∙_, ap}
+-- `judge` meets its contract: question 3, then 4 to 7, then the kind.
+-- Assumes nothing.
+use mathlib.Core.Path.{sym, _∙_, ap}
 use native.Mathlib.Omega.{arith}
 use Rattle.book.proofs.Goods.{good-laid}
-use Rattle.model.specs.declared.Settings.{Settings}
 use Rattle.model.specs.Kinds.{kindOf, Row}
 use Rattle.judge.specs.Rows.{rowAt, fieldsNo}
 use Rattle.judge.specs.Chains.{answerAt}
@@ -31,20 +32,22 @@ returns-3 c = let a = c .before .before .before .before .before .before .args in
     ∙ step-is (c .before .before .before .before .before .before .pre .0) (a .r) (omega (arith, c .before .before .before .before .if1 .left)) (c .before .before .before .if2 .left)
 
 answer-requires : tie.Need-answer-requires
-answer-requires c κs = let p = c .before .before .before .before .before .before .pre in let a = c .before .before .before .before .before .before .args in (
-  p .0,
-  (
-    p .1,
-    (
-      omega (arith, c .before .before .before .before .if1 .left),
+answer-requires c κs =
+    let p = c .before .before .before .before .before .before .pre in
+    let a = c .before .before .before .before .before .before .args in (
+      p .0,
       (
-        c .before .before .before .if2 .left,
-        ready-by (a .s) (rowAt (a .r .kind)) (a .r)
-            (sym (c .before .fields .ensures ∙ ap (λ (w : Row). fieldsNo (a .s) w (a .r)) (c .before .before .row-of .ensures)) ∙ c .if3 .left),
+        p .1,
+        (
+          omega (arith, c .before .before .before .before .if1 .left),
+          (
+            c .before .before .before .if2 .left,
+            ready-by (a .s) (rowAt (a .r .kind)) (a .r)
+                (sym (c .before .fields .ensures ∙ ap (λ (w : Row). fieldsNo (a .s) w (a .r)) (c .before .before .row-of .ensures)) ∙ c .if3 .left),
+          ),
+        ),
       ),
-    ),
-  ),
-)
+    )
 
 returns-4 : tie.Need-returns-4
 returns-4 c = let a = c .before .before .before .before .before .before .before .args in

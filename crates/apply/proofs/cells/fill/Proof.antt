@@ -9,7 +9,8 @@ use Rattle.apply.proofs.cells.fill.Statement.{statement}
 use Rattle.apply.proofs.cells.fill.Tie as tie
 
 abbrev Inv-loop : tie.InvT-loop
-Inv-loop book₀ g item c from to width i₀ book i = (length book ≡ length book₀) × (over (λ i. stored g c i item) i to book ≡ over (λ i. stored g c i item) from to book₀)
+Inv-loop book₀ g item c from to width i₀ book i = (length book ≡ length book₀) ×
+    (over (λ i. stored g c i item) i to book ≡ over (λ i. stored g c i item) from to book₀)
 
 abbrev μ-loop : tie.MeasureT-loop
 μ-loop book₀ g item c from to width i₀ book i = to - i

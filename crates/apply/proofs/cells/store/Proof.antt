@@ -54,7 +54,8 @@ same-length-3 c = search needs
 returns-3 : tie.Need-returns-3
 returns-3 c = let a = c .before .before .args in
     ap (λ (l : List ℕ). set (set l (a .n + 1) (a .c .second)) (a .n + 2) (a .c .third)) (sym (first-put (a .c) (a .n) (a .book .now)))
-    ∙ ap (λ (m : ℕ). puts (a .c) (a .n) m (a .book .now)) (sym (three-left (a .width) (c .before .before .pre .1 .0) (c .before .before .pre .1 .1) (c .before .if1 .left) (c .if2 .left)))
+    ∙ ap (λ (m : ℕ). puts (a .c) (a .n) m (a .book .now))
+    (sym (three-left (a .width) (c .before .before .pre .1 .0) (c .before .before .pre .1 .1) (c .before .if1 .left) (c .if2 .left)))
 
 pub store-spec : {M : Type 1} → statement M
 store-spec =

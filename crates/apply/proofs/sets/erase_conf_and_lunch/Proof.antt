@@ -24,7 +24,8 @@ drop-requires : tie.Need-drop-requires
 drop-requires c κs = let s = c .before .before in
     let a = s .args in
     let e = ap (λ (g : Grids). g .conf) (s .pre .1 .0) in (
-      span-of (a .s) (a .book .now) (s .pre .0) confPairs (a .g .conf) e (length (a .book .now)) (a .last) refl (last-of (a .s) (a .g .conf) e (a .last) (s .pre .1 .1 .0)),
+      span-of (a .s) (a .book .now) (s .pre .0) confPairs (a .g .conf) e (length (a .book .now)) (a .last) refl
+          (last-of (a .s) (a .g .conf) e (a .last) (s .pre .1 .1 .0)),
       omega (arith, s .pre .0 .ranges .meetings, s .pre .1 .1 .1),
     )
 
@@ -50,9 +51,12 @@ same-length c = search needs
 returns : tie.Need-returns
 returns c = let a = c .before .before .before .before .before .before .before .before .before .before .before .args in
     c .before .before .take .ensures
-    ∙ ap (λ (d : ℕ). filled (a .g .lunch) (a .b) empty d (c .before .before .before .before .date-of-session2 .result .0 + 1) (c .before .before .before .before .before .before .before .before .drop .last .0)) (c .before .before .before .before .before .date-of-session .ensures)
-    ∙ ap (λ (d : ℕ). filled (a .g .lunch) (a .b) empty (dateOfSession (a .s) (a .first)) (d + 1) (c .before .before .before .before .before .before .before .before .drop .last .0)) (c .before .before .before .before .date-of-session2 .ensures)
-    ∙ ap (filled (a .g .lunch) (a .b) empty (dateOfSession (a .s) (a .first)) (dateOfSession (a .s) (a .last) + 1)) (c .before .before .before .before .before .before .before .before .drop .ensures)
+    ∙ ap (λ (d : ℕ). filled (a .g .lunch) (a .b) empty d (c .before .before .before .before .date-of-session2 .result .0 + 1)
+    (c .before .before .before .before .before .before .before .before .drop .last .0)) (c .before .before .before .before .before .date-of-session .ensures)
+    ∙ ap (λ (d : ℕ). filled (a .g .lunch) (a .b) empty (dateOfSession (a .s) (a .first)) (d + 1)
+    (c .before .before .before .before .before .before .before .before .drop .last .0)) (c .before .before .before .before .date-of-session2 .ensures)
+    ∙ ap (filled (a .g .lunch) (a .b) empty (dateOfSession (a .s) (a .first)) (dateOfSession (a .s) (a .last) + 1))
+    (c .before .before .before .before .before .before .before .before .drop .ensures)
 
 pub erase-conf-and-lunch-spec : {M : Type 1} → statement M
 erase-conf-and-lunch-spec =

@@ -40,7 +40,8 @@ sweep-requires : tie.Need-sweep-requires
 sweep-requires c κs = let s = c .before .before .before .before .before .before .before .before .before .before .before in
     let a = s .args in
     let q : Reach (a .g .ride) _ _ = reach-of (a .s) (a .book .now) (s .pre .0) rideCells (a .g .ride) (ap (λ (g : Grids). g .ride) (s .pre .1 .0)) _ _
-    (c .before .before .before .before .drop .kept .0 ∙ c .before .before .before .before .before .before .before .before .turn .kept .0) (c .before .slots-on .ensures .ends .most) in
+    (c .before .before .before .before .drop .kept .0 ∙ c .before .before .before .before .before .before .before .before .turn .kept .0)
+    (c .before .slots-on .ensures .ends .most) in
     (q .fits, (q .narrow, q .most))
 
 slots-on-requires-2 : tie.Need-slots-on-requires-2
@@ -52,7 +53,9 @@ fill-requires c κs = let s = c .before .before .before .before .before .before 
     let a = s .args in
     let e = ap (λ (g : Grids). g .attend) (s .pre .1 .0) in
     let q : Reach (a .g .attend) _ _ = reach-of (a .s) (a .book .now) (s .pre .0) attendCells (a .g .attend) e _ _
-    (c .before .before .before .before .sweep .kept .0 ∙ c .before .before .before .before .before .before .before .before .before .drop .kept .0 ∙ c .before .before .before .before .before .before .before .before .before .before .before .before .before .turn .kept .0) (c .before .slots-on2 .ensures .ends .most) in
+    (c .before .before .before .before .sweep .kept .0 ∙ c .before .before .before .before .before .before .before .before .before .drop .kept .0
+    ∙ c .before .before .before .before .before .before .before .before .before .before .before .before .before .turn .kept .0)
+    (c .before .slots-on2 .ensures .ends .most) in
     (q .fits, (q .narrow, (q .most, item-of (a .s) attendCells (a .g .attend) e (a .v) (s .pre .1 .1 .1))))
 
 same-length : tie.Need-same-length
@@ -71,10 +74,17 @@ returns c = let s = c .before .before .before .before .before .before .before .b
       times = t .ensures;
       sessions = u .ensures;
       is = c .before .before .fill .ensures
-          ∙ ap (filled (a .g .attend) (a .v) empty (u .result .from) (u .result .to)) (c .before .before .before .before .before .before .before .sweep .ensures)
-          ∙ ap (λ (l : List ℕ). filled (a .g .attend) (a .v) empty (u .result .from) (u .result .to) (swept (a .g .ride) (a .v + 1) (t .result .from) (t .result .to) l)) (c .before .before .before .before .before .before .before .before .before .before .before .before .drop .ensures)
-          ∙ ap (λ (l : List ℕ). filled (a .g .attend) (a .v) empty (u .result .from) (u .result .to) (swept (a .g .ride) (a .v + 1) (t .result .from) (t .result .to) (swept (a .g .hotel) (a .v + 1) (a .first) (a .last + 1) l))) (c .before .before .before .before .before .before .before .before .before .before .before .before .before .before .before .before .turn .ensures)
-          ∙ ap (λ (g : Grids). filled (g .attend) (a .v) empty (u .result .from) (u .result .to) (swept (g .ride) (a .v + 1) (t .result .from) (t .result .to) (swept (g .hotel) (a .v + 1) (a .first) (a .last + 1) (markedAll (g .leave) false (a .v) (a .first) (a .last + 1) (a .book .now))))) (s .pre .1 .0);
+          ∙ ap (filled (a .g .attend) (a .v) empty (u .result .from) (u .result .to))
+          (c .before .before .before .before .before .before .before .sweep .ensures)
+          ∙ ap (λ (l : List ℕ). filled (a .g .attend) (a .v) empty (u .result .from) (u .result .to)
+          (swept (a .g .ride) (a .v + 1) (t .result .from) (t .result .to) l))
+          (c .before .before .before .before .before .before .before .before .before .before .before .before .drop .ensures)
+          ∙ ap (λ (l : List ℕ). filled (a .g .attend) (a .v) empty (u .result .from) (u .result .to)
+          (swept (a .g .ride) (a .v + 1) (t .result .from) (t .result .to) (swept (a .g .hotel) (a .v + 1) (a .first) (a .last + 1) l)))
+          (c .before .before .before .before .before .before .before .before .before .before .before .before .before .before .before .before .turn .ensures)
+          ∙ ap (λ (g : Grids). filled (g .attend) (a .v) empty (u .result .from) (u .result .to)
+          (swept (g .ride) (a .v + 1) (t .result .from) (t .result .to)
+          (swept (g .hotel) (a .v + 1) (a .first) (a .last + 1) (markedAll (g .leave) false (a .v) (a .first) (a .last + 1) (a .book .now))))) (s .pre .1 .0);
     }
 
 pub remove-visitor-spec : {M : Type 1} → statement M

@@ -1,6 +1,7 @@
-use Prim.Native.Nat.{ℕ, _-_, _+_}
+-- `units::all_before` meets its contract: dates do not fall as slots rise.
+-- Assumes nothing.
+use Prim.Native.Nat.{_-_}
 use native.Mathlib.Omega.{arith}
-use mathlib.Core.Path.{_≡_, sym}
 use borrow.Author.Tests.{ltb-true}
 use Rattle.book.proofs.Cuts.{turn-low}
 use borrow.Author.Needs.{needs}

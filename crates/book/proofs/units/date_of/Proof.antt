@@ -1,4 +1,3 @@
-use mathlib.Core.Path.{_≡_, refl, sym, _∙_, ap}
 use borrow.Author.Needs.{needs}
 use Rattle.book.proofs.units.date_of.Statement.{statement}
 use Rattle.book.proofs.units.date_of.Tie as tie

@@ -1,3 +1,5 @@
+-- `units::first_on` meets its contract: a guess that is borne out, or the bisection.
+-- Assumes nothing.
 use native.Mathlib.Omega.{arith}
 use borrow.Author.Tests.{not-false}
 use borrow.Author.Needs.{needs}

@@ -1,3 +1,5 @@
+-- `units::guess` meets its contract: its products are small.
+-- Assumes nothing.
 use native.Mathlib.Omega.{arith}
 use native.Mathlib.Nat.{mul-le-mul}
 use borrow.Author.Needs.{needs}

@@ -1,4 +1,5 @@
-use mathlib.Core.Path.{_≡_, sym}
+-- `units::none_before` meets its contract: dates do not fall as slots rise.
+-- Assumes nothing.
 use borrow.Author.Tests.{leb-true}
 use Rattle.book.proofs.Cuts.{turn-high}
 use borrow.Author.Needs.{needs}

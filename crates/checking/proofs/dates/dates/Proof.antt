@@ -28,7 +28,7 @@ loop-holds c = (omega arith, below-none _)
 date-at-requires : tie.Need-date-at-requires Inv-loop μ-loop
 date-at-requires c κs =
     let p = c .before .before .before .before .before .pre in
-    (p .0, (p .1 .0, (c .before .before .shares-of .ensures, (p .1 .1, omega arith))))
+    (record { laid = p .0; starts = p .1 .0; sizes = c .before .before .shares-of .ensures; date = omega arith }, p .1 .1)
 
 returns : tie.Need-returns Inv-loop μ-loop
 returns c = λ all. said-false (c .before .date-at .result) (not-true _ (c .if1 .taken)) (c .before .date-at .ensures) (all (c .before .before .before .loop .d) (omega arith))

@@ -1,4 +1,5 @@
-use mathlib.Core.Path.{_≡_, refl, sym, _∙_, ap}
+-- `answers::add_stay` meets its contract: the questions of kinds 4 and 6, one after the other.
+-- Assumes nothing.
 use Rattle.judge.specs.Chains.{addStay}
 use Rattle.book.proofs.Goods.{good-laid}
 use native.Mathlib.Omega.{arith}
@@ -30,13 +31,24 @@ enum-known-i-2 c = search needs
 
 returns-2 : tie.Need-returns-2
 unfolding addStay
-returns-2 c = rw (← (c .before .before .before .before .before .before .first-without .ensures), c .before .before .before .before .enum-told .given .1, ← (c .before .before .before .first-failing .ensures), c .before .i2 .given .1)
+returns-2 c =
+    rw (
+      ← (c .before .before .before .before .before .before .first-without .ensures),
+      c .before .before .before .before .enum-told .given .1,
+      ← (c .before .before .before .first-failing .ensures),
+      c .before .i2 .given .1,
+    )
 
 enum-told-2 : tie.Need-enum-told-2
 enum-told-2 c = search needs
 
 add-first-failing-2 : tie.Need-add-first-failing-2
-add-first-failing-2 c = omega (arith, good-laid (c .before .before .before .before .before .before .before .pre .0) .ranges .visitors, c .before .before .before .before .before .before .before .pre .1 .1 .1 .1 .1 .1)
+add-first-failing-2 c =
+    omega (
+      arith,
+      good-laid (c .before .before .before .before .before .before .before .pre .0) .ranges .visitors,
+      c .before .before .before .before .before .before .before .pre .1 .1 .1 .1 .1 .1,
+    )
 
 first-failing-requires-2 : tie.Need-first-failing-requires-2
 first-failing-requires-2 c κs = search needs
@@ -46,13 +58,26 @@ enum-known-i-3 c = search needs
 
 returns-3 : tie.Need-returns-3
 unfolding addStay
-returns-3 c = rw (← (c .before .before .before .before .before .before .before .before .before .first-without .ensures), c .before .before .before .before .before .before .before .enum-told .given .1, ← (c .before .before .before .before .before .before .first-failing .ensures), c .before .before .before .before .enum-told2 .given .1, ← (c .before .before .before .first-failing2 .ensures), c .before .i3 .given .1)
+returns-3 c =
+    rw (
+      ← (c .before .before .before .before .before .before .before .before .before .first-without .ensures),
+      c .before .before .before .before .before .before .before .enum-told .given .1,
+      ← (c .before .before .before .before .before .before .first-failing .ensures),
+      c .before .before .before .before .enum-told2 .given .1,
+      ← (c .before .before .before .first-failing2 .ensures),
+      c .before .i3 .given .1,
+    )
 
 enum-told-3 : tie.Need-enum-told-3
 enum-told-3 c = search needs
 
 add-first-failing-3 : tie.Need-add-first-failing-3
-add-first-failing-3 c = omega (arith, good-laid (c .before .before .before .before .before .before .before .before .before .before .pre .0) .ranges .visitors, c .before .before .before .before .before .before .before .before .before .before .pre .1 .1 .1 .1 .1 .1)
+add-first-failing-3 c =
+    omega (
+      arith,
+      good-laid (c .before .before .before .before .before .before .before .before .before .before .pre .0) .ranges .visitors,
+      c .before .before .before .before .before .before .before .before .before .before .pre .1 .1 .1 .1 .1 .1,
+    )
 
 first-failing-requires-3 : tie.Need-first-failing-requires-3
 first-failing-requires-3 c κs = search needs
@@ -62,7 +87,16 @@ settled-requires c κs = search needs
 
 returns-4 : tie.Need-returns-4
 unfolding addStay
-returns-4 c = rw (← (c .before .before .before .before .before .before .before .before .before .before .first-without .ensures), c .before .before .before .before .before .before .before .before .enum-told .given .1, ← (c .before .before .before .before .before .before .before .first-failing .ensures), c .before .before .before .before .before .enum-told2 .given .1, ← (c .before .before .before .before .first-failing2 .ensures), c .before .before .enum-told3 .given .1, ← (c .before .first-failing3 .ensures)) (c .settled .ensures)
+returns-4 c =
+    rw (
+      ← (c .before .before .before .before .before .before .before .before .before .before .first-without .ensures),
+      c .before .before .before .before .before .before .before .before .enum-told .given .1,
+      ← (c .before .before .before .before .before .before .before .first-failing .ensures),
+      c .before .before .before .before .before .enum-told2 .given .1,
+      ← (c .before .before .before .before .first-failing2 .ensures),
+      c .before .before .enum-told3 .given .1,
+      ← (c .before .first-failing3 .ensures),
+    ) (c .settled .ensures)
 
 pub add-stay-spec : {M : Type 1} → statement M
 add-stay-spec =

@@ -1,6 +1,6 @@
-use mathlib.Core.Path.{_≡_, refl, sym, _∙_, ap}
+-- `answers::end_standing` meets its contract: the questions of kind 9, one after the other.
+-- Assumes nothing.
 use Rattle.judge.specs.Chains.{standingEnds}
-use Rattle.book.proofs.Goods.{good-laid}
 use native.Mathlib.Omega.{arith}
 use borrow.Author.Needs.{needs}
 use Rattle.judge.proofs.answers.end_standing.Statement.{statement}
@@ -27,7 +27,12 @@ settled-requires c κs = search needs
 
 returns-2 : tie.Need-returns-2
 unfolding standingEnds
-returns-2 c = rw (← (c .before .before .before .before .first-without .ensures), c .before .before .enum-told .given .1, ← (c .before .first-without2 .ensures)) (c .settled .ensures)
+returns-2 c =
+    rw (
+      ← (c .before .before .before .before .first-without .ensures),
+      c .before .before .enum-told .given .1,
+      ← (c .before .first-without2 .ensures),
+    ) (c .settled .ensures)
 
 pub end-standing-spec : {M : Type 1} → statement M
 end-standing-spec =

@@ -1,4 +1,5 @@
-use mathlib.Core.Path.{_≡_, refl, sym, _∙_, ap}
+-- `answers::erase` meets its contract: question 15.
+-- Assumes nothing.
 use Rattle.judge.specs.Chains.{erasePair}
 use borrow.Author.Needs.{needs}
 use Rattle.judge.proofs.answers.erase.Statement.{statement}

@@ -1,4 +1,5 @@
-use mathlib.Core.Path.{_≡_, refl, sym, _∙_, ap}
+-- `answers::erase_all` meets its contract: the questions of kind 16, one after the other.
+-- Assumes nothing.
 use Rattle.judge.specs.Chains.{eraseAll}
 use Rattle.book.proofs.Goods.{good-laid}
 use native.Mathlib.Omega.{arith}
@@ -28,14 +29,23 @@ date-of-session-requires-2 : tie.Need-date-of-session-requires-2
 date-of-session-requires-2 c κs = good-laid (c .before .before .before .before .before .pre .0) .ranges
 
 first-without-requires-2 : tie.Need-first-without-requires-2
-first-without-requires-2 c κs = let p = c .before .before .before .before .before .before .pre in (p .0, (p .1 .0, (rw (c .date-of-session2 .ensures) (date-lt (c .before .before .before .before .before .before .args .s) (good-laid (p .0) .ranges) Sessions (c .before .before .before .before .before .before .args .last) (p .1 .1 .0)), (p .1 .1 .1, omega arith))))
+first-without-requires-2 c κs =
+    let p = c .before .before .before .before .before .before .pre in
+    (p .0, (p .1 .0, (rw (c .date-of-session2 .ensures) (date-lt (c .before .before .before .before .before .before .args .s) (good-laid (p .0) .ranges) Sessions (c .before .before .before .before .before .before .args .last) (p .1 .1 .0)), (p .1 .1 .1, omega arith))))
 
 settled-requires : tie.Need-settled-requires
 settled-requires c κs = search needs
 
 returns-2 : tie.Need-returns-2
 unfolding eraseAll
-returns-2 c = rw (← (c .before .before .before .before .before .before .first-without .ensures), c .before .before .before .before .enum-told .given .1, ← (c .before .before .before .date-of-session .ensures), ← (c .before .before .date-of-session2 .ensures), ← (c .before .first-without2 .ensures)) (c .settled .ensures)
+returns-2 c =
+    rw (
+      ← (c .before .before .before .before .before .before .first-without .ensures),
+      c .before .before .before .before .enum-told .given .1,
+      ← (c .before .before .before .date-of-session .ensures),
+      ← (c .before .before .date-of-session2 .ensures),
+      ← (c .before .first-without2 .ensures),
+    ) (c .settled .ensures)
 
 pub erase-all-spec : {M : Type 1} → statement M
 erase-all-spec =

@@ -1,4 +1,5 @@
-use mathlib.Core.Path.{_≡_, refl, sym, _∙_, ap}
+-- `answers::found_or` meets its contract: by the case of what was found.
+-- Assumes nothing.
 use borrow.Author.Needs.{needs}
 use Rattle.judge.proofs.answers.found_or.Statement.{statement}
 use Rattle.judge.proofs.answers.found_or.Tie as tie

@@ -1,4 +1,5 @@
-use mathlib.Core.Path.{_≡_, refl, sym, _∙_, ap}
+-- `answers::lunch_fits` meets its contract: question 8, then the others of kind 14.
+-- Assumes nothing.
 use borrow.Author.Tests.{le-leb, lt-leb}
 use Rattle.judge.specs.Chains.{lunchFits}
 use Rattle.judge.proofs.Seats.{capacity-le}
@@ -19,11 +20,18 @@ unfolding lunchFits
 returns-2 c = rw (← (c .before .capacity .ensures), le-leb _ _ (c .before .before .if1 .left), lt-leb _ _ (c .if2 .taken))
 
 add-lunch-requires : tie.Need-add-lunch-requires
-add-lunch-requires c κs = let p = c .before .before .before .before .pre in (p .0, (p .1 .0, (p .1 .1 .0, (p .1 .1 .1 .0, (p .1 .1 .1 .1, omega (arith, c .if2 .left, c .before .capacity .ensures, capacity-le (p .0) (c .before .before .before .before .args .a) (p .1 .1 .1 .0)))))))
+add-lunch-requires c κs =
+    let p = c .before .before .before .before .pre in
+    (p .0, (p .1 .0, (p .1 .1 .0, (p .1 .1 .1 .0, (p .1 .1 .1 .1, omega (arith, c .if2 .left, c .before .capacity .ensures, capacity-le (p .0) (c .before .before .before .before .args .a) (p .1 .1 .1 .0)))))))
 
 returns-3 : tie.Need-returns-3
 unfolding lunchFits
-returns-3 c = rw (← (c .before .before .capacity .ensures), le-leb _ _ (c .before .before .before .if1 .left), le-leb _ _ (c .before .if2 .left)) (c .add-lunch .ensures)
+returns-3 c =
+    rw (
+      ← (c .before .before .capacity .ensures),
+      le-leb _ _ (c .before .before .before .if1 .left),
+      le-leb _ _ (c .before .if2 .left),
+    ) (c .add-lunch .ensures)
 
 pub lunch-fits-spec : {M : Type 1} → statement M
 lunch-fits-spec =

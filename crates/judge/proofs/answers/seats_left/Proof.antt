@@ -1,4 +1,5 @@
-use mathlib.Core.Path.{_≡_, refl, sym, _∙_, ap}
+-- `answers::seats_left` meets its contract: reserved is at most capacity.
+-- Assumes nothing.
 use native.Mathlib.Omega.{arith}
 use Rattle.book.proofs.Goods.{good-laid}
 use Rattle.judge.proofs.Seats.{reserved-le}
@@ -13,7 +14,10 @@ reserved-requires : tie.Need-reserved-requires
 reserved-requires c κs = search needs
 
 sub-result : tie.Need-sub-result
-sub-result c = let p = c .before .before .before .pre in let a = c .before .before .before .args in omega (arith, c .before .capacity .ensures, c .reserved .ensures, reserved-le (p .0) (a .date) (a .room) (p .1 .1 .0) (p .1 .1 .1))
+sub-result c =
+    let p = c .before .before .before .pre in
+    let a = c .before .before .before .args in
+    omega (arith, c .before .capacity .ensures, c .reserved .ensures, reserved-le (p .0) (a .date) (a .room) (p .1 .1 .0) (p .1 .1 .1))
 
 returns : tie.Need-returns
 returns c = search needs

@@ -1,6 +1,8 @@
+-- `cells::holds` meets its contract: question by question.
+-- Assumes nothing.
 use Rattle.judge.specs.Asked.{holdsAt}
 use borrow.Author.Tests.{eq-eqb, ne-eqb}
-use mathlib.Core.Path.{refl, ap, sym, _∙_}
+use mathlib.Core.Path.{sym, _∙_}
 use borrow.Author.Needs.{needs}
 use Rattle.judge.proofs.cells.holds.Statement.{statement}
 use Rattle.judge.proofs.cells.holds.Tie as tie

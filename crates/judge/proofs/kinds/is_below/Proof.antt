@@ -1,4 +1,5 @@
-use mathlib.Core.Path.{_≡_, refl, sym, _∙_, ap}
+-- `kinds::is_below` meets its contract: field by field.
+-- Assumes nothing.
 use borrow.Author.Needs.{needs}
 use Rattle.judge.proofs.kinds.is_below.Statement.{statement}
 use Rattle.judge.proofs.kinds.is_below.Tie as tie

@@ -1,6 +1,7 @@
+-- `kinds::row_of` meets its contract: row by row; the last kind is what is left.
+-- Assumes nothing.
 use Rattle.judge.proofs.Numbers.{last-kind}
-use mathlib.Core.Path.{_≡_, refl, sym, _∙_, ap}
-use native.Mathlib.Omega.{arith}
+use mathlib.Core.Path.{sym, _∙_, ap}
 use Rattle.model.specs.Kinds.{kindOf}
 use Rattle.judge.specs.Rows.{rowOf, rowAt}
 use borrow.Author.Needs.{needs}
@@ -139,7 +140,8 @@ returns-19 c = ap rowOf (c .single3 .ensures) ∙ sym (ap rowAt (c .before .matc
 
 returns-20 : tie.Need-returns-20
 unfolding kindOf
-returns-20 c = ap rowOf (c .plain15 .ensures) ∙ sym (ap rowAt (last-kind _ 19 (c .before .before .pre .0) (c .before .before .pre .1) (c .before .match .rest)))
+returns-20 c =
+    ap rowOf (c .plain15 .ensures) ∙ sym (ap rowAt (last-kind _ 19 (c .before .before .pre .0) (c .before .before .pre .1) (c .before .match .rest)))
 
 pub row-of-spec : {M : Type 1} → statement M
 row-of-spec =

@@ -1,4 +1,5 @@
-use mathlib.Core.Path.{_≡_, refl, sym, _∙_, ap}
+-- `kinds::slots_of` meets its contract: unit by unit.
+-- Assumes nothing.
 use native.Mathlib.Omega.{arith}
 use Rattle.book.proofs.Regions.{all-sessions, all-times}
 use borrow.Author.Needs.{needs}

@@ -1,4 +1,6 @@
-use mathlib.Core.Path.{_≡_, refl, sym, _∙_, ap}
+-- `kinds::unused_zero` meets its contract: field by field.
+-- Assumes nothing.
+use mathlib.Core.Path.{sym, _∙_}
 use borrow.Author.Tests.{not-true, not-false}
 use Rattle.judge.specs.Rows.{unusedZero}
 use borrow.Author.Needs.{needs}
@@ -23,21 +25,41 @@ zero-unless-requires-2 c κs = search needs
 
 returns-2 : tie.Need-returns-2
 unfolding unusedZero
-returns-2 c = rw (← (c .before .before .before .before .before .is-used .ensures), sym (c .before .before .before .before .zero-unless .ensures) ∙ not-false _ (c .before .before .before .if1 .left), ← (c .before .before .is-used2 .ensures), sym (c .before .zero-unless2 .ensures) ∙ not-true _ (c .if2 .taken))
+returns-2 c =
+    rw (
+      ← (c .before .before .before .before .before .is-used .ensures),
+      sym (c .before .before .before .before .zero-unless .ensures) ∙ not-false _ (c .before .before .before .if1 .left),
+      ← (c .before .before .is-used2 .ensures),
+      sym (c .before .zero-unless2 .ensures) ∙ not-true _ (c .if2 .taken),
+    )
 
 zero-unless-requires-3 : tie.Need-zero-unless-requires-3
 zero-unless-requires-3 c κs = search needs
 
 returns-3 : tie.Need-returns-3
 unfolding unusedZero
-returns-3 c = rw (← (c .before .before .before .before .before .before .before .is-used .ensures), sym (c .before .before .before .before .before .before .zero-unless .ensures) ∙ not-false _ (c .before .before .before .before .before .if1 .left), ← (c .before .before .before .before .is-used2 .ensures), sym (c .before .before .before .zero-unless2 .ensures) ∙ not-false _ (c .before .before .if2 .left), sym (c .before .zero-unless3 .ensures) ∙ not-true _ (c .if3 .taken))
+returns-3 c =
+    rw (
+      ← (c .before .before .before .before .before .before .before .is-used .ensures),
+      sym (c .before .before .before .before .before .before .zero-unless .ensures) ∙ not-false _ (c .before .before .before .before .before .if1 .left),
+      ← (c .before .before .before .before .is-used2 .ensures),
+      sym (c .before .before .before .zero-unless2 .ensures) ∙ not-false _ (c .before .before .if2 .left),
+      sym (c .before .zero-unless3 .ensures) ∙ not-true _ (c .if3 .taken),
+    )
 
 zero-unless-requires-4 : tie.Need-zero-unless-requires-4
 zero-unless-requires-4 c κs = search needs
 
 returns-4 : tie.Need-returns-4
 unfolding unusedZero
-returns-4 c = rw (← (c .before .before .before .before .before .before .before .before .is-used .ensures), sym (c .before .before .before .before .before .before .before .zero-unless .ensures) ∙ not-false _ (c .before .before .before .before .before .before .if1 .left), ← (c .before .before .before .before .before .is-used2 .ensures), sym (c .before .before .before .before .zero-unless2 .ensures) ∙ not-false _ (c .before .before .before .if2 .left), sym (c .before .before .zero-unless3 .ensures) ∙ not-false _ (c .before .if3 .left)) (c .zero-unless4 .ensures)
+returns-4 c =
+    rw (
+      ← (c .before .before .before .before .before .before .before .before .is-used .ensures),
+      sym (c .before .before .before .before .before .before .before .zero-unless .ensures) ∙ not-false _ (c .before .before .before .before .before .before .if1 .left),
+      ← (c .before .before .before .before .before .is-used2 .ensures),
+      sym (c .before .before .before .before .zero-unless2 .ensures) ∙ not-false _ (c .before .before .before .if2 .left),
+      sym (c .before .before .zero-unless3 .ensures) ∙ not-false _ (c .before .if3 .left),
+    ) (c .zero-unless4 .ensures)
 
 pub unused-zero-spec : {M : Type 1} → statement M
 unused-zero-spec =

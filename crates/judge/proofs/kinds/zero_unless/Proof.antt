@@ -1,4 +1,5 @@
-use mathlib.Core.Path.{_≡_, refl, sym, _∙_, ap}
+-- `kinds::zero_unless` meets its contract: by the case of its flag.
+-- Assumes nothing.
 use borrow.Author.Needs.{needs}
 use Rattle.judge.proofs.kinds.zero_unless.Statement.{statement}
 use Rattle.judge.proofs.kinds.zero_unless.Tie as tie

@@ -1,5 +1,6 @@
+-- `slots::holds` meets its contract: test by test.
+-- Assumes nothing.
 use Rattle.judge.specs.Asked.{holdsIn}
-use mathlib.Core.Path.{_≡_, refl, sym, _∙_, ap}
 use borrow.Author.Needs.{needs}
 use Rattle.judge.proofs.slots.holds.Statement.{statement}
 use Rattle.judge.proofs.slots.holds.Tie as tie
@@ -8,55 +9,73 @@ enum-known-t : tie.Need-enum-known-t
 enum-known-t c = search needs
 
 on-leave-requires : tie.Need-on-leave-requires
-on-leave-requires c κs = let p = c .before .before .before .before .pre in (p .0, (p .1 .0, (rw (c .before .t .given .1) at (p .1 .1 .0), rw (c .before .t .given .1) at (p .1 .1 .1 .0))))
+on-leave-requires c κs =
+    let p = c .before .before .before .before .pre in
+    (p .0, (p .1 .0, (rw (c .before .t .given .1) at (p .1 .1 .0), rw (c .before .t .given .1) at (p .1 .1 .1 .0))))
 
 enum-told : tie.Need-enum-told
 enum-told c = search needs
 
 stands-requires : tie.Need-stands-requires
-stands-requires c κs = let p = c .before .before .before .pre in (p .0, (p .1 .0, (rw (c .enum-told .given .1) at (p .1 .1 .0), rw (c .enum-told .given .1) at (p .1 .1 .1 .0))))
+stands-requires c κs =
+    let p = c .before .before .before .pre in
+    (p .0, (p .1 .0, (rw (c .enum-told .given .1) at (p .1 .1 .0), rw (c .enum-told .given .1) at (p .1 .1 .1 .0))))
 
 enum-told-2 : tie.Need-enum-told-2
 enum-told-2 c = search needs
 
 stands-on-requires : tie.Need-stands-on-requires
-stands-on-requires c κs = let p = c .before .before .before .pre in (p .0, (p .1 .0, (rw (c .enum-told2 .given .1) at (p .1 .1 .0), rw (c .enum-told2 .given .1) at (p .1 .1 .1 .0))))
+stands-on-requires c κs =
+    let p = c .before .before .before .pre in
+    (p .0, (p .1 .0, (rw (c .enum-told2 .given .1) at (p .1 .1 .0), rw (c .enum-told2 .given .1) at (p .1 .1 .1 .0))))
 
 enum-told-3 : tie.Need-enum-told-3
 enum-told-3 c = search needs
 
 room-left-requires : tie.Need-room-left-requires
-room-left-requires c κs = let p = c .before .before .before .pre in (p .0, (p .1 .0, (rw (c .enum-told3 .given .1) at (p .1 .1 .0), (rw (c .enum-told3 .given .1) at (p .1 .1 .1 .0), p .1 .1 .1 .1))))
+room-left-requires c κs =
+    let p = c .before .before .before .pre in
+    (p .0, (p .1 .0, (rw (c .enum-told3 .given .1) at (p .1 .1 .0), (rw (c .enum-told3 .given .1) at (p .1 .1 .1 .0), p .1 .1 .1 .1))))
 
 enum-told-4 : tie.Need-enum-told-4
 enum-told-4 c = search needs
 
 conf-held-requires : tie.Need-conf-held-requires
-conf-held-requires c κs = let p = c .before .before .before .pre in (p .0, (p .1 .0, (rw (c .enum-told4 .given .1) at (p .1 .1 .0), rw (c .enum-told4 .given .1) at (p .1 .1 .1 .0))))
+conf-held-requires c κs =
+    let p = c .before .before .before .pre in
+    (p .0, (p .1 .0, (rw (c .enum-told4 .given .1) at (p .1 .1 .0), rw (c .enum-told4 .given .1) at (p .1 .1 .1 .0))))
 
 enum-told-5 : tie.Need-enum-told-5
 enum-told-5 c = search needs
 
 lunch-held-requires : tie.Need-lunch-held-requires
-lunch-held-requires c κs = let p = c .before .before .before .pre in (p .0, (p .1 .0, (rw (c .enum-told5 .given .1) at (p .1 .1 .0), rw (c .enum-told5 .given .1) at (p .1 .1 .1 .0))))
+lunch-held-requires c κs =
+    let p = c .before .before .before .pre in
+    (p .0, (p .1 .0, (rw (c .enum-told5 .given .1) at (p .1 .1 .0), rw (c .enum-told5 .given .1) at (p .1 .1 .1 .0))))
 
 enum-told-6 : tie.Need-enum-told-6
 enum-told-6 c = search needs
 
-bookings-requires : tie.Need-bookings-requires
-bookings-requires c κs = let p = c .before .before .before .pre in (p .0, (p .1 .0, (rw (c .enum-told6 .given .1) at (p .1 .1 .1 .0), (search needs, rw (c .enum-told6 .given .1) at (p .1 .1 .0)))))
+no-bookings-requires : tie.Need-no-bookings-requires
+no-bookings-requires c κs =
+    let p = c .before .before .before .pre in
+    (p .0, (p .1 .0, (rw (c .enum-told6 .given .1) at (p .1 .1 .0), rw (c .enum-told6 .given .1) at (p .1 .1 .1 .0))))
 
 enum-told-7 : tie.Need-enum-told-7
 enum-told-7 c = search needs
 
 not-held-requires : tie.Need-not-held-requires
-not-held-requires c κs = let p = c .before .before .before .pre in (p .0, (p .1 .0, (rw (c .enum-told7 .given .1) at (p .1 .1 .0), rw (c .enum-told7 .given .1) at (p .1 .1 .1 .0))))
+not-held-requires c κs =
+    let p = c .before .before .before .pre in
+    (p .0, (p .1 .0, (rw (c .enum-told7 .given .1) at (p .1 .1 .0), rw (c .enum-told7 .given .1) at (p .1 .1 .1 .0))))
 
 enum-told-8 : tie.Need-enum-told-8
 enum-told-8 c = search needs
 
 attended-requires : tie.Need-attended-requires
-attended-requires c κs = let p = c .before .before .before .pre in (p .0, (p .1 .0, (rw (c .enum-told8 .given .1) at (p .1 .1 .0), rw (c .enum-told8 .given .1) at (p .1 .1 .1 .0))))
+attended-requires c κs =
+    let p = c .before .before .before .pre in
+    (p .0, (p .1 .0, (rw (c .enum-told8 .given .1) at (p .1 .1 .0), rw (c .enum-told8 .given .1) at (p .1 .1 .1 .0))))
 
 returns : tie.Need-returns
 unfolding holdsIn
@@ -84,7 +103,7 @@ returns-6 c = rw (c .before .enum-told5 .given .1) (c .lunch-held .ensures)
 
 returns-7 : tie.Need-returns-7
 unfolding holdsIn
-returns-7 c = rw (c .before .enum-told6 .given .1) (rw (c .bookings .ensures))
+returns-7 c = rw (c .before .enum-told6 .given .1) (c .no-bookings .ensures)
 
 returns-8 : tie.Need-returns-8
 unfolding holdsIn
@@ -111,7 +130,7 @@ holds-spec =
     enum-told-5
     lunch-held-requires
     enum-told-6
-    bookings-requires
+    no-bookings-requires
     enum-told-7
     not-held-requires
     enum-told-8

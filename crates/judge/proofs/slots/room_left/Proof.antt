@@ -1,8 +1,9 @@
+-- `slots::room_left` meets its contract: reserved and n are few enough to be added.
+-- Assumes nothing.
 use Rattle.judge.specs.Asked.{roomLeft}
 use Rattle.book.proofs.Goods.{good-laid}
 use Rattle.judge.proofs.Seats.{reserved-le, capacity-le}
 use native.Mathlib.Omega.{arith}
-use mathlib.Core.Path.{_≡_, refl, sym, _∙_, ap}
 use borrow.Author.Needs.{needs}
 use Rattle.judge.proofs.slots.room_left.Statement.{statement}
 use Rattle.judge.proofs.slots.room_left.Tie as tie
@@ -11,7 +12,16 @@ reserved-requires : tie.Need-reserved-requires
 reserved-requires c κs = search needs
 
 add-result : tie.Need-add-result
-add-result c = let p = c .before .before .pre in let a = c .before .before .args in omega (arith, c .reserved .ensures, reserved-le (p .0) (a .date) (a .room) (p .1 .1 .0) (p .1 .1 .1 .0), capacity-le (p .0) (a .room) (p .1 .1 .1 .0), p .1 .1 .1 .1)
+add-result c =
+    let p = c .before .before .pre in
+    let a = c .before .before .args in
+    omega (
+      arith,
+      c .reserved .ensures,
+      reserved-le (p .0) (a .date) (a .room) (p .1 .1 .0) (p .1 .1 .1 .0),
+      capacity-le (p .0) (a .room) (p .1 .1 .1 .0),
+      p .1 .1 .1 .1,
+    )
 
 capacity-requires : tie.Need-capacity-requires
 capacity-requires c κs = let p = c .before .before .pre in (good-laid (p .0) .ranges, p .1 .1 .1 .0)

@@ -1,149 +1,75 @@
--- `bookings::bookings` meets its contract: the entries between the cuts of times and sessions.
+-- `bookings::bookings` meets its contract: the dates passed so far are added up.
 -- Assumes nothing.
-use Prim.Native.Nat.{_+_, _-_}
-use mathlib.Core.Path.{refl, _∙_, ap₂}
+use Prim.Native.Nat.{_+_, _-_, _≤_}
+use mathlib.Core.Path.{_≡_, sym, _∙_, ap, ap₂}
 use native.Mathlib.Omega.{arith}
-use borrow.Author.Needs.{needs}
-use Rattle.model.specs.Words.{attendCells, hotelCells, rideCells}
-use Rattle.book.specs.declared.units.Slot.the-variants.{Sessions, Times}
-use Rattle.book.specs.Grids.{gridOf}
-use Rattle.book.proofs.Regions.{fits, all-sessions, all-times}
+use Rattle.model.specs.Questions.{bookings as bookingsIn}
+use Rattle.model.specs.Reading.{stateOf}
 use Rattle.book.proofs.Goods.{good-laid}
-use Rattle.queries.proofs.Runs.{rows-le, column-le, cut-order, bookings-is}
+use Rattle.queries.proofs.Spans.{bookings-next, bookings-le}
 use Rattle.queries.proofs.bookings.bookings.Statement.{statement}
 use Rattle.queries.proofs.bookings.bookings.Tie as tie
 
-first-on-requires : tie.Need-first-on-requires
-first-on-requires c κs =
-    let s = c .before in
-    (good-laid (s .pre .0) .ranges, rw (s .pre .1 .0) refl)
+abbrev Inv-loop : tie.InvT-loop
+Inv-loop book s g visitor from to n₀ date₀ n date = (from ≤ date) × (date ≤ to) × (n ≡ bookingsIn (stateOf book) visitor from date)
 
-add-first-on : tie.Need-add-first-on
-add-first-on c = omega (arith, good-laid (c .before .before .pre .0) .ranges .dates)
+abbrev μ-loop : tie.MeasureT-loop
+μ-loop book s g visitor from to n₀ date₀ n date = to - date
 
-first-on-requires-2 : tie.Need-first-on-requires-2
-first-on-requires-2 c κs =
-    let s = c .before .before in
-    (good-laid (s .pre .0) .ranges, rw (s .pre .1 .0) refl)
+on-date-requires : tie.Need-on-date-requires Inv-loop μ-loop
+on-date-requires c κs = let p = c .before .pre in (p .0, (p .1 .0, (p .1 .1 .0, omega arith)))
 
-first-on-requires-3 : tie.Need-first-on-requires-3
-first-on-requires-3 c κs =
-    let s = c .before .before .before in
-    (good-laid (s .pre .0) .ranges, rw (s .pre .1 .0) refl)
+loop-holds : tie.Need-loop-holds Inv-loop μ-loop
+loop-holds c = (omega arith, omega arith, c .on-date .ensures)
 
-add-first-on-2 : tie.Need-add-first-on-2
-add-first-on-2 c = omega (arith, good-laid (c .before .before .before .before .pre .0) .ranges .dates)
+add-date : tie.Need-add-date Inv-loop μ-loop
+add-date c = let p = c .before .before .before .before .pre in omega (arith, good-laid (p .0) .ranges .dates)
 
-first-on-requires-4 : tie.Need-first-on-requires-4
-first-on-requires-4 c κs =
-    let s = c .before .before .before .before in
-    (good-laid (s .pre .0) .ranges, rw (s .pre .1 .0) refl)
+on-date-requires-2 : tie.Need-on-date-requires-2 Inv-loop μ-loop
+on-date-requires-2 c κs = let p = c .before .before .before .before .pre in (p .0, (p .1 .0, (p .1 .1 .0, omega arith)))
 
-add-rows-count : tie.Need-add-rows-count
-add-rows-count c = omega (arith, good-laid (c .before .before .before .before .before .pre .0) .ranges .visitors)
-
-add-rows-count-2 : tie.Need-add-rows-count-2
-add-rows-count-2 c = omega (arith, good-laid (c .before .before .before .before .before .pre .0) .ranges .dates)
-
-rows-count-requires : tie.Need-rows-count-requires
-rows-count-requires c κs =
-    let s = c .before .before .before .before .before in
-    let l = good-laid (s .pre .0) in
-    (rw (s .pre .1 .0) (fits (s .args .s) (s .args .book .now) l hotelCells), rw (s .pre .1 .0) (omega arith, omega arith, omega (arith, l .ranges .dates), omega (arith, l .ranges .hotels)))
-
-add-rows-count-3 : tie.Need-add-rows-count-3
-add-rows-count-3 c = omega (arith, good-laid (c .before .before .before .before .before .before .pre .0) .ranges .visitors)
-
-rows-count-requires-2 : tie.Need-rows-count-requires-2
-rows-count-requires-2 c κs =
-    let s = c .before .before .before .before .before .before in
-    let l = good-laid (s .pre .0) in
-    let lo = c .before .before .before .before .first-on in
-    let hi = c .before .before .before .first-on2 in (
-      rw (s .pre .1 .0) (fits (s .args .s) (s .args .book .now) l rideCells),
-      rw (s .pre .1 .0) (cut-order (s .args .s) Times (s .args .from) (s .args .to + 1) _ _ (lo .ensures) (hi .ensures) (omega arith), hi .ensures .most, all-times (s .args .s) (l .ranges), omega (arith, l .ranges .transports)),
+add-n : tie.Need-add-n Inv-loop μ-loop
+add-n c =
+    let p = c .before .before .before .before .before .pre in
+    let a = c .before .before .before .before .before .args in
+    let l = c .before .before .loop in
+    omega (
+      arith,
+      c .on-date2 .ensures,
+      l .inv .2,
+      bookings-next (p .0) (a .visitor) (a .from) (l .date) (l .inv .0),
+      bookings-le (p .0) (a .visitor) (a .from) (l .date + 1),
     )
 
-column-count-requires : tie.Need-column-count-requires
-column-count-requires c κs =
-    let s = c .before .before .before .before .before .before .before in
-    let l = good-laid (s .pre .0) in
-    let lo = c .before .before .before .first-on3 in
-    let hi = c .before .before .first-on4 in (
-      rw (s .pre .1 .0) (fits (s .args .s) (s .args .book .now) l attendCells),
-      (
-        rw (s .pre .1 .0) (s .pre .1 .1 .0),
-        rw (s .pre .1 .0) (cut-order (s .args .s) Sessions (s .args .from) (s .args .to + 1) _ _ (lo .ensures) (hi .ensures) (omega arith), hi .ensures .most, omega (arith, all-sessions (s .args .s) (l .ranges))),
-      ),
-    )
+loop-less : tie.Need-loop-less Inv-loop μ-loop
+loop-less c = omega arith
 
-add-result : tie.Need-add-result
-add-result c =
-    let s = c .before .before .before .before .before .before .before .before in
-    let a = s .args in
-    let l = good-laid (s .pre .0) in
-    let e1 = rw (s .pre .1 .0) at (c .before .before .rows-count .ensures) in
-    let e2 = rw (s .pre .1 .0) at (c .before .rows-count2 .ensures) in
-    let e3 = rw (s .pre .1 .0) at (c .column-count .ensures) in
-    let t = all-times (a .s) (l .ranges) in
-    let p = all-sessions (a .s) (l .ranges) in
-    let th = c .before .before .before .before .before .first-on2 .ensures .most in
-    let sh = c .before .before .before .first-on4 .ensures .most in
-    let k1 = rows-le (gridOf (a .s) hotelCells) (a .book .now) (a .visitor + 1) (a .from) (a .to + 1) (omega (arith, l .ranges .hotels)) in
-    let k2 = rows-le (gridOf (a .s) rideCells) (a .book .now) (a .visitor + 1) (c .before .before .before .before .before .before .first-on .result) (c .before .before .before .before .before .first-on2 .result) (omega (arith, l .ranges .transports)) in
-    let k3 = column-le (gridOf (a .s) attendCells) (a .book .now) (a .visitor) (c .before .before .before .before .first-on3 .result) (c .before .before .before .first-on4 .result) in
-    omega (arith, e1, e2, e3, k1, k2, k3, t, p, th, sh, l .ranges .dates)
+loop-again : tie.Need-loop-again Inv-loop μ-loop
+loop-again c =
+    let p = c .before .before .before .before .before .pre in
+    let a = c .before .before .before .before .before .args in
+    let l = c .before .before .loop in
+    (omega arith, omega arith, ap₂ _+_ (l .inv .2) (c .on-date2 .ensures) ∙ sym (bookings-next (p .0) (a .visitor) (a .from) (l .date) (l .inv .0)))
 
-add-result-2 : tie.Need-add-result-2
-add-result-2 c =
-    let s = c .before .before .before .before .before .before .before .before in
-    let a = s .args in
-    let l = good-laid (s .pre .0) in
-    let e1 = rw (s .pre .1 .0) at (c .before .before .rows-count .ensures) in
-    let e2 = rw (s .pre .1 .0) at (c .before .rows-count2 .ensures) in
-    let e3 = rw (s .pre .1 .0) at (c .column-count .ensures) in
-    let t = all-times (a .s) (l .ranges) in
-    let p = all-sessions (a .s) (l .ranges) in
-    let th = c .before .before .before .before .before .first-on2 .ensures .most in
-    let sh = c .before .before .before .first-on4 .ensures .most in
-    let k1 = rows-le (gridOf (a .s) hotelCells) (a .book .now) (a .visitor + 1) (a .from) (a .to + 1) (omega (arith, l .ranges .hotels)) in
-    let k2 = rows-le (gridOf (a .s) rideCells) (a .book .now) (a .visitor + 1) (c .before .before .before .before .before .before .first-on .result) (c .before .before .before .before .before .first-on2 .result) (omega (arith, l .ranges .transports)) in
-    let k3 = column-le (gridOf (a .s) attendCells) (a .book .now) (a .visitor) (c .before .before .before .before .first-on3 .result) (c .before .before .before .first-on4 .result) in
-    omega (arith, e1, e2, e3, k1, k2, k3, t, p, th, sh, l .ranges .dates)
-
-returns : tie.Need-returns
+returns : tie.Need-returns Inv-loop μ-loop
 returns c =
-    let s = c .before .before .before .before .before .before .before .before in
-    let a = s .args in
-    let t0 = c .before .before .before .before .before .before .first-on in
-    let t1 = c .before .before .before .before .before .first-on2 in
-    let s0 = c .before .before .before .before .first-on3 in
-    let s1 = c .before .before .before .first-on4 in
-    let e1 = rw (s .pre .1 .0) at (c .before .before .rows-count .ensures) in
-    let e2 = rw (s .pre .1 .0) at (c .before .rows-count2 .ensures) in
-    let e3 = rw (s .pre .1 .0) at (c .column-count .ensures) in
-    ap₂ _+_ (ap₂ _+_ e1 e2) e3
-    ∙ bookings-is (a .s) (a .book .now) (s .pre .0) (a .visitor) (a .from) (a .to) _ _ _ _ (s .pre .1 .1 .0) (s .pre .1 .1 .1 .0) (s .pre .1 .1 .1 .1)
-    (t0 .ensures) (t1 .ensures) (s0 .ensures) (s1 .ensures)
-    (cut-order (a .s) Times (a .from) (a .to + 1) _ _ (t0 .ensures) (t1 .ensures) (omega arith))
-    (cut-order (a .s) Sessions (a .from) (a .to + 1) _ _ (s0 .ensures) (s1 .ensures) (omega arith))
+    let p = c .before .before .before .before .pre in
+    let a = c .before .before .before .before .args in
+    let l = c .before .loop in
+    let e : l .date ≡ a .to = omega arith in
+    l .inv .2 ∙ ap (bookingsIn (stateOf (a .book .now)) (a .visitor) (a .from)) e
 
 pub bookings-spec : {M : Type 1} → statement M
 bookings-spec =
     tie.close
     (tie.spec
-    first-on-requires
-    add-first-on
-    first-on-requires-2
-    first-on-requires-3
-    add-first-on-2
-    first-on-requires-4
-    add-rows-count
-    add-rows-count-2
-    rows-count-requires
-    add-rows-count-3
-    rows-count-requires-2
-    column-count-requires
-    add-result
-    add-result-2
+    Inv-loop
+    μ-loop
+    on-date-requires
+    loop-holds
+    add-date
+    on-date-requires-2
+    add-n
+    loop-less
+    loop-again
     returns)

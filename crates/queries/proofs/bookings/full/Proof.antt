@@ -1,7 +1,6 @@
 -- `bookings::full` meets its contract.
 -- Assumes nothing.
 use Prim.Native.Nat.{_-_}
-use borrow.Author.Needs.{needs}
 use borrow.Author.Tests.{eq-eqb, ne-eqb}
 use Rattle.queries.proofs.bookings.full.Statement.{statement}
 use Rattle.queries.proofs.bookings.full.Tie as tie

@@ -48,13 +48,15 @@ module _ (S : Settings) (caps b : List ℕ) (r : Ranges S) (cs : Caps S caps) wh
   unfolding readState
   seats-same d g m h l = rw (inside-by S b lunchTriples d m h l) (go (eqb (at S b lunchTriples d m 0) (suc g)))
     where
-      go : (t : Bool) → seatsOf (cond t (some (record { seats = at S b lunchTriples d m 1; info = at S b lunchTriples d m 2 })) none) ≡ cond t (at S b lunchTriples d m 1) 0
+      go : (t : Bool)
+          → seatsOf (cond t (some (record { seats = at S b lunchTriples d m 1; info = at S b lunchTriples d m 2 })) none) ≡ cond t (at S b lunchTriples d m 1) 0
       go true = refl
       go false = refl
 
   reserved-is : (d g : ℕ) → d < S .dates → reserved (readState S b) d g ≡ sum (seatsAt S b d (suc g)) (S .meetings)
   unfolding reserved readState
-  reserved-is d g h = sum-same (λ m. seatsOf (readState S b .lunch d g m)) (seatsAt S b d (suc g)) 0 (S .meetings) (λ m _ l. seats-same d g m h (omega arith))
+  reserved-is d g h =
+      sum-same (λ m. seatsOf (readState S b .lunch d g m)) (seatsAt S b d (suc g)) 0 (S .meetings) (λ m _ l. seats-same d g m h (omega arith))
 
   -- facts give the tests
   module _ (f : Facts S caps b) where
@@ -81,7 +83,8 @@ module _ (S : Settings) (caps b : List ℕ) (r : Ranges S) (cs : Caps S caps) wh
     lunch-rule : (d j : ℕ) → d < S .dates → j < S .meetings → lunchRule S b d j ≡ true
     lunch-rule d j h l = go (at S b lunchTriples d j 0) (at S b lunchTriples d j 1) (at S b lunchTriples d j 2) (f .lunch d j h l)
       where
-        go : (w n i : ℕ) → Eaten (S .dining) caps (standsOn (readState S b) d j) w n i → cond (eqb w 0) (eqb n 0 && eqb i 0) (within 1 (capacity S (w - 1)) n) ≡ true
+        go : (w n i : ℕ) → Eaten (S .dining) caps (standsOn (readState S b) d j) w n i
+            → cond (eqb w 0) (eqb n 0 && eqb i 0) (within 1 (capacity S (w - 1)) n) ≡ true
         go zero n i e = and-true (eq-eqb n 0 (omega (arith, e .fit, cs .none))) (eq-eqb i 0 (e .beside refl))
         go (suc w) n i e =
             let q : eqb (suc w) 0 ≡ false = ne-eqb (suc w) 0 (λ z. omega (arith, z)) in
@@ -126,12 +129,16 @@ module _ (S : Settings) (caps b : List ℕ) (r : Ranges S) (cs : Caps S caps) wh
       where
         go : (l : Law) → law (readState S b) l ≡ true
         go oneVisitorARoom = oneB-by (readState S b) hotels (λ i a u v e q. one-a-cell S b hotelCells i a u v e q)
-        go oneRoomAVisitor = oneA-by (readState S b) hotels (λ i v j k e q. one-a-row S b hotelCells (S .visitors) i i v j k (f .hotel i (held S b hotelCells i j v e .slot)) e q)
+        go oneRoomAVisitor =
+            oneA-by (readState S b) hotels (λ i v j k e q. one-a-row S b hotelCells (S .visitors) i i v j k (f .hotel i (held S b hotelCells i j v e .slot)) e q)
         go oneVisitorARide = oneB-by (readState S b) rides (λ i a u v e q. one-a-cell S b rideCells i a u v e q)
-        go oneRideAVisitor = oneA-by (readState S b) rides (λ i v j k e q. one-a-row S b rideCells (S .visitors) (i / S .times) i v j k (fr i (held S b rideCells i j v e .slot)) e q)
+        go oneRideAVisitor =
+            oneA-by (readState S b) rides (λ i v j k e q. one-a-row S b rideCells (S .visitors) (i / S .times) i v j k (fr i (held S b rideCells i j v e .slot)) e q)
         go oneMeetingAVisitor = oneA-by (readState S b) attends (λ i v m n e q. one-a-cell S b attendCells i v m n e q)
-        go oneMeetingARoom = oneB-by (readState S b) confs (λ i c m n e q. one-a-cell S b confPairs i c m n (held-some (holds S b confPairs i c m) _ e) (held-some (holds S b confPairs i c n) _ q))
-        go oneRoomALunch = oneA-by (readState S b) lunches (λ d m g n e q. one-a-cell S b lunchTriples d m g n (held-some (holds S b lunchTriples d m g) _ e) (held-some (holds S b lunchTriples d m n) _ q))
+        go oneMeetingARoom =
+            oneB-by (readState S b) confs (λ i c m n e q. one-a-cell S b confPairs i c m n (held-some (holds S b confPairs i c m) _ e) (held-some (holds S b confPairs i c n) _ q))
+        go oneRoomALunch =
+            oneA-by (readState S b) lunches (λ d m g n e q. one-a-cell S b lunchTriples d m g n (held-some (holds S b lunchTriples d m g) _ e) (held-some (holds S b lunchTriples d m n) _ q))
         go attendedStands =
             each-by (readState S b) attends (λ s m v. bitAt S b standings s m)
             (λ s m v e. let h = held S b attendCells s v m e in fs s (h .slot) .attended v m (h .item) (h .word))
@@ -213,11 +220,21 @@ module _ (S : Settings) (caps b : List ℕ) (r : Ranges S) (cs : Caps S caps) wh
         (range-is lunchTriples (S .dining) (rules .1 .1 .1 .1 .1 .1 .0) d j h l)
         (each-cell S lunchTriples (lunchRule S b) (rules .1 .1 .1 .1 .1 .1 .1 .0) d j h l)
       where
-        go : (w n i : ℕ) → at S b lunchTriples d j 0 ≡ w → w ≤ S .dining → cond (eqb w 0) (eqb n 0 && eqb i 0) (within 1 (capacity S (w - 1)) n) ≡ true
+        go : (w n i : ℕ) → at S b lunchTriples d j 0 ≡ w → w ≤ S .dining
+            → cond (eqb w 0) (eqb n 0 && eqb i 0) (within 1 (capacity S (w - 1)) n) ≡ true
             → Eaten (S .dining) caps (standsOn (readState S b) d j) w n i
         go zero n i q a e =
             let z : n ≡ 0 = eqb-true n 0 (and-left (eqb n 0) (eqb i 0) e) in
-            record { range = a; fit = omega arith; some = λ x. absurd (x refl); stood = λ x. absurd (x refl); beside = λ _. eqb-true i 0 (and-right (eqb n 0) (eqb i 0) e) }
+            record {
+              range =
+                  a;
+              fit =
+                  omega arith;
+              some =
+                  λ x. absurd (x refl);
+              stood = λ x. absurd (x refl);
+              beside = λ _. eqb-true i 0 (and-right (eqb n 0) (eqb i 0) e);
+            }
         go (suc w) n i q a e =
             let z : suc w - 1 ≡ w = omega arith in
             let no : eqb (suc w) 0 ≡ false = ne-eqb (suc w) 0 (λ y. omega (arith, y)) in
@@ -239,7 +256,8 @@ module _ (S : Settings) (caps b : List ℕ) (r : Ranges S) (cs : Caps S caps) wh
     sums-is d zero h l =
         omega (arith, sum-none (seatsAt S b d 0) 0 (S .meetings) (λ j _ k. go j (lunch-is d j h (omega arith)) (eqb (at S b lunchTriples d j 0) 0) refl))
       where
-        go : (j : ℕ) → Eaten (S .dining) caps (standsOn (readState S b) d j) (at S b lunchTriples d j 0) (at S b lunchTriples d j 1) (at S b lunchTriples d j 2)
+        go : (j : ℕ)
+            → Eaten (S .dining) caps (standsOn (readState S b) d j) (at S b lunchTriples d j 0) (at S b lunchTriples d j 1) (at S b lunchTriples d j 2)
             → (t : Bool) → eqb (at S b lunchTriples d j 0) 0 ≡ t → cond t (at S b lunchTriples d j 1) 0 ≡ 0
         go j e true q =
             let z : at S b lunchTriples d j 0 ≡ 0 = eqb-true (at S b lunchTriples d j 0) 0 q in

@@ -1,0 +1,34 @@
+//! The sites that are measured, and the trial load on them.
+
+use second::machine::site::GREATEST;
+use second::machine::Settings;
+
+pub const SEED: u32 = 20_261_115;
+
+fn settings(words: &[u32]) -> Settings {
+    Settings::from_words(words).expect("settings in range")
+}
+
+/// 9,401,625 words.
+pub fn largest() -> Settings {
+    let mut words = GREATEST.to_vec();
+    words.extend([1000; 16]);
+    settings(&words)
+}
+
+/// The medium site, of so many dates.
+pub fn medium(dates: u32) -> Settings {
+    settings(&[dates, 4, 24, 200, 40, 12, 4, 100, 30, 60, 60, 60, 60])
+}
+
+/// A site whose book fits the line program.
+pub fn small() -> Settings {
+    settings(&[7, 4, 8, 60, 20, 6, 2, 40, 10, 60, 60])
+}
+
+/// The trial load of request F-12's recipe for a site: requests of all kinds that pass 3 to 7.
+pub fn load(settings: &Settings, count: usize) -> Vec<[u32; 7]> {
+    let site = plain::Site::new(&settings.words()).expect("settings in range");
+    let requests = plain::traffic::traffic(&site, SEED, count);
+    requests.iter().map(|r| [r.kind, r.a, r.b, r.first, r.last, r.n, r.info]).collect()
+}

@@ -1,0 +1,29 @@
+-- `caviar_request` meets its contract: the request's own, with its words and the answer's.
+-- Assumes nothing.
+use mathlib.Core.Path.{_∙_, ap}
+use Rattle.model.specs.Machine.{answerWords}
+use Rattle.model.specs.Calls.{call}
+use borrow.Author.Needs.{needs}
+use Rattle.capi.proofs.caviar_request.Statement.{statement}
+use Rattle.capi.proofs.caviar_request.Tie as tie
+
+asked-requires : tie.Need-asked-requires
+asked-requires c κs = search needs
+
+request-requires : tie.Need-request-requires
+request-requires c κs = search needs
+
+told-requires : tie.Need-told-requires
+told-requires c κs = search needs
+
+same-length : tie.Need-same-length
+same-length c = search needs
+
+returns : tie.Need-returns
+returns c =
+    let c1 = c .before .before .before in
+    let e = c1 .request .ensures .0 ∙ ap (call _) (c1 .before .asked .ensures) in
+    record { answer = c .told .ensures ∙ ap (λ x. answerWords (x .answer)) e; book = ap (λ x. x .book) e }
+
+pub caviar-request-spec : {M : Type 1} → statement M
+caviar-request-spec = tie.close (tie.spec asked-requires request-requires told-requires same-length returns)

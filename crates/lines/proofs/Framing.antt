@@ -1,0 +1,118 @@
+-- Frame lines, words of lines and answer lines.
+-- Assumes nothing.
+use Prim.Native.Nat.{ℕ, suc, _+_, _*_, _/_, _%_, _≤_, _<_}
+use native.Mathlib.Numerals.{add-one}
+use native.Mathlib.Omega.{arith}
+use mathlib.Core.Path.{_≡_, refl, sym, _∙_, ap, ap₂}
+use mathlib.Core.Bool.{Bool, true, false, _&&_, cond}
+use mathlib.Core.List.{List, [], _∷_, _++_}
+use lib.Dec.{eqb}
+use lib.ListN.{length, take, drop, getD, set, length-set}
+use lib.Seq.{take-suc, take-suc-set}
+use borrow.Author.Tests.{eqb-true, eq-eqb, ne-eqb}
+use Rattle.model.specs.declared.Request.{Request}
+use Rattle.model.specs.declared.Answer.{Answer}
+use Rattle.model.specs.declared.Answer.the-variants.{Done, Refused}
+use Rattle.model.specs.Machine.{answerWords, requestOf}
+use Rattle.model.specs.Lines.{isFrame, wordDigits, hexadecimal, lineWords, shown, wholeWords, answerLine}
+use Rattle.model.proofs.Search.{and-left, and-right}
+use Rattle.model.proofs.Places.{length-list, getD-list}
+use Rattle.lines.specs.Digits.{digitsOnly}
+use Rattle.lines.specs.Frame.{framed}
+use Rattle.lines.specs.declared.line.Framed.{Framed}
+use Rattle.lines.specs.declared.line.Framed.the-variants.{Frame, Other}
+
+-- the words of a line
+pub words-length : (l : List ℕ) → length (lineWords l) ≡ length l / 8
+unfolding lineWords
+words-length l = length-list (λ k. shown (take 8 (drop (8 * k) l))) (length l / 8)
+
+pub word-is : (l : List ℕ) (k : ℕ) → k < length l / 8 → shown (take 8 (drop (8 * k) l)) ≡ getD (lineWords l) k 0
+unfolding lineWords
+word-is l k h = sym (getD-list (λ i. shown (take 8 (drop (8 * i) l))) (length l / 8) k h)
+
+pub words-more : (l words : List ℕ) (k : ℕ) → k < length l / 8 → k < length words → take k words ≡ take k (lineWords l)
+    → take (k + 1) (set words k (shown (take 8 (drop (8 * k) l)))) ≡ take (k + 1) (lineWords l)
+words-more l words k h g e =
+    let n = words-length l in
+    rw add-one
+    (take-suc-set words k _ g
+    ∙ ap₂ (λ (xs : List ℕ) (x : ℕ). xs ++ (x ∷ [])) e (word-is l k h)
+    ∙ sym (take-suc (lineWords l) k 0 (omega arith)))
+
+-- the seven words of a frame
+module _ (l : List ℕ) (n : length l ≡ 56) where
+  word-of : (k : ℕ) {w : ℕ} → k < 7 → w ≡ shown (take 8 (drop (8 * k) l)) → w ≡ getD (lineWords l) k 0
+  word-of k h e = e ∙ word-is l k (omega arith)
+
+  pub request-is : {k a b f t c i : ℕ}
+      → k ≡ shown (take 8 (drop 0 l)) → a ≡ shown (take 8 (drop 8 l)) → b ≡ shown (take 8 (drop 16 l)) → f ≡ shown (take 8 (drop 24 l))
+      → t ≡ shown (take 8 (drop 32 l)) → c ≡ shown (take 8 (drop 40 l)) → i ≡ shown (take 8 (drop 48 l))
+      → _≡_ {A = Request} (record { kind = k; a = a; b = b; first = f; last = t; n = c; info = i }) (requestOf (lineWords l))
+  request-is ek ea eb ef et ec ei =
+      λ j. record {
+        kind = word-of 0 (omega arith) ek j;
+        a = word-of 1 (omega arith) ea j;
+        b = word-of 2 (omega arith) eb j;
+        first = word-of 3 (omega arith) ef j;
+        last = word-of 4 (omega arith) et j;
+        n = word-of 5 (omega arith) ec j;
+        info = word-of 6 (omega arith) ei j;
+      }
+
+  pub is-frame : digitsOnly l ≡ true → isFrame l ≡ true
+  unfolding isFrame
+  is-frame h = simp (h, n)
+
+-- a test that is not true is false
+pub not-so : (t : Bool) → (t ≡ true → ⊥) → t ≡ false
+not-so true h = absurd (h refl)
+not-so false h = refl
+
+pub no-frame : (l : List ℕ) → (isFrame l ≡ true → ⊥) → isFrame l ≡ false
+no-frame l h = not-so (isFrame l) h
+
+pub frame-parts : (l : List ℕ) → isFrame l ≡ true → (length l ≡ 56) × (digitsOnly l ≡ true)
+unfolding isFrame
+frame-parts l h = (eqb-true (length l) 56 (and-right (wholeWords l) _ h), and-left (digitsOnly l) _ (and-left (wholeWords l) _ h))
+
+and-no : (t : Bool) → t && false ≡ false
+and-no true = refl
+and-no false = refl
+
+module _ (l : List ℕ) where
+  frame-not : digitsOnly l ≡ false → isFrame l ≡ false
+  unfolding isFrame
+  frame-not h = simp h
+
+  frame-long : (length l ≡ 56 → ⊥) → isFrame l ≡ false
+  unfolding isFrame
+  frame-long h = ap (λ (t : Bool). wholeWords l && t) (ne-eqb (length l) 56 h) ∙ and-no (wholeWords l)
+
+  pub framed-no : isFrame l ≡ false → Other ≡ framed l
+  unfolding framed
+  framed-no h = simp h
+
+  pub framed-yes : isFrame l ≡ true → framed l ≡ Frame (requestOf (lineWords l))
+  unfolding framed
+  framed-yes h = simp h
+
+  pub framed-not : digitsOnly l ≡ false → Other ≡ framed l
+  framed-not h = framed-no (frame-not h)
+
+  pub framed-long : (length l ≡ 56 → ⊥) → Other ≡ framed l
+  framed-long h = framed-no (frame-long h)
+
+-- the words of an answer, written by its kind
+pub done-line : {a : Answer} {v : ℕ} → a ≡ Done v → wordDigits 0 ++ (wordDigits 0 ++ wordDigits v) ≡ hexadecimal (answerWords a)
+unfolding hexadecimal
+done-line {a} {v} e = sym (ap (λ (b : Answer). hexadecimal (answerWords b)) e)
+
+pub refused-line : {a : Answer} {n p : ℕ} → a ≡ Refused n p → wordDigits n ++ (wordDigits p ++ wordDigits 0) ≡ hexadecimal (answerWords a)
+unfolding hexadecimal
+refused-line {a} {n} {p} e = sym (ap (λ (b : Answer). hexadecimal (answerWords b)) e)
+
+pub words-line : (a : Answer) → length (hexadecimal (answerWords a)) ≡ 24
+unfolding hexadecimal
+words-line (Done v) = refl
+words-line (Refused n p) = refl

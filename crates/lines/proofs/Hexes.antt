@@ -1,0 +1,139 @@
+-- Digits and words: what the code computes is what the paper's definitions say, and both ways round trip.
+-- Assumes nothing.
+use Prim.Native.Nat.{ℕ, zero, suc, _+_, _-_, _*_, _/_, _%_, _^_, _≤_, _<_}
+use native.Mathlib.Nat.{add-zero, mod-eq-of-lt, eq-or-lt-of-le}
+use native.Mathlib.Numerals.{add-one}
+use native.Mathlib.Omega.{arith}
+use mathlib.Core.Path.{_≡_, refl, sym, _∙_, ap, ap₂}
+use mathlib.Core.Logic.{_⊎_, inl, inr, ⊎-elim}
+use mathlib.Core.Bool.{Bool, true, false, _&&_, _||_, cond}
+use mathlib.Core.Option.{Option, none, some}
+use mathlib.Core.List.{List, [], _∷_, _++_}
+use lib.Dec.{leb}
+use lib.ListN.{length, take, drop, getD, set}
+use lib.Seq.{drop-cons, take-suc, getD-set-same, getD-set-other}
+use borrow.Author.Tests.{leb-true, le-leb, lt-leb}
+use Rattle.model.specs.Bounded.{isSome, found, every, within}
+use Rattle.model.specs.Lines.{digit, digitValue, shownFrom, shown}
+use Rattle.model.proofs.Search.{and-left, and-right, both}
+use Rattle.lines.specs.Digits.{isDigit, valueOf, digitsOnly, Values, halfOf, wordOf}
+
+-- one of two tests finds something
+pub some-of : (s t : Bool) (x y : ℕ) → s || t ≡ isSome (cond s (some x) (cond t (some y) none))
+some-of true t x y = refl
+some-of false true x y = refl
+some-of false false x y = refl
+
+pub within-is : (a z b : ℕ) → within a z b ≡ true → (a ≤ b) × (b ≤ z)
+within-is a z b h = (leb-true a b (and-left (leb a b) _ h), leb-true b z (and-right (leb a b) _ h))
+
+-- the value of a digit is below 16, and one formula gives it for both kinds of digits
+value-by : (b : ℕ) (s t : Bool) → within 48 57 b ≡ s → within 97 102 b ≡ t
+    → isSome (cond s (some (b - 48)) (cond t (some (b - 87)) none)) ≡ true
+    → (b % 16 + b / 64 * 9 ≡ found (cond s (some (b - 48)) (cond t (some (b - 87)) none)) (λ d. d))
+    × (found (cond s (some (b - 48)) (cond t (some (b - 87)) none)) (λ d. d) < 16)
+value-by b true t hs ht h = let w = within-is 48 57 b hs in (omega arith, omega arith)
+value-by b false true hs ht h = let w = within-is 97 102 b ht in (omega arith, omega arith)
+value-by b false false hs ht h = both h refl
+
+pub value-is : (b : ℕ) → isDigit b ≡ true → (b % 16 + b / 64 * 9 ≡ valueOf b) × (valueOf b < 16)
+value-is b h = value-by b _ _ refl refl h
+
+-- every byte of a list
+pub digits-snoc : (l : List ℕ) (b : ℕ) → digitsOnly (l ++ (b ∷ [])) ≡ digitsOnly l && isDigit b
+digits-snoc [] b = and-end (isDigit b)
+  where
+    and-end : (t : Bool) → t && true ≡ t
+    and-end true = refl
+    and-end false = refl
+digits-snoc (a ∷ l) b = ap (λ (t : Bool). isDigit a && t) (digits-snoc l b) ∙ and-regroup (isDigit a) (digitsOnly l) (isDigit b)
+  where
+    and-regroup : (r s t : Bool) → r && (s && t) ≡ r && s && t
+    and-regroup true s t = refl
+    and-regroup false s t = refl
+
+pub digits-more : (s : List ℕ) (i : ℕ) → i < length s → digitsOnly (take (i + 1) s) ≡ digitsOnly (take i s) && isDigit (getD s i 0)
+digits-more s i h = ap digitsOnly (ap (λ (k : ℕ). take k s) (add-one i) ∙ take-suc s i 0 h) ∙ digits-snoc (take i s) (getD s i 0)
+
+pub digit-at : (l : List ℕ) (i : ℕ) → digitsOnly l ≡ true → i < length l → isDigit (getD l i 0) ≡ true
+digit-at [] i d h = absurd (omega arith)
+digit-at (b ∷ l) zero d h = and-left (isDigit b) _ d
+digit-at (b ∷ l) (suc i) d h = digit-at l i (and-right (isDigit b) _ d) (omega arith)
+
+-- the bytes of a word that are left: one, and the rest
+pub left-cons : (s : List ℕ) (at i : ℕ) → i < 8 → at + 8 ≤ length s
+    → take (8 - i) (drop (at + i) s) ≡ getD s (at + i) 0 ∷ take (8 - (i + 1)) (drop (at + (i + 1)) s)
+left-cons s at i h l =
+    let e : 8 - i ≡ suc (8 - (i + 1)) = omega arith in
+    let f : suc (at + i) ≡ at + (i + 1) = omega arith in
+    ap₂ take e (drop-cons s (at + i) 0 (omega arith)) ∙ ap (λ (k : ℕ). getD s (at + i) 0 ∷ take (8 - (i + 1)) (drop k s)) f
+
+pub shown-more : (s : List ℕ) (at i w : ℕ) → i < 8 → at + 8 ≤ length s
+    → shownFrom w (take (8 - i) (drop (at + i) s)) ≡ shownFrom (w * 16 + valueOf (getD s (at + i) 0)) (take (8 - (i + 1)) (drop (at + (i + 1)) s))
+unfolding shownFrom
+shown-more s at i w h l = ap (shownFrom w) (left-cons s at i h l)
+
+pub shown-none : (w : ℕ) → shownFrom w [] ≡ w
+unfolding shownFrom
+shown-none w = refl
+
+-- one value more
+pub values-more : (s d : List ℕ) (i v : ℕ) → i < length d → ((k : ℕ) → k < i → getD d k 0 ≡ valueOf (getD s k 0)) → v ≡ valueOf (getD s i 0)
+    → (k : ℕ) → k < i + 1 → getD (set d i v) k 0 ≡ valueOf (getD s k 0)
+values-more s d i v h f e k l = go (eq-or-lt-of-le {n = k} {m = i} (omega arith))
+  where
+    go : (k ≡ i) ⊎ (k < i) → getD (set d i v) k 0 ≡ valueOf (getD s k 0)
+    go (inl q) = rw q (getD-set-same d i v 0 h ∙ e)
+    go (inr q) = getD-set-other d i k v 0 (λ r. omega arith) ∙ f k q
+
+-- four digits are below 2^16, and eight digits one by one are two such halves
+four-mod : (a b c d : ℕ) → a < 16 → b < 16 → c < 16 → d < 16 → (a * 4096 + b * 256 + c * 16 + d) % 65536 ≡ a * 4096 + b * 256 + c * 16 + d
+four-mod a b c d ha hb hc hd = mod-eq-of-lt {n = a * 4096 + b * 256 + c * 16 + d} {m = 65536} (omega arith)
+
+eight-is : (a b c d e f g h : ℕ)
+    → (a * 4096 + b * 256 + c * 16 + d) * 65536 + (e * 4096 + f * 256 + g * 16 + h)
+    ≡ (((((((0 * 16 + a) * 16 + b) * 16 + c) * 16 + d) * 16 + e) * 16 + f) * 16 + g) * 16 + h
+eight-is a b c d e f g h = omega arith
+
+-- the word of eight values is the one that the digits show
+module _ (s d : List ℕ) (n : length s ≡ 56) (g : digitsOnly s ≡ true) (v : Values s d) (at : ℕ) (h : at ≤ 48) where
+  digit-of : (j k : ℕ) → k ≡ at + j → j < 8 → (getD d k 0 ≡ valueOf (getD s (at + j) 0)) × (valueOf (getD s (at + j) 0) < 16)
+  digit-of j k e l = (
+    rw e (v .at (at + j) (omega arith)),
+    value-is (getD s (at + j) 0) (digit-at s (at + j) g (omega arith)) .1,
+  )
+
+  abbrev next : ℕ → ℕ → ℕ
+  next w j = w * 16 + valueOf (getD s (at + j) 0)
+
+  more : (j w : ℕ) → j < 8 → shownFrom w (take (8 - j) (drop (at + j) s)) ≡ shownFrom (next w j) (take (8 - (j + 1)) (drop (at + (j + 1)) s))
+  more j w k = shown-more s at j w k (omega arith)
+
+  eight : shown (take 8 (drop at s)) ≡ next (next (next (next (next (next (next (next 0 0) 1) 2) 3) 4) 5) 6) 7
+  eight =
+      ap (λ (k : ℕ). shownFrom 0 (take 8 (drop k s))) (sym (add-zero at))
+      ∙ more 0 _ (omega arith)
+      ∙ more 1 _ (omega arith)
+      ∙ more 2 _ (omega arith)
+      ∙ more 3 _ (omega arith)
+      ∙ more 4 _ (omega arith)
+      ∙ more 5 _ (omega arith)
+      ∙ more 6 _ (omega arith)
+      ∙ more 7 _ (omega arith)
+      ∙ shown-none _
+
+  pub word-values : wordOf d at ≡ shown (take 8 (drop at s))
+  unfolding wordOf
+  word-values =
+      let e0 = digit-of 0 at (omega arith) (omega arith) in
+      let e1 = digit-of 1 (at + 1) refl (omega arith) in
+      let e2 = digit-of 2 (at + 2) refl (omega arith) in
+      let e3 = digit-of 3 (at + 3) refl (omega arith) in
+      let e4 = digit-of 4 (at + 4) refl (omega arith) in
+      let e5 = digit-of 5 (at + 4 + 1) (omega arith) (omega arith) in
+      let e6 = digit-of 6 (at + 4 + 2) (omega arith) (omega arith) in
+      let e7 = digit-of 7 (at + 4 + 3) (omega arith) (omega arith) in
+      rw (e0 .0, e1 .0, e2 .0, e3 .0, e4 .0, e5 .0, e6 .0, e7 .0)
+      (ap₂ (λ (x y : ℕ). x * 65536 + y) (four-mod _ _ _ _ (e0 .1) (e1 .1) (e2 .1) (e3 .1)) (four-mod _ _ _ _ (e4 .1) (e5 .1) (e6 .1) (e7 .1))
+      ∙ eight-is _ _ _ _ _ _ _ _
+      ∙ sym eight)

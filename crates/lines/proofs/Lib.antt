@@ -1,0 +1,12 @@
+pub mod Whole
+pub mod Hexes
+pub mod Puts
+pub mod Trips
+pub mod Framing
+pub mod Books
+pub mod Keeping
+pub mod Looking
+pub mod Turns
+pub mod Layings
+pub mod Streams
+pub mod Program

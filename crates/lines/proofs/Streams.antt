@@ -1,0 +1,276 @@
+-- The functions of the stream, as turns.
+-- Assumes nothing.
+use Prim.Native.Nat.{ℕ, zero, suc, _+_, _-_, _*_, _≤_, _<_}
+use native.Mathlib.Omega.{arith}
+use mathlib.Core.Path.{_≡_, refl, sym, _∙_, ap}
+use mathlib.Core.Bool.{Bool, true, false, cond}
+use mathlib.Core.List.{List, [], _∷_, _++_, append-nil}
+use lib.Dec.{eqb}
+use lib.ListN.{length, take, drop, length-append, length-drop}
+use borrow.Author.Tests.{eqb-true, eqb-false}
+use lib.Seq.{take-at, take-all, length-take-le}
+use Rattle.model.specs.declared.Settings.{Settings}
+use Rattle.model.specs.declared.Answer.{Answer}
+use Rattle.model.specs.State.{State}
+use Rattle.model.specs.Machine.{Outcome}
+use Rattle.model.specs.Reading.{settingsOf, stateOf}
+use Rattle.model.specs.Calls.{Called, called}
+use Rattle.model.specs.Lines.{answerLine, lineOutcome}
+use Rattle.model.proofs.Search.{both}
+use Rattle.book.specs.Good.{Good, answered}
+use Rattle.book.specs.Ranges.{Ranges}
+use Rattle.book.proofs.Goods.{good-laid}
+use Rattle.lines.specs.Digits.{Put, LineEnd}
+use Rattle.lines.specs.Stream.{kept, Turn, Point, opening, later, over, silent, behind, opened, told, ended, longer, byte, run, closed}
+use Rattle.lines.specs.Post.{heldOf, Holds, pointAt, pointOf, Sized, Going, Moved, Begun, endPoint, EndSized, EndedOf, isLater, Free, Leads, Told}
+use Rattle.lines.specs.declared.stream.Held.{Held}
+use Rattle.lines.specs.declared.stream.Phase.{Phase}
+use Rattle.lines.specs.declared.stream.Phase.the-variants.{Opening, Later, Over}
+use Rattle.lines.specs.declared.stream.Stream.{Stream}
+use Rattle.lines.specs.declared.stream.Ended.{Ended}
+use Rattle.lines.proofs.Looking.{all-free, end-leads}
+use Rattle.lines.proofs.Whole.{byte-end, byte-in}
+use Rattle.lines.proofs.Books.{After, after-line}
+use Rattle.lines.proofs.Turns.{grown, Kept, run-free, run-leads, tail-is, put-wrote}
+
+-- a good book by its own settings
+own : {S : Settings} {b : List ℕ} → Good S b → Good (settingsOf b) b
+own g = record { read = refl; laid = g .laid; lawful = g .lawful }
+
+-- the front of a book was replaced by as many words
+front : (size : ℕ) (b last : List ℕ) → size ≤ length b → length last ≡ length (take size b) → (take size (last ++ drop size b) ≡ last) × (size ≤ length (last ++ drop size b))
+front size b last h e =
+    let n = length-take-le size b h in
+    (take-at last (drop size b) size (e ∙ n), omega (arith, length-append last (drop size b)))
+
+-- a later line is over
+pub responded : {last out out′ : List ℕ} {a : Answer} {at : ℕ} (b l : List ℕ) (size : ℕ) → size ≤ length b → Good (settingsOf (take size b)) (take size b)
+    → answered a last ≡ called (lineOutcome (stateOf (take size b)) l) → length last ≡ length (take size b) → Put out out′ at (answerLine a)
+    → EndedOf (behind (take at out) (told (lineOutcome (stateOf (take size b)) l))) (record { more = true; size = size; wrote = at + 25 }) (last ++ drop size b) out′ (at + 25)
+responded {last} {out} {out′} {a} {at} b l size h g e k p =
+    let o = lineOutcome (stateOf (take size b)) l in
+    let f = front size b last h k in
+    let s = after-line l g e in
+    let q : a ≡ o .answer = ap (λ (c : Called). c .answer) e in
+    record {
+      short = omega arith;
+      sized = record { fits = f .1; good = λ z. rw (f .0) (own (s .good)) };
+      same =
+          ap (λ (d : List ℕ). record { out = take (at + 25) out′; point = later (stateOf d) [] }) (f .0)
+          ∙ ap (λ (x : State). record { out = take (at + 25) out′; point = later x [] }) (s .shows)
+          ∙ ap (λ (w : List ℕ). record { out = w; point = later (o .state) [] }) (put-wrote a p ∙ ap (λ (c : Answer). take at out ++ answerLine c) q);
+    }
+
+-- any line is over
+ended-opening : (l : List ℕ) → ended (opening l) ≡ opened l
+unfolding ended
+ended-opening l = refl
+
+ended-later : (x : State) (l : List ℕ) → ended (later x l) ≡ told (lineOutcome x l)
+unfolding ended
+ended-later x l = refl
+
+ended-over : ended over ≡ silent over
+unfolding ended
+ended-over = refl
+
+pub ended-as : {t u : Turn} {e : Ended} {b out : List ℕ} {room : ℕ} → t ≡ u → EndedOf t e b out room → EndedOf u e b out room
+ended-as q v = record { short = v .short; sized = v .sized; same = v .same ∙ q }
+
+module _ {p : Phase} (x : State) (l out : List ℕ) (at : ℕ) where
+  pub turn-opening : p ≡ Opening → behind (take at out) (opened l) ≡ behind (take at out) (ended (pointAt p x l))
+  turn-opening h = ap (behind (take at out)) (sym (ap (λ (q : Phase). ended (pointAt q x l)) h ∙ ended-opening l))
+
+  pub turn-later : p ≡ Later → behind (take at out) (told (lineOutcome x l)) ≡ behind (take at out) (ended (pointAt p x l))
+  turn-later h = ap (behind (take at out)) (sym (ap (λ (q : Phase). ended (pointAt q x l)) h ∙ ended-later x l))
+
+  pub turn-over : {b : List ℕ} → p ≡ Over → EndedOf (behind (take at out) (ended (pointAt p x l))) (record { more = false; size = 0; wrote = at }) b out (at + 25)
+  turn-over h =
+      record {
+        short = omega arith;
+        sized = record { fits = omega arith; good = λ z. both z refl };
+        same =
+            ap (λ (o : List ℕ). record { out = o; point = over }) (sym (append-nil (take at out)))
+            ∙ ap (behind (take at out)) (sym (ap (λ (q : Phase). ended (pointAt q x l)) h ∙ ended-over));
+      }
+
+-- nothing more is read
+longer-over : (b : ℕ) → longer over b ≡ over
+unfolding longer
+longer-over b = refl
+
+over-by : (b : ℕ) (c : List ℕ) (t : Bool) → eqb b 10 ≡ t → run over c ≡ silent over → behind (byte over b .out) (run (byte over b .point) c) ≡ silent over
+over-by b c true h r = ap (λ (t : Turn). behind (t .out) (run (t .point) c)) (byte-end over (eqb-true b 10 h) ∙ ended-over) ∙ r
+over-by b c false h r = ap (λ (t : Turn). behind (t .out) (run (t .point) c)) (byte-in over (eqb-false b 10 h) ∙ ap silent (longer-over b)) ∙ r
+
+run-over : (c : List ℕ) → run over c ≡ silent over
+unfolding run
+run-over [] = refl
+run-over (b ∷ c) = over-by b c _ refl (run-over c)
+
+-- the rest of a chunk
+pub rest-over : {b out : List ℕ} {h : Held} (e : Ended) (c : List ℕ) → e .more ≡ false → Holds h []
+    → Moved (behind (take (e .wrote) out) (run (endPoint e b) c)) (record { held = h; phase = Over; size = 0 }) b out (e .wrote) (e .wrote + 25 * length c)
+rest-over {b} {out} {h} e c m k =
+    record {
+      short = omega arith;
+      going = record { holds = record { long = k .long; few = k .few; same = refl }; sized = record { fits = omega arith; good = λ z. absurd (not-later z) } };
+      same =
+          ap (λ (o : List ℕ). record { out = o; point = over }) (sym (append-nil (take (e .wrote) out)))
+          ∙ ap (behind (take (e .wrote) out)) (sym (ap (λ (t : Bool). run (cond t (later (stateOf (take (e .size) b)) []) over) c) m ∙ run-over c));
+    }
+  where
+    not-later : Over ≡ Later → ⊥
+    not-later z = let q : _≡_ {A = ℕ} 0 1 = cc in omega arith
+
+grown-later : (x : State) (l : List ℕ) → grown (later x []) l ≡ later x (kept l)
+unfolding grown
+grown-later x l = refl
+
+later-kept : (x : State) → Kept (later x [])
+unfolding Kept
+later-kept x = refl
+
+pub rest-later : {last out out′ : List ℕ} {h : Held} {used wrote : ℕ} (b : List ℕ) (e : Ended) (c : List ℕ) → e .more ≡ true → e .size ≤ length b
+    → Told (settingsOf (take (e .size) b)) (take (e .size) b) c out (e .wrote) last out′ used wrote
+    → length last ≡ length (take (e .size) b)
+    → Holds h (kept (take (length c - used) (drop used c)))
+    → Moved (behind (take (e .wrote) out) (run (endPoint e b) c)) (record { held = h; phase = Later; size = e .size }) (last ++ drop (e .size) b) out′ wrote (e .wrote + 25 * length c)
+rest-later {last} {out} {out′} {h} {used} {wrote} b e c m f v k q =
+    let x = stateOf last in
+    let r = drop used c in
+    let n = front (e .size) b last f k in
+    let w = v .within in
+    let s = v .short in
+    let held : heldOf h ≡ kept r = q .same ∙ ap kept (tail-is c used) in
+    record {
+      short = omega arith;
+      going = record { holds = record { long = q .long; few = q .few; same = refl }; sized = record { fits = n .1; good = λ z. rw (n .0) (own (v .good)) } };
+      same =
+          ap (λ (d : List ℕ). record { out = take wrote out′; point = later (stateOf d) (heldOf h) }) (n .0)
+          ∙ ap (λ (l : List ℕ). record { out = take wrote out′; point = later x l }) held
+          ∙ ap (λ (o : List ℕ). record { out = o; point = later x (kept r) }) (sym (append-nil (take wrote out′)))
+          ∙ ap (behind (take wrote out′)) (sym (run-free r (later x []) (later-kept x) (v .free) ∙ ap silent (grown-later x r)))
+          ∙ v .same
+          ∙ ap (λ (t : Bool). behind (take (e .wrote) out) (run (cond t (later (stateOf (take (e .size) b)) []) over) c)) (sym m);
+    }
+
+-- a chunk
+grown-at : (p : Phase) (x : State) (h l : List ℕ) → pointAt p x (kept (h ++ l)) ≡ grown (pointAt p x h) l
+unfolding grown
+grown-at Opening x h l = refl
+grown-at Later x h l = refl
+grown-at Over x h l = refl
+
+kept-at : (p : Phase) (x : State) (h : List ℕ) → kept h ≡ h → Kept (pointAt p x h)
+unfolding Kept
+kept-at Opening x h k = k
+kept-at Later x h k = k
+kept-at Over x h k = tt
+
+module _ (s : Stream) (b c : List ℕ) (g : Going s b) {h : Held} {n : ℕ} (e : LineEnd c n) (k : Holds h (kept (heldOf (s .held) ++ take n c))) where
+  abbrev x : State
+  x = stateOf (take (s .size) b)
+
+  point-kept : Kept (pointOf s b)
+  point-kept =
+      kept-at (s .phase) x (heldOf (s .held))
+      (take-all 201 (heldOf (s .held)) (omega (arith, g .holds .few, g .holds .long, length-take-le (s .held .len) (s .held .bytes) (omega (arith, g .holds .few, g .holds .long)))))
+
+  held-point : pointAt (s .phase) x (heldOf h) ≡ grown (pointOf s b) (take n c)
+  held-point = ap (pointAt (s .phase) x) (k .same) ∙ grown-at (s .phase) x (heldOf (s .held)) (take n c)
+
+  pub holds-on : Holds h (heldOf h)
+  holds-on = record { long = k .long; few = k .few; same = refl }
+
+  -- no line ends in it
+  pub all-held : {out : List ℕ} → n ≡ length c → Moved (run (pointOf s b) c) (record { held = h; phase = s .phase; size = s .size }) b out 0 (25 * length c)
+  all-held {out} l =
+      record {
+        short = omega arith;
+        going = record { holds = holds-on; sized = g .sized };
+        same =
+            ap silent (held-point ∙ ap (grown (pointOf s b)) (take-all n c (omega arith)))
+            ∙ sym (run-free c (pointOf s b) point-kept (all-free c n e l));
+      }
+
+  -- a line ends in it
+  pub line-held : {b₁ b₂ out₁ out₂ : List ℕ} {t : Stream} {wrote : ℕ} (d : Ended) → (n ≡ length c → ⊥)
+      → EndedOf (ended (pointAt (s .phase) x (heldOf h))) d b₁ out₁ 25
+      → Moved (behind (take (d .wrote) out₁) (run (endPoint d b₁) (take (length c - (n + 1)) (drop (n + 1) c)))) t b₂ out₂ wrote (d .wrote + 25 * length (take (length c - (n + 1)) (drop (n + 1) c)))
+      → Moved (run (pointOf s b) c) t b₂ out₂ wrote (25 * length c)
+  line-held {b₁} {b₂} {out₁} {out₂} {t} {wrote} d l v m =
+      let r = drop (n + 1) c in
+      let y = end-leads c n e l in
+      let z = ap length (tail-is c (n + 1)) in
+      record {
+        short = omega (arith, m .short, v .short, length-drop (n + 1) c, y .inside);
+        going = m .going;
+        same =
+            m .same
+            ∙ ap (λ (u : List ℕ). behind (take (d .wrote) out₁) (run (endPoint d b₁) u)) (tail-is c (n + 1))
+            ∙ ap (λ (u : Turn). behind (u .out) (run (u .point) r)) (v .same ∙ ap ended held-point)
+            ∙ sym (run-leads (pointOf s b) c n point-kept y);
+      }
+
+-- the end of the input
+closed-opening : (l : List ℕ) → ended (opening l) ≡ closed (opening l)
+unfolding ended closed
+closed-opening l = refl
+
+closed-over : ended over ≡ closed over
+unfolding ended closed
+closed-over = refl
+
+closed-cons : (x : State) (l : List ℕ) → 0 < length l → ended (later x l) ≡ closed (later x l)
+unfolding ended closed
+closed-cons x [] h = absurd (omega arith)
+closed-cons x (b ∷ l) h = refl
+
+closed-none : (x : State) → silent (later x []) ≡ closed (later x [])
+unfolding closed
+closed-none x = refl
+
+pub ended-closed : (p : Phase) (x : State) (l : List ℕ) → (isLater p ≡ true → 0 < length l) → ended (pointAt p x l) ≡ closed (pointAt p x l)
+ended-closed Opening x l h = closed-opening l
+ended-closed Later x l h = closed-cons x l (h refl)
+ended-closed Over x l h = closed-over
+
+later-is : (p : Phase) → isLater p ≡ true → p ≡ Later
+later-is Opening h = both h refl
+later-is Later h = refl
+later-is Over h = both h refl
+
+-- no later line has begun
+pub closed-silent : {out : List ℕ} (s : Stream) (b : List ℕ) → Going s b → isLater (s .phase) ≡ true → s .held .len ≡ 0
+    → EndedOf (closed (pointOf s b)) (record { more = true; size = s .size; wrote = 0 }) b out 25
+closed-silent s b g h z =
+    let l = later-is (s .phase) h in
+    let x = stateOf (take (s .size) b) in
+    let n : heldOf (s .held) ≡ [] = ap (λ (k : ℕ). take k (s .held .bytes)) z in
+    record {
+      short = omega arith;
+      sized = record { fits = g .sized .fits; good = λ q. g .sized .good l };
+      same = closed-none x ∙ sym (ap (λ (p : Phase). closed (pointAt p x (heldOf (s .held)))) l ∙ ap (λ (k : List ℕ). closed (later x k)) n);
+    }
+
+pub held-some : (h : Held) → Holds h (heldOf h) → (h .len ≡ 0 → ⊥) → 0 < length (heldOf h)
+held-some h k n = omega (arith, k .few, k .long, length-take-le (h .len) (h .bytes) (omega (arith, k .few, k .long)))
+
+-- the stream before the first byte
+pub begun : {s : Stream} (b : List ℕ) → Begun s → Going s b × (pointOf s b ≡ opening [])
+begun {s} b g =
+    let h = g .holds in (
+      record {
+        holds = record { long = h .long; few = h .few; same = refl };
+        sized = record { fits = rw (g .size) (omega arith); good = λ z. absurd (not-later (sym (g .phase) ∙ z)) };
+      },
+      ap (λ (p : Phase). pointAt p (stateOf (take (s .size) b)) (heldOf (s .held))) (g .phase) ∙ ap opening (h .same),
+    )
+  where
+    not-later : Opening ≡ Later → ⊥
+    not-later z = let q : _≡_ {A = ℕ} 0 1 = cc in omega arith
+
+-- the ranges of a good book's settings
+pub own-ranges : {S : Settings} {b : List ℕ} → S ≡ settingsOf b → Good (settingsOf b) b → Ranges S
+own-ranges e g = rw e (good-laid g .ranges)

@@ -1,0 +1,187 @@
+-- Runs over the lines of a chunk.
+-- Assumes nothing.
+use Prim.Native.Nat.{ℕ, zero, suc, _+_, _-_, _*_, _≤_, _<_}
+use native.Mathlib.Numerals.{add-one}
+use native.Mathlib.Omega.{arith}
+use mathlib.Core.Path.{_≡_, refl, sym, _∙_, ap}
+use mathlib.Core.Bool.{Bool, true, false, cond}
+use mathlib.Core.List.{List, [], _∷_, _++_, append-assoc, append-nil}
+use lib.ListN.{length, take, drop, getD, length-drop, drop-of-length-le}
+use lib.Seq.{split-at, take-all, drop-drop}
+use Rattle.model.specs.declared.Settings.{Settings}
+use Rattle.model.specs.declared.Answer.{Answer}
+use Rattle.model.specs.declared.Answer.the-variants.{Done, Refused}
+use Rattle.model.specs.State.{State}
+use Rattle.model.specs.Machine.{Outcome}
+use Rattle.model.specs.Reading.{stateOf}
+use Rattle.model.specs.Calls.{Called, called}
+use Rattle.model.specs.Lines.{hexadecimal, answerLine, lineOutcome}
+use Rattle.book.specs.Good.{Good, answered}
+use Rattle.lines.specs.Stream.{kept, Point, opening, later, over, Turn, silent, behind, told, ended, longer, byte, run}
+use Rattle.lines.specs.Digits.{Put}
+use Rattle.lines.specs.Post.{Free, Leads, TakenOf, Told}
+use Rattle.lines.specs.declared.stream.Taken.{Taken}
+use Rattle.lines.proofs.Keeping.{kept-append}
+use Rattle.lines.proofs.Whole.{byte-end, byte-in, run-append, ended-later}
+use Rattle.lines.proofs.Books.{after-line}
+
+-- where a piece of a line leads
+unfoldable pub grown : Point → List ℕ → Point
+grown (opening h) l = opening (kept (h ++ l))
+grown (later x h) l = later x (kept (h ++ l))
+grown over l = over
+
+-- what is held of the line is no more than is kept
+unfoldable pub Kept : Point → Type 0
+Kept (opening h) = kept h ≡ h
+Kept (later x h) = kept h ≡ h
+Kept over = Unit {0}
+
+grown-none : (p : Point) → Kept p → p ≡ grown p []
+unfolding grown Kept
+grown-none (opening h) k = ap opening (sym (ap kept (append-nil h) ∙ k))
+grown-none (later x h) k = ap (later x) (sym (ap kept (append-nil h) ∙ k))
+grown-none over k = refl
+
+grown-kept : (p : Point) (l : List ℕ) → Kept (grown p l)
+unfolding grown Kept
+grown-kept (opening h) l = ap kept (sym (append-nil (kept (h ++ l)))) ∙ kept-append (h ++ l) [] ∙ ap kept (append-nil (h ++ l))
+grown-kept (later x h) l = ap kept (sym (append-nil (kept (h ++ l)))) ∙ kept-append (h ++ l) [] ∙ ap kept (append-nil (h ++ l))
+grown-kept over l = tt
+
+grown-more : (p : Point) (b : ℕ) (l : List ℕ) → grown (longer p b) l ≡ grown p (b ∷ l)
+unfolding grown longer
+grown-more (opening h) b l = ap opening (kept-append (h ++ (b ∷ [])) l ∙ ap kept (append-assoc h (b ∷ []) l))
+grown-more (later x h) b l = ap (later x) (kept-append (h ++ (b ∷ [])) l ∙ ap kept (append-assoc h (b ∷ []) l))
+grown-more over b l = refl
+
+longer-kept : (p : Point) (b : ℕ) → Kept (longer p b)
+unfolding longer grown Kept
+longer-kept (opening h) b = grown-kept (opening h) (b ∷ [])
+longer-kept (later x h) b = grown-kept (later x h) (b ∷ [])
+longer-kept over b = tt
+
+-- a piece without byte 10 only makes the line longer
+pub run-free : (l : List ℕ) (p : Point) → Kept p → Free l → run p l ≡ silent (grown p l)
+unfolding run Free
+run-free [] p k f = ap silent (grown-none p k)
+run-free (b ∷ l) p k f =
+    ap (λ (t : Turn). behind (t .out) (run (t .point) l)) (byte-in p (f .0))
+    ∙ run-free l (longer p b) (longer-kept p b) (f .1)
+    ∙ ap silent (grown-more p b l)
+
+run-cons : (p : Point) (b : ℕ) (l : List ℕ) → run p (b ∷ l) ≡ behind (byte p b .out) (run (byte p b .point) l)
+unfolding run
+run-cons p b l = refl
+
+-- and byte 10 ends it
+pub run-line : (p : Point) (l rest : List ℕ) → Kept p → Free l
+    → run p (l ++ (10 ∷ rest)) ≡ behind (ended (grown p l) .out) (run (ended (grown p l) .point) rest)
+run-line p l rest k f =
+    run-append p l (10 ∷ rest)
+    ∙ ap (λ (t : Turn). behind (t .out) (run (t .point) (10 ∷ rest))) (run-free l p k f)
+    ∙ run-cons (grown p l) 10 rest
+    ∙ ap (λ (t : Turn). behind (t .out) (run (t .point) rest)) (byte-end (grown p l) refl)
+
+-- the line that leads an input
+pub leads-split : (l : List ℕ) (n : ℕ) → Leads l n → l ≡ take n l ++ (10 ∷ drop (n + 1) l)
+leads-split l n e =
+    split-at l n 0 (e .inside)
+    ∙ ap (λ (b : ℕ). take n l ++ (b ∷ drop (suc n) l)) (e .ends)
+    ∙ ap (λ (k : ℕ). take n l ++ (10 ∷ drop k l)) (sym (add-one n))
+
+pub run-leads : (p : Point) (l : List ℕ) (n : ℕ) → Kept p → Leads l n
+    → run p l ≡ behind (ended (grown p (take n l)) .out) (run (ended (grown p (take n l)) .point) (drop (n + 1) l))
+run-leads p l n k e = ap (run p) (leads-split l n e) ∙ run-line p (take n l) (drop (n + 1) l) k (e .free)
+
+later-kept : (x : State) → Kept (later x [])
+unfolding Kept
+later-kept x = refl
+
+-- behind the settings line
+pub run-later : (x : State) (l : List ℕ) (n : ℕ) → Leads l n
+    → run (later x []) l ≡ behind (answerLine (lineOutcome x (take n l) .answer)) (run (later (lineOutcome x (take n l) .state) []) (drop (n + 1) l))
+unfolding grown
+run-later x l n e =
+    run-leads (later x []) l n (later-kept x) e
+    ∙ ap (λ (t : Turn). behind (t .out) (run (t .point) (drop (n + 1) l))) (ended-later x (take n l))
+
+pub answer-length : (a : Answer) → length (answerLine a) ≡ 25
+unfolding hexadecimal
+answer-length (Done v) = refl
+answer-length (Refused n p) = refl
+
+-- an answer line was written
+pub put-wrote : {out out′ : List ℕ} {at : ℕ} (a : Answer) → Put out out′ at (answerLine a) → take (at + 25) out′ ≡ take at out ++ answerLine a
+put-wrote {out} {out′} {at} a p = ap (λ (m : ℕ). take (at + m) out′) (sym (answer-length a)) ∙ p .wrote
+
+-- the part `&c[i..]`
+pub tail-is : (c : List ℕ) (i : ℕ) → take (length c - i) (drop i c) ≡ drop i c
+tail-is c i = take-all (length c - i) (drop i c) (omega (arith, length-drop i c))
+
+-- one line more of the chunk c is answered
+module _ {S : Settings} {b b′ : List ℕ} (c : List ℕ) (i : ℕ) (t : Taken) (h : i ≤ length c) (g : Good S b)
+    (k : TakenOf (take (length c - i) (drop i c)) b t b′) (s : 0 < t .used) where
+  leads : Leads (drop i c) (t .used - 1)
+  leads = rw (tail-is c i) at (k .some s .0)
+
+  gives : answered (t .answer) b′ ≡ called (lineOutcome (stateOf b) (take (t .used - 1) (drop i c)))
+  gives = rw (tail-is c i) at (k .some s .1)
+
+  pub in-reach : i + t .used ≤ length c
+  in-reach = omega (arith, leads .inside, length-drop i c)
+
+  pub more-good : Good S b′
+  more-good = after-line (take (t .used - 1) (drop i c)) g gives .good
+
+  pub more-told : {out out′ : List ℕ} {at : ℕ} → Put out out′ at (answerLine (t .answer))
+      → behind (take (at + 25) out′) (run (later (stateOf b′) []) (drop (i + t .used) c)) ≡ behind (take at out) (run (later (stateOf b) []) (drop i c))
+  more-told {out} {out′} {at} p =
+      let l = take (t .used - 1) (drop i c) in
+      let o = lineOutcome (stateOf b) l in
+      let n : t .used - 1 + 1 ≡ t .used = omega arith in
+      let w : take (at + 25) out′ ≡ take at out ++ answerLine (t .answer) = put-wrote (t .answer) p in
+      let a : t .answer ≡ o .answer = ap (λ (q : Called). q .answer) gives in
+      let x : stateOf b′ ≡ o .state = after-line l g gives .shows in
+      let d : drop (i + t .used) c ≡ drop (t .used - 1 + 1) (drop i c)
+      = ap (λ (m : ℕ). drop (i + m) c) (sym n) ∙ sym (drop-drop (t .used - 1 + 1) i c) in
+      rw (w, a, x, d)
+      (ap (λ (q : List ℕ). record { out = q; point = run (later (o .state) []) (drop (t .used - 1 + 1) (drop i c)) .point }) (append-assoc (take at out) (answerLine (o .answer)) _)
+      ∙ ap (behind (take at out)) (sym (run-later (stateOf b) (drop i c) (t .used - 1) leads)))
+
+-- of the chunk c, the first i bytes are lines that are answered
+pub record So (S : Settings) (b₀ c out₀ : List ℕ) (from : ℕ) (b out : List ℕ) (at i : ℕ) : Type 0 where
+  pub within : i ≤ length c
+  pub short : at ≤ from + 25 * i
+  pub good : Good S b
+  pub book-kept : length b ≡ length b₀
+  pub out-kept : length out ≡ length out₀
+  pub same : behind (take at out) (run (later (stateOf b) []) (drop i c)) ≡ behind (take from out₀) (run (later (stateOf b₀) []) c)
+
+pub start : {S : Settings} (b c out : List ℕ) (from : ℕ) → Good S b → So S b c out from b out from 0
+start b c out from g = record { within = omega arith; short = omega arith; good = g; book-kept = refl; out-kept = refl; same = refl }
+
+module _ {S : Settings} {b₀ c out₀ b out : List ℕ} {from at i : ℕ} where
+  pub more-so : {b′ out′ : List ℕ} (t : Taken) (v : So S b₀ c out₀ from b out at i) → TakenOf (take (length c - i) (drop i c)) b t b′ → 0 < t .used
+      → length b′ ≡ length b → Put out out′ at (answerLine (t .answer)) → So S b₀ c out₀ from b′ out′ (at + 25) (i + t .used)
+  more-so t v k s e p =
+      record {
+        within = in-reach c i t (v .within) (v .good) k s;
+        short = let h = v .short in omega arith;
+        good = more-good c i t (v .within) (v .good) k s;
+        book-kept = e ∙ v .book-kept;
+        out-kept = p .kept ∙ v .out-kept;
+        same = more-told c i t (v .within) (v .good) k s p ∙ v .same;
+      }
+
+  -- no line ends in the rest
+  pub all-told : {b′ : List ℕ} → So S b₀ c out₀ from b out at i → Free (take (length c - i) (drop i c)) × (b′ ≡ b) → Told S b₀ c out₀ from b′ out i at
+  all-told v f =
+      rw (f .1)
+      (record { within = v .within; short = v .short; good = v .good; free = rw (tail-is c i) at (f .0); same = v .same })
+
+  -- there is no rest
+  pub end-told : So S b₀ c out₀ from b out at i → length c ≤ i → Told S b₀ c out₀ from b out i at
+  unfolding Free
+  end-told v h =
+      record { within = v .within; short = v .short; good = v .good; free = rw (drop-of-length-le c {i = i} h) tt; same = v .same }

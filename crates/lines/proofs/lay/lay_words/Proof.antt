@@ -1,0 +1,44 @@
+use mathlib.Core.Path.{_≡_, refl, sym, _∙_, ap}
+use native.Mathlib.Omega.{arith}
+use lib.Seq.{length-take-le}
+use Rattle.lines.proofs.Layings.{laid-none, laid-large, laid-good}
+use borrow.Author.Needs.{needs}
+use Rattle.lines.proofs.lay.lay_words.Statement.{statement}
+use Rattle.lines.proofs.lay.lay_words.Tie as tie
+
+book-len-requires : tie.Need-book-len-requires
+book-len-requires c κs = search needs
+
+returns : tie.Need-returns
+returns c = laid-none _ (c .before .book-len .ensures) (c .if1 .taken)
+
+returns-2 : tie.Need-returns-2
+returns-2 c = laid-large _ (c .before .before .book-len .ensures) (c .before .if1 .left) (c .if2 .taken)
+
+slice-relend-prefix-lay : tie.Need-slice-relend-prefix-lay
+slice-relend-prefix-lay c = search needs
+
+slice-aggregate-lay : tie.Need-slice-aggregate-lay
+slice-aggregate-lay c = sym (length-take-le (c .before .before .before .book-len .result) (c .before .before .before .before .before .before .args .book .now) (omega arith))
+
+lay-requires : tie.Need-lay-requires
+lay-requires c κs = search needs
+
+same-length : tie.Need-same-length
+same-length c = search needs
+
+returns-3 : tie.Need-returns-3
+returns-3 c = laid-good _ _ (c .before .before .before .before .before .before .book-len .ensures) (c .before .before .before .before .before .if1 .left) (c .before .before .before .before .if2 .left) (c .before .before .before .before .before .before .before .before .before .pre) (c .before .before .lay .ensures) (c .before .before .lay .kept .1 .0)
+
+pub lay-words-spec : {M : Type 1} → statement M
+lay-words-spec =
+    tie.close
+    (tie.spec
+    book-len-requires
+    returns
+    returns-2
+    slice-relend-prefix-lay
+    slice-aggregate-lay
+    lay-requires
+    same-length
+    returns-3)

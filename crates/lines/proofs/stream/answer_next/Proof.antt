@@ -1,0 +1,56 @@
+use mathlib.Core.Path.{_≡_}
+use native.Mathlib.Omega.{arith}
+use Rattle.lines.specs.Post.{NextOf}
+use Rattle.lines.specs.declared.line.Next.the-variants.{Other}
+use Rattle.lines.proofs.Books.{next-is, taken-frame, taken-other, taken-none}
+use borrow.Author.Needs.{needs}
+use Rattle.lines.proofs.stream.answer_next.Statement.{statement}
+use Rattle.lines.proofs.stream.answer_next.Tie as tie
+
+look-requires : tie.Need-look-requires
+look-requires c κs = search needs
+
+enum-known-r : tie.Need-enum-known-r
+enum-known-r c = search needs
+
+step-requires : tie.Need-step-requires
+step-requires c κs = search needs
+
+enum-known-n : tie.Need-enum-known-n
+enum-known-n c = search needs
+
+next-other : (c : tie.After-known-told2) → NextOf (c .before .before .before .before .before .before .args .chunk .now) (Other (c .before .n .given .0 .0))
+next-other c = next-is _ (c .before .before .before .look .ensures) (c .before .n .given .1)
+
+add-t12 : tie.Need-add-t12
+add-t12 c = let n = next-other c .0 .inside in omega (arith, c .before .before .before .before .before .before .good)
+
+enum-told : tie.Need-enum-told
+enum-told c = search needs
+
+same-length : tie.Need-same-length
+same-length c = search needs
+
+returns : tie.Need-returns
+returns c = taken-frame _ (c .before .before .before .before .before .before .before .before .before .before .pre .0) (next-is _ (c .before .before .before .before .before .before .before .look .ensures) (c .before .before .before .before .before .r .given .1)) (c .before .before .step .ensures)
+
+returns-2 : tie.Need-returns-2
+returns-2 c = taken-other _ (c .before .before .before .before .before .before .pre .0) _ (next-other c)
+
+returns-3 : tie.Need-returns-3
+returns-3 c = taken-none _ (next-is _ (c .before .before .look .ensures) (c .enum-told .given .1))
+
+pub answer-next-spec : {M : Type 1} → statement M
+answer-next-spec =
+    tie.close
+    (tie.spec
+    look-requires
+    enum-known-r
+    step-requires
+    enum-known-n
+    add-t12
+    enum-told
+    same-length
+    returns
+    returns-2
+    returns-3)

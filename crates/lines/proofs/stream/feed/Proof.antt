@@ -1,0 +1,72 @@
+use Prim.Native.Nat.{_≤_}
+use lib.ListN.{length}
+use mathlib.Core.Path.{_≡_, refl, sym, _∙_, ap}
+use native.Mathlib.Omega.{arith}
+use lib.Seq.{length-take-le}
+use Rattle.lines.proofs.Streams.{holds-on, all-held, line-held}
+use borrow.Author.Needs.{needs}
+use Rattle.lines.proofs.stream.feed.Statement.{statement}
+use Rattle.lines.proofs.stream.feed.Tie as tie
+
+line-end-requires : tie.Need-line-end-requires
+line-end-requires c κs = search needs
+
+slice-aggregate-hold : tie.Need-slice-aggregate-hold
+slice-aggregate-hold c = sym (length-take-le (c .before .line-end .result) (c .before .before .before .before .before .before .args .chunk .now) (c .before .line-end .ensures .within))
+
+hold-requires : tie.Need-hold-requires
+hold-requires c κs = search needs
+
+returns : tie.Need-returns
+returns c = all-held (c .before .before .before .before .before .before .before .before .args .stream) (c .before .before .before .before .before .before .before .before .args .book .now) (c .before .before .before .before .before .before .before .before .args .chunk .now) (c .before .before .before .before .before .before .before .before .pre .1 .0) (c .before .before .before .line-end .ensures) (c .before .hold .ensures) (c .if1 .taken)
+
+room : (c : tie.After-end-held-arg2) → 25 ≤ length (c .before .before .before .before .before .before .before .before .before .before .args .out .now)
+room c = let w = c .before .before .before .before .before .line-end .ensures .within in let n = c .before .before .if1 .left in omega (arith, c .before .before .before .before .before .before .before .before .before .before .pre .1 .1)
+
+end-held-requires : tie.Need-end-held-requires
+end-held-requires c κs = (c .before .before .before .before .before .before .before .before .before .before .pre .0, (c .before .before .before .before .before .before .before .before .before .before .pre .1 .0 .sized, (holds-on (c .before .before .before .before .before .before .before .before .before .before .args .stream) (c .before .before .before .before .before .before .before .before .before .before .args .book .now) (c .before .before .before .before .before .before .before .before .before .before .args .chunk .now) (c .before .before .before .before .before .before .before .before .before .before .pre .1 .0) (c .before .before .before .before .before .line-end .ensures) (c .before .before .before .hold .ensures), room c)))
+
+add-next : tie.Need-add-next
+add-next c = search needs
+
+sub-go-on : tie.Need-sub-go-on
+sub-go-on c = search needs
+
+part-go-on-start : tie.Need-part-go-on-start
+part-go-on-start c = search needs
+
+part-go-on-end : tie.Need-part-go-on-end
+part-go-on-end c = search needs
+
+go-on-requires : tie.Need-go-on-requires
+go-on-requires c κs = search needs
+
+same-length : tie.Need-same-length
+same-length c = search needs
+
+same-length-2 : tie.Need-same-length-2
+same-length-2 c = search needs
+
+returns-2 : tie.Need-returns-2
+returns-2 c =
+    let d = c .before .before .before .before .before .before .before .before .before .before .before .before .before .before .before .before .before .before .before .before .before .before .before in
+    line-held (d .args .stream) (d .args .book .now) (d .args .chunk .now) (d .pre .1 .0) (c .before .before .before .before .before .before .before .before .before .before .before .before .before .before .before .before .before .before .line-end .ensures) (c .before .before .before .before .before .before .before .before .before .before .before .before .before .before .before .before .hold .ensures)
+    (c .before .before .before .before .before .before .before .before .before .before .before .before .end-held .result) (c .before .before .before .before .before .before .before .before .before .before .before .before .before .before .before .if1 .left) (c .before .before .before .before .before .before .before .before .before .before .before .before .end-held .ensures) (c .before .before .before .before .go-on .ensures)
+
+pub feed-spec : {M : Type 1} → statement M
+feed-spec =
+    tie.close
+    (tie.spec
+    line-end-requires
+    slice-aggregate-hold
+    hold-requires
+    returns
+    end-held-requires
+    add-next
+    sub-go-on
+    part-go-on-start
+    part-go-on-end
+    go-on-requires
+    same-length
+    same-length-2
+    returns-2)

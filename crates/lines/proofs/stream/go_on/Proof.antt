@@ -1,0 +1,64 @@
+use mathlib.Core.Path.{_≡_, refl, sym, _∙_, ap}
+use borrow.Author.Tests.{not-true, not-false}
+use lib.Seq.{length-take-le}
+use Rattle.lines.proofs.Streams.{rest-over, rest-later}
+use borrow.Author.Needs.{needs}
+use Rattle.lines.proofs.stream.go_on.Statement.{statement}
+use Rattle.lines.proofs.stream.go_on.Tie as tie
+
+nothing-requires : tie.Need-nothing-requires
+nothing-requires c κs = search needs
+
+returns : tie.Need-returns
+returns c = rest-over (c .before .before .before .before .before .before .args .e) (c .before .before .before .before .before .before .args .chunk .now) (not-true _ (c .before .if1 .taken)) (c .nothing .ensures)
+
+slice-relend-prefix-answer-lines : tie.Need-slice-relend-prefix-answer-lines
+slice-relend-prefix-answer-lines c = search needs
+
+slice-aggregate-answer-lines : tie.Need-slice-aggregate-answer-lines
+slice-aggregate-answer-lines c = sym (length-take-le (c .before .before .before .before .before .before .args .e .size) (c .before .before .before .before .before .before .args .book .now) (c .before .before .before .before .before .before .pre .0 .fits))
+
+answer-lines-requires : tie.Need-answer-lines-requires
+answer-lines-requires c κs = (c .before .before .before .before .before .before .before .pre .0 .good (not-false _ (c .before .before .if1 .left)), c .before .before .before .before .before .before .before .pre .1)
+
+nothing-requires-2 : tie.Need-nothing-requires-2
+nothing-requires-2 c κs = search needs
+
+sub-hold : tie.Need-sub-hold
+sub-hold c = search needs
+
+part-hold-start : tie.Need-part-hold-start
+part-hold-start c = search needs
+
+part-hold-end : tie.Need-part-hold-end
+part-hold-end c = search needs
+
+hold-requires : tie.Need-hold-requires
+hold-requires c κs = search needs
+
+same-length : tie.Need-same-length
+same-length c = search needs
+
+same-length-2 : tie.Need-same-length-2
+same-length-2 c = search needs
+
+returns-2 : tie.Need-returns-2
+returns-2 c = rest-later (c .before .before .before .before .before .before .before .before .before .before .before .before .before .before .before .args .book .now) (c .before .before .before .before .before .before .before .before .before .before .before .before .before .before .before .args .e) (c .before .before .before .before .before .before .before .before .before .before .before .before .before .before .before .args .chunk .now) (not-false _ (c .before .before .before .before .before .before .before .before .before .before .if1 .left)) (c .before .before .before .before .before .before .before .before .before .before .before .before .before .before .before .pre .0 .fits) (c .before .before .before .before .before .before .before .answer-lines .ensures) (c .before .before .before .before .before .before .before .answer-lines .kept .0) (rw (c .before .before .nothing2 .ensures .same) at (c .hold .ensures))
+
+pub go-on-spec : {M : Type 1} → statement M
+go-on-spec =
+    tie.close
+    (tie.spec
+    nothing-requires
+    returns
+    slice-relend-prefix-answer-lines
+    slice-aggregate-answer-lines
+    answer-lines-requires
+    nothing-requires-2
+    sub-hold
+    part-hold-start
+    part-hold-end
+    hold-requires
+    same-length
+    same-length-2
+    returns-2)

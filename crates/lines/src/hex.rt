@@ -1,0 +1,134 @@
+// Lower-case hexadecimal: digits and words both ways.
+ghost use mathlib.Core.Path.{_≡_};
+ghost use mathlib.Core.Bool.{true};
+ghost use mathlib.Core.List.{[], _∷_};
+ghost use Prim.Native.Nat.{_+_, _*_, _/_, _<_, _≤_};
+ghost use lib.ListN.{length, take, drop};
+ghost use Rattle.model.specs.Lines.{digit as digitByte, shown, wordDigits, lineWords};
+ghost use Rattle.lines.specs.Digits.{isDigit, valueOf, digitsOnly, Values, halfOf, wordOf, Put};
+
+// Whether a byte is one of the sixteen digits.
+pub fn is_digit(b: u8) -> bool
+    ensures { λ r. ⌜ r ≡ isDigit b ⌝ }
+{
+    (48 <= b) & (b <= 57) | (97 <= b) & (b <= 102)
+}
+
+// Whether every byte is a digit. There is no early end, so that the compiler takes many bytes at a time.
+pub fn digits_only(s: &[u8]) -> bool
+    ensures { λ r. ⌜ r ≡ digitsOnly (now (s .entry)) ⌝ }
+{
+    let mut all = true;
+    let mut i = 0;
+    while i < s.len() {
+        all = all & is_digit(s[i]);
+        i += 1;
+    }
+    all
+}
+
+// The value of a digit.
+pub fn digit_value(b: u8) -> u32
+    requires { ⌜ isDigit b ≡ true ⌝ }
+    ensures { λ r. ⌜ r ≡ valueOf b ⌝ }
+{
+    (b % 16) as u32 + (b / 64) as u32 * 9
+}
+
+// The word that eight digits show.
+pub fn word(s: &[u8], at: usize) -> u32
+    requires { ⌜ digitsOnly (now s) ≡ true ⌝ }
+    requires { ⌜ at + 8 ≤ length (now s) ⌝ }
+    ensures { λ r. ⌜ r ≡ shown (take 8 (drop at (now (s .entry)))) ⌝ }
+{
+    let mut w: u32 = 0;
+    let mut i: usize = 0;
+    while i < 8 {
+        w = w * 16 + digit_value(s[at + i]);
+        i += 1;
+    }
+    w
+}
+
+// The values of the 56 digits of a frame. The compiler takes many bytes at a time.
+pub fn values(s: &[u8]) -> [u8; 56]
+    requires { ⌜ digitsOnly (now s) ≡ true ⌝ }
+    requires { ⌜ length (now s) ≡ 56 ⌝ }
+    ensures { λ r. ⌜ Values (now (s .entry)) r ⌝ }
+{
+    let mut d = [0u8; 56];
+    let mut i: usize = 0;
+    while i < 56 {
+        let b = s[i];
+        d[i] = b % 16 + b / 64 * 9;
+        i += 1;
+    }
+    d
+}
+
+fn wide(b: u8) -> u32
+    ensures { λ r. ⌜ (r ≡ b) × (r < 256) ⌝ }
+{
+    b as u32
+}
+
+// The number of four values.
+fn half_of(d: &[u8; 56], at: usize) -> u32
+    requires { ⌜ at ≤ 52 ⌝ }
+    ensures { λ r. ⌜ r ≡ halfOf (now (d .entry)) at ⌝ }
+{
+    wide(d[at]) * 0x1000 + wide(d[at + 1]) * 0x100 + wide(d[at + 2]) * 0x10 + wide(d[at + 3])
+}
+
+// The word of eight values.
+pub fn word_of(d: &[u8; 56], at: usize) -> u32
+    requires { ⌜ at ≤ 48 ⌝ }
+    ensures { λ r. ⌜ r ≡ wordOf (now (d .entry)) at ⌝ }
+{
+    half_of(d, at) % 0x1_0000 * 0x1_0000 + half_of(d, at + 4) % 0x1_0000
+}
+
+// The byte of a digit.
+pub fn digit(n: u32) -> u8
+    requires { ⌜ n < 16 ⌝ }
+    ensures { λ r. ⌜ r ≡ digitByte n ⌝ }
+{
+    if n <= 9 { 48 + n as u8 } else { 87 + n as u8 }
+}
+
+// The eight digits of a word, high digit first.
+pub fn word_digits(w: u32) -> [u8; 8]
+    ensures { λ r. ⌜ r ≡ wordDigits w ⌝ }
+{
+    [
+        digit(w / 0x1000_0000 % 16),
+        digit(w / 0x100_0000 % 16),
+        digit(w / 0x10_0000 % 16),
+        digit(w / 0x1_0000 % 16),
+        digit(w / 0x1000 % 16),
+        digit(w / 0x100 % 16),
+        digit(w / 0x10 % 16),
+        digit(w % 16),
+    ]
+}
+
+// Bytes behind what was written.
+pub fn put(out: &mut [u8], at: usize, bytes: &[u8])
+    requires { ⌜ at + length (now bytes) ≤ length (now out) ⌝ }
+    ensures { λ _. ⌜ Put (now (out .entry)) (now (out .exit)) at (now (bytes .entry)) ⌝ }
+{
+    let mut i = 0;
+    while i < bytes.len() {
+        out[at + i] = bytes[i];
+        i += 1;
+    }
+}
+
+// A word behind what was written.
+pub fn put_word(out: &mut [u8], at: usize, w: u32)
+    requires { ⌜ at + 8 ≤ length (now out) ⌝ }
+    ensures { λ _. ⌜ Put (now (out .entry)) (now (out .exit)) at (wordDigits w) ⌝ }
+{
+    let digits = word_digits(w);
+    put(out, at, &digits);
+}

@@ -1,0 +1,52 @@
+// The settings line: the book that it lays.
+use crate::line::line_words;
+use crate::line::whole_words;
+use book::lay::lay;
+use book::settings::book_len;
+ghost use mathlib.Core.Path.{_≡_};
+ghost use Prim.Native.Nat.{_≤_};
+ghost use lib.ListN.{length};
+ghost use Rattle.lines.specs.Laying.{layable, LaidOf, LaidBy};
+
+// The most words of a book that the program holds.
+const PROGRAM_WORDS: usize = 16384;
+
+// The most words that settings are: nine limits and sixteen capacities.
+const SETTINGS_WORDS: usize = 25;
+
+// What a settings line gives: the length of the book that is laid, or the number of a refusal.
+pub enum Laid {
+    Book(usize),
+    Refused(u32),
+}
+
+pub fn lay_words(book: &mut [u32], words: &[u32]) -> Laid
+    requires { ⌜ 16384 ≤ length (now book) ⌝ }
+    ensures { λ r. ⌜ LaidOf (now (words .entry)) r (now (book .exit)) ⌝ }
+{
+    let size = book_len(words);
+    if size == 0 {
+        return Laid::Refused(24);
+    }
+    if PROGRAM_WORDS < size {
+        return Laid::Refused(25);
+    }
+    lay(words, &mut book[..size]);
+    Laid::Book(size)
+}
+
+pub fn lay_line(book: &mut [u32], line: &[u8]) -> Laid
+    requires { ⌜ 16384 ≤ length (now book) ⌝ }
+    ensures { λ r. ⌜ LaidBy (now (line .entry)) r (now (book .exit)) ⌝ }
+{
+    if !whole_words(line) {
+        return Laid::Refused(24);
+    }
+    let n = line.len() / 8;
+    if SETTINGS_WORDS < n {
+        return Laid::Refused(24);
+    }
+    let mut words = [0u32; 25];
+    line_words(line, &mut words);
+    lay_words(book, &words[..n])
+}

@@ -1,0 +1,368 @@
+// The stream: a chunk of input in, answer lines out, and what is held of a line that the chunk's end cuts.
+use crate::lay::Laid;
+use crate::lay::lay_line;
+use crate::line::Framed;
+use crate::line::Next;
+use crate::line::frame;
+use crate::line::line_end;
+use crate::line::look;
+use crate::line::put_answer;
+use book::grid::Grids;
+use book::grid::grids_of;
+use book::settings::settings;
+use engine::step::step;
+use model::Answer;
+use model::Settings;
+ghost use mathlib.Core.Path.{_≡_};
+ghost use mathlib.Core.List.{[], _++_};
+ghost use Prim.Native.Nat.{_+_, _*_, _≤_, min};
+ghost use lib.ListN.{length, take};
+ghost use Rattle.model.specs.Reading.{settingsOf, stateOf};
+ghost use Rattle.model.specs.Calls.{called};
+ghost use Rattle.model.specs.Lines.{lineOutcome};
+ghost use Rattle.book.specs.Good.{Good, answered};
+ghost use Rattle.book.specs.Grids.{gridsOf};
+ghost use Rattle.lines.specs.Stream.{kept, behind, opened, told, ended, run, closed};
+ghost use Rattle.lines.specs.Post.{heldOf, Holds, pointAt, pointOf, Sized, Going, EndSized, endPoint, EndedOf, Moved, TakenOf, Told, Begun, isLater};
+
+// The bytes of a line that is not over. No line of more than 200 bytes is good, so the first 201 say all.
+pub struct Held {
+    pub bytes: [u8; 201],
+    pub len: usize,
+}
+
+pub enum Phase {
+    Opening,
+    Later,
+    Over,
+}
+
+// Where the program is: in the settings line, in a later line, or past a refused settings line; behind a good settings line the
+// book is the first `size` words that are lent.
+pub struct Stream {
+    pub held: Held,
+    pub phase: Phase,
+    pub size: usize,
+}
+
+// The stream after a chunk, and how many bytes are written.
+pub struct Fed {
+    pub stream: Stream,
+    pub wrote: usize,
+}
+
+// A line is over: whether more lines are read, the book's length, and how many bytes are written.
+pub struct Ended {
+    pub more: bool,
+    pub size: usize,
+    pub wrote: usize,
+}
+
+// The answer of a line, and how many bytes of the input it took; none if the line is not over.
+pub struct Taken {
+    pub used: usize,
+    pub answer: Answer,
+}
+
+// How many bytes of a chunk were whole lines, and how many bytes are written.
+pub struct Progress {
+    pub used: usize,
+    pub wrote: usize,
+}
+
+fn smaller(a: usize, b: usize) -> usize
+    ensures { λ r. ⌜ r ≡ min a b ⌝ }
+{
+    if a < b { a } else { b }
+}
+
+// A piece of a line behind what is held.
+fn hold(held: Held, piece: &[u8]) -> Held
+    requires { ⌜ Holds held (heldOf held) ⌝ }
+    ensures { λ r. ⌜ Holds r (kept (heldOf held ++ now (piece .entry))) ⌝ }
+{
+    let mut next = held;
+    let len = held.len;
+    let n = smaller(piece.len(), 201 - len);
+    let mut i = 0;
+    while i < n {
+        next.bytes[len + i] = piece[i];
+        i += 1;
+    }
+    next.len = len + n;
+    next
+}
+
+// The answer of a later line, and the book after it.
+fn answer(book: &mut [u32], s: Settings, g: Grids, line: &[u8]) -> Answer
+    requires { ⌜ Good s (now book) ⌝ }
+    requires { ⌜ g ≡ gridsOf s ⌝ }
+    ensures { λ a. ⌜ answered a (now (book .exit)) ≡ called (lineOutcome (stateOf (now (book .entry))) (now (line .entry))) ⌝ }
+{
+    match frame(line) {
+        Framed::Frame(r) => step(book, s, g, r),
+        Framed::Other => Answer::Refused {
+            number: 23,
+            place: 0,
+        },
+    }
+}
+
+// The answer of the first line of a chunk, and the book after it.
+fn answer_next(book: &mut [u32], s: Settings, g: Grids, chunk: &[u8]) -> Taken
+    requires { ⌜ Good s (now book) ⌝ }
+    requires { ⌜ g ≡ gridsOf s ⌝ }
+    ensures { λ r. ⌜ TakenOf (now (chunk .entry)) (now (book .entry)) r (now (book .exit)) ⌝ }
+{
+    match look(chunk) {
+        Next::Frame(r) => Taken {
+            used: 57,
+            answer: step(book, s, g, r),
+        },
+        Next::Other(n) => Taken {
+            used: n + 1,
+            answer: Answer::Refused {
+                number: 23,
+                place: 0,
+            },
+        },
+        Next::Partial => Taken {
+            used: 0,
+            answer: Answer::Done(0),
+        },
+    }
+}
+
+// The answers of all whole lines of a chunk that begins with a line.
+fn answers(
+    book: &mut [u32],
+    s: Settings,
+    g: Grids,
+    chunk: &[u8],
+    out: &mut [u8],
+    from: usize,
+) -> Progress
+    requires { ⌜ Good s (now book) ⌝ }
+    requires { ⌜ g ≡ gridsOf s ⌝ }
+    requires { ⌜ from + 25 * length (now chunk) ≤ length (now out) ⌝ }
+    ensures { λ r. ⌜ Told s (now (book .entry)) (now (chunk .entry)) (now (out .entry)) from (now (book .exit)) (now (out .exit)) (r .used) (r .wrote) ⌝ }
+{
+    let mut at = from;
+    let mut i = 0;
+    while i < chunk.len() {
+        let rest = &chunk[i..];
+        let t = answer_next(book, s, g, rest);
+        let used = t.used;
+        if used == 0 {
+            return Progress { used: i, wrote: at };
+        }
+        let a = t.answer;
+        put_answer(out, at, a);
+        at += 25;
+        i += used;
+    }
+    Progress { used: i, wrote: at }
+}
+
+// The same under the settings that the book begins with.
+fn answer_lines(book: &mut [u32], chunk: &[u8], out: &mut [u8], from: usize) -> Progress
+    requires { ⌜ Good (settingsOf (now book)) (now book) ⌝ }
+    requires { ⌜ from + 25 * length (now chunk) ≤ length (now out) ⌝ }
+    ensures { λ r. ⌜ Told (settingsOf (now (book .entry))) (now (book .entry)) (now (chunk .entry)) (now (out .entry)) from (now (book .exit)) (now (out .exit)) (r .used) (r .wrote) ⌝ }
+{
+    let s = settings(book);
+    let g = grids_of(s);
+    answers(book, s, g, chunk, out, from)
+}
+
+fn answer_line(book: &mut [u32], line: &[u8]) -> Answer
+    requires { ⌜ Good (settingsOf (now book)) (now book) ⌝ }
+    ensures { λ a. ⌜ answered a (now (book .exit)) ≡ called (lineOutcome (stateOf (now (book .entry))) (now (line .entry))) ⌝ }
+{
+    let s = settings(book);
+    let g = grids_of(s);
+    answer(book, s, g, line)
+}
+
+// The end of a later line.
+fn respond(book: &mut [u32], size: usize, line: &[u8], out: &mut [u8], at: usize) -> Ended
+    requires { ⌜ size ≤ length (now book) ⌝ }
+    requires { ⌜ Good (settingsOf (take size (now book))) (take size (now book)) ⌝ }
+    requires { ⌜ at + 25 ≤ length (now out) ⌝ }
+    ensures { λ r. ⌜ EndedOf (behind (take at (now (out .entry))) (told (lineOutcome (stateOf (take size (now (book .entry)))) (now (line .entry))))) r (now (book .exit)) (now (out .exit)) (at + 25) ⌝ }
+{
+    let a = answer_line(&mut book[..size], line);
+    put_answer(out, at, a);
+    Ended {
+        more: true,
+        size,
+        wrote: at + 25,
+    }
+}
+
+// The end of the settings line.
+fn settle(book: &mut [u32], line: &[u8], out: &mut [u8], at: usize) -> Ended
+    requires { ⌜ 16384 ≤ length (now book) ⌝ }
+    requires { ⌜ at + 25 ≤ length (now out) ⌝ }
+    ensures { λ r. ⌜ EndedOf (behind (take at (now (out .entry))) (opened (now (line .entry)))) r (now (book .exit)) (now (out .exit)) (at + 25) ⌝ }
+{
+    match lay_line(book, line) {
+        Laid::Book(size) => Ended {
+            more: true,
+            size,
+            wrote: at,
+        },
+        Laid::Refused(number) => {
+            put_answer(out, at, Answer::Refused { number, place: 0 });
+            // nothing more is read
+            Ended {
+                more: false,
+                size: 0,
+                wrote: at + 25,
+            }
+        }
+    }
+}
+
+// The end of any line.
+fn end_line(
+    book: &mut [u32],
+    phase: Phase,
+    size: usize,
+    line: &[u8],
+    out: &mut [u8],
+    at: usize,
+) -> Ended
+    requires { ⌜ 16384 ≤ length (now book) ⌝ }
+    requires { ⌜ Sized phase size (now book) ⌝ }
+    requires { ⌜ at + 25 ≤ length (now out) ⌝ }
+    ensures { λ r. ⌜ EndedOf (behind (take at (now (out .entry))) (ended (pointAt phase (stateOf (take size (now (book .entry)))) (now (line .entry))))) r (now (book .exit)) (now (out .exit)) (at + 25) ⌝ }
+{
+    match phase {
+        Phase::Opening => settle(book, line, out, at),
+        Phase::Later => respond(book, size, line, out, at),
+        Phase::Over => Ended {
+            more: false,
+            size: 0,
+            wrote: at,
+        },
+    }
+}
+
+fn nothing() -> Held
+    ensures { λ r. ⌜ Holds r [] ⌝ }
+{
+    Held {
+        bytes: [0; 201],
+        len: 0,
+    }
+}
+
+// The rest of a chunk, behind the end of a line.
+fn go_on(book: &mut [u32], e: Ended, chunk: &[u8], out: &mut [u8]) -> Fed
+    requires { ⌜ EndSized e (now book) ⌝ }
+    requires { ⌜ e .wrote + 25 * length (now chunk) ≤ length (now out) ⌝ }
+    ensures { λ r. ⌜ Moved (behind (take (e .wrote) (now (out .entry))) (run (endPoint e (now (book .entry))) (now (chunk .entry)))) (r .stream) (now (book .exit)) (now (out .exit)) (r .wrote) (e .wrote + 25 * length (now (chunk .entry))) ⌝ }
+{
+    let wrote = e.wrote;
+    if !e.more {
+        return Fed {
+            stream: Stream {
+                held: nothing(),
+                phase: Phase::Over,
+                size: 0,
+            },
+            wrote,
+        };
+    }
+    let size = e.size;
+    let p = answer_lines(&mut book[..size], chunk, out, wrote);
+    let used = p.used;
+    Fed {
+        stream: Stream {
+            held: hold(nothing(), &chunk[used..]),
+            phase: Phase::Later,
+            size,
+        },
+        wrote: p.wrote,
+    }
+}
+
+// A chunk of input. The answers go to the front of `out`.
+pub fn feed(book: &mut [u32], stream: Stream, chunk: &[u8], out: &mut [u8]) -> Fed
+    requires { ⌜ 16384 ≤ length (now book) ⌝ }
+    requires { ⌜ Going stream (now book) ⌝ }
+    requires { ⌜ 25 * length (now chunk) ≤ length (now out) ⌝ }
+    ensures { λ r. ⌜ Moved (run (pointOf stream (now (book .entry))) (now (chunk .entry))) (r .stream) (now (book .exit)) (now (out .exit)) (r .wrote) (25 * length (now (chunk .entry))) ⌝ }
+{
+    let before = stream.held;
+    let phase = stream.phase;
+    let size = stream.size;
+    let n = line_end(chunk);
+    let held = hold(before, &chunk[..n]);
+    if n == chunk.len() {
+        return Fed {
+            stream: Stream { held, phase, size },
+            wrote: 0,
+        };
+    }
+    let e = end_held(book, phase, size, held, out);
+    let next = n + 1;
+    go_on(book, e, &chunk[next..], out)
+}
+
+// The line that is held is over.
+fn end_held(book: &mut [u32], phase: Phase, size: usize, held: Held, out: &mut [u8]) -> Ended
+    requires { ⌜ 16384 ≤ length (now book) ⌝ }
+    requires { ⌜ Sized phase size (now book) ⌝ }
+    requires { ⌜ Holds held (heldOf held) ⌝ }
+    requires { ⌜ 25 ≤ length (now out) ⌝ }
+    ensures { λ r. ⌜ EndedOf (ended (pointAt phase (stateOf (take size (now (book .entry)))) (heldOf held))) r (now (book .exit)) (now (out .exit)) 25 ⌝ }
+{
+    let bytes = held.bytes;
+    let len = held.len;
+    end_line(book, phase, size, &bytes[..len], out, 0)
+}
+
+// The stream before the first byte.
+pub fn begin() -> Stream
+    ensures { λ r. ⌜ Begun r ⌝ }
+{
+    Stream {
+        held: nothing(),
+        phase: Phase::Opening,
+        size: 0,
+    }
+}
+
+fn is_later(phase: Phase) -> bool
+    ensures { λ r. ⌜ r ≡ isLater phase ⌝ }
+{
+    match phase {
+        Phase::Opening => false,
+        Phase::Later => true,
+        Phase::Over => false,
+    }
+}
+
+// The end of the input: the settings line ends in any case, a later one if it has begun.
+pub fn close(book: &mut [u32], stream: Stream, out: &mut [u8]) -> Ended
+    requires { ⌜ 16384 ≤ length (now book) ⌝ }
+    requires { ⌜ Going stream (now book) ⌝ }
+    requires { ⌜ 25 ≤ length (now out) ⌝ }
+    ensures { λ r. ⌜ EndedOf (closed (pointOf stream (now (book .entry)))) r (now (book .exit)) (now (out .exit)) 25 ⌝ }
+{
+    let held = stream.held;
+    let phase = stream.phase;
+    let size = stream.size;
+    if is_later(phase) {
+        if held.len == 0 {
+            return Ended {
+                more: true,
+                size,
+                wrote: 0,
+            };
+        }
+    }
+    end_held(book, phase, size, held, out)
+}

@@ -1,0 +1,71 @@
+/* A visit of two dates, from C: lay a book, ask for leave, a hotel room and a meeting, see a refusal, and check the book.
+ *
+ *     rt staticlib capi
+ *     gcc -Iinclude examples/c/visit.c target/staticlib/libcapi.a -o target/visit && target/visit
+ */
+#include <stdio.h>
+#include <stdlib.h>
+#include "caviar.h"
+
+static void say(const char *what, caviar_answer answer)
+{
+    if (answer.number == 0)
+        printf("%s: done, value %u\n", what, answer.value);
+    else
+        printf("%s: refused by question %u at %u\n", what, answer.number, answer.place);
+}
+
+/* The small site of the paper's rehearsal, request by request. */
+static void small_site(void)
+{
+    const uint32_t settings[] = {2, 2, 2, 3, 2, 2, 1, 2, 1, 4};
+    uint32_t book[64];
+    caviar_request_words leave = {.kind = 1, .b = 1, .first = 0, .last = 1};
+    caviar_request_words hotel = {.kind = 4, .a = 0, .b = 1, .first = 0, .last = 1};
+    caviar_request_words removal = {.kind = 3, .b = 1, .first = 0, .last = 1};
+
+    printf("a book of these settings has %llu words\n", (unsigned long long)caviar_book_len(settings, 10));
+    say("lay", caviar_lay(settings, 10, book, 64));
+    say("hotel room 0 for visitor 1 on dates 0 to 1", caviar_request(book, 64, hotel));
+    say("leave for visitor 1 on dates 0 to 1", caviar_request(book, 64, leave));
+    say("hotel room 0 for visitor 1 on dates 0 to 1", caviar_request(book, 64, hotel));
+    say("remove visitor 1 on dates 0 to 1", caviar_request(book, 64, removal));
+    say("check", caviar_check(book, 64));
+}
+
+/* The largest site, with a list of requests. */
+static int largest_site(void)
+{
+    uint32_t settings[CAVIAR_MOST_SETTINGS] = {400, 16, 96, 512, 128, 64, 16, 512, 128};
+    const uint32_t requests[] = {
+        1,  0,  511, 0,    399,  0, 0, /* leave for visitor 511 on every date */
+        4,  7,  511, 0,    399,  0, 0, /* hotel room 7 */
+        6,  12, 511, 0,    95,   0, 0, /* transport 12 on the first date */
+        18, 0,  0,   399,  399,  0, 0, /* how many have leave on the last date? */
+        20, 0,  0,   6399, 6399, 0, 0, /* the lowest free conference room in the last session */
+        3,  0,  511, 0,    399,  0, 0, /* remove the visitor */
+    };
+    uint32_t answers[18];
+    size_t length = CAVIAR_MOST_WORDS;
+    uint32_t *book = malloc(length * sizeof *book);
+
+    if (book == NULL)
+        return 1;
+    for (int room = 0; room < 16; room++)
+        settings[9 + room] = 1000;
+    say("lay the largest book and answer a list", caviar_serve(settings, CAVIAR_MOST_SETTINGS, book, length, requests, 42, answers, 18));
+    for (int i = 0; i < 6; i++)
+        printf("  kind %u: number %u, place %u, value %u\n", requests[7 * i], answers[3 * i], answers[3 * i + 1], answers[3 * i + 2]);
+    say("the same list again", caviar_requests(book, length, requests, 42, answers, 18));
+    say("check", caviar_check(book, length));
+    book[length - 1] = 513;
+    say("check with a visitor past the limit in the last cell", caviar_check(book, length));
+    free(book);
+    return 0;
+}
+
+int main(void)
+{
+    small_site();
+    return largest_site();
+}

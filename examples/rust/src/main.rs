@@ -1,0 +1,58 @@
+//! A visit of two dates, from Rust: lay a book, ask for leave, a hotel room and a meeting, see a
+//! refusal, and check the book; then a list on the largest book.
+
+use caviar::{Answer, Request};
+
+fn say(what: &str, answer: Answer) {
+    match answer.result() {
+        Ok(value) => println!("{what}: done, value {value}"),
+        Err(refusal) => println!("{what}: refused by question {} at {}", refusal.number, refusal.place),
+    }
+}
+
+/// The small site of the paper's rehearsal, request by request.
+fn small_site() {
+    let settings = [2, 2, 2, 3, 2, 2, 1, 2, 1, 4];
+    let mut book = vec![0; caviar::book_len(&settings)];
+    let leave = Request { kind: 1, b: 1, first: 0, last: 1, ..Request::default() };
+    let hotel = Request { kind: 4, a: 0, b: 1, first: 0, last: 1, ..Request::default() };
+    let removal = Request { kind: 3, b: 1, first: 0, last: 1, ..Request::default() };
+
+    println!("a book of these settings has {} words", book.len());
+    say("lay", caviar::lay(&settings, &mut book));
+    say("hotel room 0 for visitor 1 on dates 0 to 1", caviar::request(&mut book, hotel));
+    say("leave for visitor 1 on dates 0 to 1", caviar::request(&mut book, leave));
+    say("hotel room 0 for visitor 1 on dates 0 to 1", caviar::request(&mut book, hotel));
+    say("remove visitor 1 on dates 0 to 1", caviar::request(&mut book, removal));
+    say("check", caviar::check(&book));
+}
+
+/// The largest site, with a list of requests.
+fn largest_site() {
+    let mut settings = vec![400, 16, 96, 512, 128, 64, 16, 512, 128];
+    settings.extend([1000; 16]);
+    let mut book = vec![0; caviar::book_len(&settings)];
+    let list = [
+        Request { kind: 1, b: 511, first: 0, last: 399, ..Request::default() },
+        Request { kind: 4, a: 7, b: 511, first: 0, last: 399, ..Request::default() },
+        Request { kind: 6, a: 12, b: 511, first: 0, last: 95, ..Request::default() },
+        Request { kind: 18, first: 399, last: 399, ..Request::default() },
+        Request { kind: 20, first: 6399, last: 6399, ..Request::default() },
+        Request { kind: 3, b: 511, first: 0, last: 399, ..Request::default() },
+    ];
+    let mut answers = [Answer::default(); 6];
+
+    say("lay the largest book and answer a list", caviar::serve(&settings, &mut book, &list, &mut answers));
+    for (request, answer) in list.iter().zip(answers) {
+        println!("  kind {}: number {}, place {}, value {}", request.kind, answer.number, answer.place, answer.value);
+    }
+    say("the same list again", caviar::requests(&mut book, &list, &mut answers));
+    say("check", caviar::check(&book));
+    book[caviar::MOST_WORDS - 1] = 513;
+    say("check with a visitor past the limit in the last cell", caviar::check(&book));
+}
+
+fn main() {
+    small_site();
+    largest_site();
+}

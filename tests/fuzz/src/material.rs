@@ -1,0 +1,70 @@
+//! Bytes as test material: settings of a small site, requests that are mostly in range, raw words.
+
+use second::machine::site::{GREATEST, LIMITS};
+use second::machine::{Request, Settings};
+
+pub struct Bytes<'a>(pub &'a [u8]);
+
+impl Bytes<'_> {
+    pub fn is_empty(&self) -> bool {
+        self.0.is_empty()
+    }
+
+    /// The next byte, 0 when there is none.
+    pub fn byte(&mut self) -> u8 {
+        match self.0.split_first() {
+            Some((first, rest)) => {
+                self.0 = rest;
+                *first
+            }
+            None => 0,
+        }
+    }
+
+    /// A word: most bytes stand for themselves, a few for words that upset somebody, one for the
+    /// next four bytes.
+    pub fn word(&mut self) -> u32 {
+        match self.byte() {
+            250 => u32::MAX,
+            251 => 1 << (self.byte() % 32),
+            252 => u32::MAX - u32::from(self.byte()),
+            253 => 256 + u32::from(self.byte()),
+            254 => 1000 + u32::from(self.byte() % 4),
+            255 => u32::from_le_bytes([self.byte(), self.byte(), self.byte(), self.byte()]),
+            small => u32::from(small),
+        }
+    }
+
+    /// A small site; visitors and meetings sometimes at the end of a pool word.
+    pub fn settings(&mut self) -> Settings {
+        let mut words = Vec::new();
+        for (which, greatest) in GREATEST.iter().enumerate() {
+            let byte = u32::from(self.byte());
+            let small = 1 + byte % 4;
+            words.push(match which {
+                3 | 4 if byte >= 240 => 31 + byte % 3,
+                _ => small.min(*greatest),
+            });
+        }
+        for _ in 0..words[6] {
+            words.push(1 + u32::from(self.byte()) % 12);
+        }
+        assert_eq!(words.len(), LIMITS + words[6] as usize);
+        Settings::from_words(&words).expect("small settings are in range")
+    }
+
+    pub fn request(&mut self) -> Request {
+        let kind = match self.byte() {
+            byte if byte >= 230 => u32::from(byte - 230),
+            byte => 1 + u32::from(byte % 20),
+        };
+        let [a, b, first, reach, n, info] = [(); 6].map(|()| self.word());
+        let last = first.wrapping_add(reach);
+        Request { kind, a, b, first, last, n, info }
+    }
+
+    /// What is left, as raw words.
+    pub fn raw(self) -> Vec<u32> {
+        self.0.chunks_exact(4).map(|four| u32::from_le_bytes([four[0], four[1], four[2], four[3]])).collect()
+    }
+}
