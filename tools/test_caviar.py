@@ -49,7 +49,7 @@ def setUpModule():
     command = [cargo, "build", "--quiet", "--offline", "--locked", "--release", "--bins"]
     environment = dict(os.environ, CARGO_TARGET_DIR=str(CARGO_TARGET))
     subprocess.run(command, cwd=ROOT / "tests" / "second", env=environment, check=True)
-    print("programs:", ", ".join(str(program.relative_to(ROOT)) for program in programs()), flush=True)
+    print("programs:", ", ".join(os.path.relpath(program, ROOT) for program in programs()), flush=True)
 
 
 def caviar(*arguments, given=b""):
@@ -167,6 +167,7 @@ class Frame(Tested):
         self.assertEqual(self.wrote("frame", "4 visitor 1 dates 0..1"), line)
         self.assertEqual(self.wrote("frame", "4 visitor 1 dates 0..1", "add-hotel b 1 last 1"), line + line)
         self.assertEqual(self.wrote("frame", given="\n # nothing\n\tADD-HOTEL  Visitor 0x1 date 0..1 # two\n"), line)
+        self.assertEqual(self.wrote("frame", given="raw\nRAW\t# as it  stands \n raw raw\n"), b"\n# as it  stands \nraw\n")
 
     def test_names_and_numbers_are_the_same_kinds(self):
         for kind in paper.KINDS:
