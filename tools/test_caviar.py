@@ -167,7 +167,8 @@ class Frame(Tested):
         self.assertEqual(self.wrote("frame", "4 visitor 1 dates 0..1"), line)
         self.assertEqual(self.wrote("frame", "4 visitor 1 dates 0..1", "add-hotel b 1 last 1"), line + line)
         self.assertEqual(self.wrote("frame", given="\n # nothing\n\tADD-HOTEL  Visitor 0x1 date 0..1 # two\n"), line)
-        self.assertEqual(self.wrote("frame", given="raw\nRAW\t# as it  stands \n raw raw\n"), b"\n# as it  stands \nraw\n")
+        as_it_stands = self.wrote("frame", given="raw\nRAW\t# as it  stands \n raw raw\n")
+        self.assertEqual(as_it_stands, b"\n# as it  stands \nraw\n")
 
     def test_names_and_numbers_are_the_same_kinds(self):
         for kind in paper.KINDS:
