@@ -242,7 +242,7 @@ def sentence_of_settings(entry, answer):
 def echo(entry):
     """The entry as it would be typed, in one line that a terminal can show."""
     text = printable(typed(entry))
-    return text if len(text) <= WIDEST_ECHO else text[:WIDEST_ECHO] + " .."
+    return text[:WIDEST_ECHO] + " .." if isinstance(entry, Raw) and len(text) > WIDEST_ECHO else text
 
 
 def explained(entries, answers):

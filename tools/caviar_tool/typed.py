@@ -17,7 +17,7 @@ from .paper import BY_NAME, BY_NUMBER, LIMITS, WORD_LIMIT, Problem, Raw, Request
 
 FIELDS = ("a", "b", "first", "last", "n", "info")
 UNITS = {"date": "date", "dates": "date", "session": "session", "sessions": "session", "time": "time", "times": "time"}
-RAW = re.compile(r"\s*raw(?: (.*))?", re.DOTALL)
+RAW = re.compile(r"\s*raw(?:\s(.*))?", re.DOTALL | re.IGNORECASE)
 
 
 def number(text):

@@ -6,6 +6,17 @@
 //! promises is proved, for all words, against a specification of the paper; this crate only lends
 //! the slices.
 //!
+//! ```
+//! let settings = [2, 2, 2, 3, 2, 2, 1, 2, 1, 4];
+//! let mut book = vec![0; caviar::book_len(&settings)];
+//! assert_eq!(caviar::lay(&settings, &mut book).result(), Ok(0));
+//! let leave = caviar::Request { kind: 1, b: 1, first: 0, last: 1, ..Default::default() };
+//! assert_eq!(caviar::request(&mut book, leave).result(), Ok(0));
+//! let hotel = caviar::Request { kind: 4, b: 2, first: 0, last: 1, ..Default::default() };
+//! assert_eq!(caviar::request(&mut book, hotel).result(), Err(caviar::Refusal { number: 9, place: 0 }));
+//! assert_eq!(caviar::check(&book).result(), Ok(0));
+//! ```
+//!
 //! `rt staticlib capi` writes the library that the build script links. Another folder that holds
 //! libcapi.a is named by the variable `CAVIAR_LIB_DIR`.
 

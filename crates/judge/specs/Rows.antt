@@ -35,6 +35,9 @@ plainRow a b u = record { a = a; b = b; unit = u; n = false; info = false; one =
 abbrev pub singleRow : Field → Field → Slot → Row
 singleRow a b u = record { a = a; b = b; unit = u; n = false; info = false; one = true }
 
+abbrev pub notedRow : Field → Field → Slot → Bool → Row
+notedRow a b u n = record { a = a; b = b; unit = u; n = n; info = true; one = false }
+
 -- the row of a kind by its number; a number that no kind has gets a row that uses nothing
 abbrev pub rowFor : Option Kind → ModelRow
 rowFor none = record { a = unused; b = unused; unit = dates; n = false; info = false; one = false }

@@ -41,6 +41,12 @@ fn settled(number: u32, f: Found) -> Answer
     }
 }
 
+fn refused(number: u32, place: u32) -> Answer
+    ensures { λ a. ⌜ a ≡ Answer.Refused number place ⌝ }
+{
+    Answer::Refused { number, place }
+}
+
 // Kinds 4 and 6: the cells are those of the set, the slots of its unit.
 fn add_stay(
     book: &[u32],
@@ -63,22 +69,13 @@ fn add_stay(
     ensures { λ r. ⌜ r ≡ addStay s (now (book .entry)) cells u a b first last ⌝ }
 {
     if let Found::At(i) = first_without(book, s, g, Test::OnLeave(u), b, 0, first, last) {
-        return Answer::Refused {
-            number: 9,
-            place: i,
-        };
+        return refused(9, i);
     }
     if let Found::At(i) = first_failing(book, cells, Ask::Absent, a, b + 1, first, last) {
-        return Answer::Refused {
-            number: 11,
-            place: i,
-        };
+        return refused(11, i);
     }
     if let Found::At(i) = first_failing(book, cells, Ask::Empty, a, b + 1, first, last) {
-        return Answer::Refused {
-            number: 12,
-            place: i,
-        };
+        return refused(12, i);
     }
     settled(
         13,
@@ -105,23 +102,14 @@ fn add_attend(book: &[u32], s: Settings, g: Grids, a: u32, b: u32, first: u32, l
         first,
         last,
     ) {
-        return Answer::Refused {
-            number: 9,
-            place: i,
-        };
+        return refused(9, i);
     }
     if let Found::At(i) = first_without(book, s, g, Test::Stands, a, 0, first, last) {
-        return Answer::Refused {
-            number: 10,
-            place: i,
-        };
+        return refused(10, i);
     }
     let cells = g.attend;
     if let Found::At(i) = first_failing(book, cells, Ask::Absent, b, a + 1, first, last) {
-        return Answer::Refused {
-            number: 11,
-            place: i,
-        };
+        return refused(11, i);
     }
     settled(
         13,
@@ -139,17 +127,11 @@ fn add_conf(book: &[u32], s: Settings, g: Grids, a: u32, b: u32, first: u32, las
     ensures { λ r. ⌜ r ≡ confAdds s (now (book .entry)) (g .conf) a b first last ⌝ }
 {
     if let Found::At(i) = first_without(book, s, g, Test::Stands, b, 0, first, last) {
-        return Answer::Refused {
-            number: 10,
-            place: i,
-        };
+        return refused(10, i);
     }
     let pairs = g.conf;
     if let Found::At(i) = first_failing(book, pairs, Ask::Absent, a, b + 1, first, last) {
-        return Answer::Refused {
-            number: 11,
-            place: i,
-        };
+        return refused(11, i);
     }
     settled(
         12,
@@ -177,23 +159,14 @@ fn add_lunch(
     ensures { λ r. ⌜ r ≡ lunchAdds s (now (book .entry)) (g .lunch) a b n first last ⌝ }
 {
     if let Found::At(i) = first_without(book, s, g, Test::StandsThatDate, b, 0, first, last) {
-        return Answer::Refused {
-            number: 10,
-            place: i,
-        };
+        return refused(10, i);
     }
     let triples = g.lunch;
     if let Found::At(i) = first_failing(book, triples, Ask::Absent, b, a + 1, first, last) {
-        return Answer::Refused {
-            number: 11,
-            place: i,
-        };
+        return refused(11, i);
     }
     if let Found::At(i) = first_failing(book, triples, Ask::Own, b, a + 1, first, last) {
-        return Answer::Refused {
-            number: 13,
-            place: i,
-        };
+        return refused(13, i);
     }
     settled(
         14,
@@ -220,16 +193,10 @@ fn lunch_fits(
     ensures { λ r. ⌜ r ≡ lunchFits s (now (book .entry)) (g .lunch) a b n first last ⌝ }
 {
     if n < 1 {
-        return Answer::Refused {
-            number: 8,
-            place: 0,
-        };
+        return refused(8, 0);
     }
     if capacity(s, a) < n {
-        return Answer::Refused {
-            number: 8,
-            place: 0,
-        };
+        return refused(8, 0);
     }
     add_lunch(book, s, g, a, b, n, first, last)
 }
@@ -243,10 +210,7 @@ fn end_standing(book: &[u32], s: Settings, g: Grids, a: u32, first: u32, last: u
     ensures { λ r. ⌜ r ≡ standingEnds s (now (book .entry)) a first last ⌝ }
 {
     if let Found::At(i) = first_without(book, s, g, Test::NotHeld, a, 0, first, last) {
-        return Answer::Refused {
-            number: 19,
-            place: i,
-        };
+        return refused(19, i);
     }
     settled(
         20,
@@ -263,10 +227,7 @@ fn erase_all(book: &[u32], s: Settings, g: Grids, b: u32, first: u32, last: u32)
     ensures { λ r. ⌜ r ≡ eraseAll s (now (book .entry)) b first last ⌝ }
 {
     if let Found::At(i) = first_without(book, s, g, Test::HasConf, b, 0, first, last) {
-        return Answer::Refused {
-            number: 16,
-            place: i,
-        };
+        return refused(16, i);
     }
     let from = date_of_session(s, Session(first));
     let to = date_of_session(s, Session(last));

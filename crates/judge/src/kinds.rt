@@ -8,7 +8,7 @@ ghost use Rattle.model.specs.Kinds.{used, limit, slotsOf};
 ghost use Rattle.model.specs.Questions.{below, zeroUnless};
 ghost use Rattle.book.specs.Ranges.{Ranges};
 ghost use Rattle.book.specs.Units.{unitOf};
-ghost use Rattle.judge.specs.Rows.{fieldOf, rowOf, rowAt, plainRow, singleRow, unusedZero, slotsFit, fieldsNo};
+ghost use Rattle.judge.specs.Rows.{fieldOf, rowOf, rowAt, plainRow, singleRow, notedRow, unusedZero, slotsFit, fieldsNo};
 
 // What the field a or b of a kind names.
 pub enum Field {
@@ -58,6 +58,20 @@ fn single(a: Field, b: Field, unit: Slot) -> Row
     }
 }
 
+// A row with info, and with n where it says so.
+fn noted(a: Field, b: Field, unit: Slot, n: bool) -> Row
+    ensures { λ r. ⌜ r ≡ notedRow a b unit n ⌝ }
+{
+    Row {
+        a,
+        b,
+        unit,
+        n,
+        info: true,
+        one: false,
+    }
+}
+
 // The row of a kind; the last kind is 20.
 pub fn row_of(kind: u32) -> Row
     requires { ⌜ 1 ≤ kind ⌝ }
@@ -76,23 +90,9 @@ pub fn row_of(kind: u32) -> Row
         9 => plain(Field::Meeting, Field::Unused, Slot::Sessions),
         10 => plain(Field::Meeting, Field::Visitor, Slot::Sessions),
         11 => plain(Field::Meeting, Field::Visitor, Slot::Sessions),
-        12 => Row {
-            a: Field::Room,
-            b: Field::Meeting,
-            unit: Slot::Sessions,
-            n: false,
-            info: true,
-            one: false,
-        },
+        12 => noted(Field::Room, Field::Meeting, Slot::Sessions, false),
         13 => plain(Field::Unused, Field::Meeting, Slot::Sessions),
-        14 => Row {
-            a: Field::DiningRoom,
-            b: Field::Meeting,
-            unit: Slot::Dates,
-            n: true,
-            info: true,
-            one: false,
-        },
+        14 => noted(Field::DiningRoom, Field::Meeting, Slot::Dates, true),
         15 => plain(Field::DiningRoom, Field::Meeting, Slot::Dates),
         16 => plain(Field::Unused, Field::Meeting, Slot::Sessions),
         17 => single(Field::Unused, Field::Visitor, Slot::Sessions),

@@ -12,9 +12,12 @@ first-without-requires c κs = let p = c .before .pre in (p .0, (p .1 .0, (p .1 
 enum-known-i : tie.Need-enum-known-i
 enum-known-i c = search needs
 
+refused-requires : tie.Need-refused-requires
+refused-requires c κs = search needs
+
 returns : tie.Need-returns
 unfolding standingEnds
-returns c = rw (← (c .before .before .before .first-without .ensures), c .before .i .given .1)
+returns c = rw (← (c .before .before .before .before .first-without .ensures), c .before .before .i .given .1) (c .refused .ensures)
 
 enum-told : tie.Need-enum-told
 enum-told c = search needs
@@ -40,6 +43,7 @@ end-standing-spec =
     (tie.spec
     first-without-requires
     enum-known-i
+    refused-requires
     returns
     enum-told
     first-without-requires-2

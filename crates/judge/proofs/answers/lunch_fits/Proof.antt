@@ -5,19 +5,31 @@ use Rattle.judge.specs.Chains.{lunchFits}
 use Rattle.judge.proofs.Seats.{capacity-le}
 use Rattle.book.proofs.Goods.{good-laid}
 use native.Mathlib.Omega.{arith}
+use borrow.Author.Needs.{needs}
 use Rattle.judge.proofs.answers.lunch_fits.Statement.{statement}
 use Rattle.judge.proofs.answers.lunch_fits.Tie as tie
 
+refused-requires : tie.Need-refused-requires
+refused-requires c κs = search needs
+
 returns : tie.Need-returns
 unfolding lunchFits
-returns c = rw (lt-leb _ _ (c .if1 .taken))
+returns c = rw (lt-leb _ _ (c .before .if1 .taken)) (c .refused .ensures)
 
 capacity-requires : tie.Need-capacity-requires
 capacity-requires c κs = let p = c .before .before .pre in (good-laid (p .0) .ranges, p .1 .1 .1 .0)
 
+refused-requires-2 : tie.Need-refused-requires-2
+refused-requires-2 c κs = search needs
+
 returns-2 : tie.Need-returns-2
 unfolding lunchFits
-returns-2 c = rw (← (c .before .capacity .ensures), le-leb _ _ (c .before .before .if1 .left), lt-leb _ _ (c .if2 .taken))
+returns-2 c =
+    rw (
+      ← (c .before .before .capacity .ensures),
+      le-leb _ _ (c .before .before .before .if1 .left),
+      lt-leb _ _ (c .before .if2 .taken),
+    ) (c .refused2 .ensures)
 
 add-lunch-requires : tie.Need-add-lunch-requires
 add-lunch-requires c κs =
@@ -35,4 +47,12 @@ returns-3 c =
 
 pub lunch-fits-spec : {M : Type 1} → statement M
 lunch-fits-spec =
-    tie.close (tie.spec returns capacity-requires returns-2 add-lunch-requires returns-3)
+    tie.close
+    (tie.spec
+    refused-requires
+    returns
+    capacity-requires
+    refused-requires-2
+    returns-2
+    add-lunch-requires
+    returns-3)

@@ -41,8 +41,14 @@ plain-requires-10 c κs = search needs
 plain-requires-11 : tie.Need-plain-requires-11
 plain-requires-11 c κs = search needs
 
+noted-requires : tie.Need-noted-requires
+noted-requires c κs = search needs
+
 plain-requires-12 : tie.Need-plain-requires-12
 plain-requires-12 c κs = search needs
+
+noted-requires-2 : tie.Need-noted-requires-2
+noted-requires-2 c κs = search needs
 
 plain-requires-13 : tie.Need-plain-requires-13
 plain-requires-13 c κs = search needs
@@ -108,7 +114,7 @@ returns-11 c = ap rowOf (c .plain11 .ensures) ∙ sym (ap rowAt (c .before .matc
 
 returns-12 : tie.Need-returns-12
 unfolding kindOf
-returns-12 c = sym (ap rowAt (c .match .keys12))
+returns-12 c = ap rowOf (c .noted .ensures) ∙ sym (ap rowAt (c .before .match .keys12))
 
 returns-13 : tie.Need-returns-13
 unfolding kindOf
@@ -116,7 +122,7 @@ returns-13 c = ap rowOf (c .plain12 .ensures) ∙ sym (ap rowAt (c .before .matc
 
 returns-14 : tie.Need-returns-14
 unfolding kindOf
-returns-14 c = sym (ap rowAt (c .match .keys14))
+returns-14 c = ap rowOf (c .noted2 .ensures) ∙ sym (ap rowAt (c .before .match .keys14))
 
 returns-15 : tie.Need-returns-15
 unfolding kindOf
@@ -158,7 +164,9 @@ row-of-spec =
     plain-requires-9
     plain-requires-10
     plain-requires-11
+    noted-requires
     plain-requires-12
+    noted-requires-2
     plain-requires-13
     plain-requires-14
     single-requires

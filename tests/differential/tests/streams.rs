@@ -1,0 +1,148 @@
+//! The program `frames` against the second program: byte streams in random pipe writes, answers
+//! before more input comes, and ends of all sorts.
+
+use differential::{seed, times, Counts};
+use second::frames::{frames, words_line};
+use second::gen::streams::stream_of;
+use second::gen::{clean_stream, damaged_stream, Rng};
+use second::machine::Settings;
+use std::io::{ErrorKind, Read, Write};
+use std::path::PathBuf;
+use std::process::{Child, Command, Stdio};
+use std::thread;
+use std::time::Duration;
+
+/// The program, which `rt check` and `rt ci` build.
+fn program() -> Child {
+    let path = PathBuf::from(env!("CARGO_MANIFEST_DIR")).join("../../target/bin/frames");
+    let started = Command::new(&path).stdin(Stdio::piped()).stdout(Stdio::piped()).spawn();
+    started.unwrap_or_else(|error| panic!("{}: {error}; `rt check frames` builds it", path.display()))
+}
+
+/// What the program writes for the pieces, each written by itself. It may end before it reads them
+/// all, after a refused settings line.
+fn written(pieces: Vec<Vec<u8>>, pause: Option<Duration>) -> Vec<u8> {
+    let mut child = program();
+    let mut stdin = child.stdin.take().expect("a pipe");
+    let writer = thread::spawn(move || {
+        for piece in pieces {
+            match stdin.write_all(&piece) {
+                Ok(()) => {}
+                Err(error) if error.kind() == ErrorKind::BrokenPipe => return,
+                Err(error) => panic!("{error}"),
+            }
+            if let Some(pause) = pause {
+                thread::sleep(pause);
+            }
+        }
+    });
+    let mut wrote = Vec::new();
+    child.stdout.take().expect("a pipe").read_to_end(&mut wrote).expect("the answers");
+    writer.join().expect("the writer");
+    assert!(child.wait().expect("the program").success());
+    wrote
+}
+
+/// Random pieces: single bytes, pieces about a line long, large ones.
+fn cut(rng: &mut Rng, mut stream: &[u8]) -> Vec<Vec<u8>> {
+    let mut pieces = Vec::new();
+    let sizes = rng.pick(&[[1, 2, 3], [7, 56, 57], [58, 100, 300], [4096, 65_536, 70_000]]);
+    while !stream.is_empty() {
+        let size = (rng.pick(&sizes) as usize).min(stream.len());
+        pieces.push(stream[..size].to_vec());
+        stream = &stream[size..];
+    }
+    pieces
+}
+
+#[test]
+fn streams_in_random_writes() {
+    let mut rng = Rng::new(seed(30));
+    let mut numbers = Counts::new();
+    let streams = times(2000);
+    for turn in 0..streams {
+        let stream = if turn % 2 == 0 { clean_stream(&mut rng, 60) } else { damaged_stream(&mut rng, 60) };
+        let pause = if turn % 50 == 0 { Some(Duration::from_micros(50)) } else { None };
+        let expected = frames(&stream);
+        let wrote = written(cut(&mut rng, &stream), pause);
+        assert!(wrote == expected, "stream {turn}: {:?}", String::from_utf8_lossy(&stream));
+        for line in expected.chunks(25) {
+            let number = std::str::from_utf8(&line[..8]).expect("digits");
+            numbers.add(u32::from_str_radix(number, 16).expect("a number"));
+        }
+    }
+    println!("seed {}: {streams} streams, {} answer lines, by number {numbers}", seed(30), numbers.total());
+    numbers.assert_each((0..=25).filter(|number| !matches!(number, 1 | 2)), 20);
+}
+
+/// A long stream of one site, in large writes.
+#[test]
+fn long_stream() {
+    let mut rng = Rng::new(seed(31));
+    let settings = Settings::from_words(&[5, 3, 4, 33, 9, 4, 2, 12, 5, 9, 14]).expect("settings");
+    let stream = stream_of(&mut rng, settings, times(30_000));
+    let wrote = written(stream.chunks(50_000).map(<[u8]>::to_vec).collect(), None);
+    assert!(wrote == frames(&stream));
+    println!("seed {}: one stream of {} answer lines", seed(31), wrote.len() / 25);
+}
+
+/// Every answer is there before the next line is written.
+#[test]
+fn answers_at_once() {
+    let mut rng = Rng::new(seed(32));
+    let settings = Settings::from_words(&[2, 2, 2, 3, 2, 2, 1, 2, 1, 4]).expect("settings");
+    let stream = stream_of(&mut rng, settings, 200);
+    let expected = frames(&stream);
+    let mut child = program();
+    let (mut to, mut from) = (child.stdin.take().expect("a pipe"), child.stdout.take().expect("a pipe"));
+    let mut lines = stream.split_inclusive(|byte| *byte == 10);
+    to.write_all(lines.next().expect("settings")).expect("the settings line");
+    for (line, answer) in lines.zip(expected.chunks(25)) {
+        to.write_all(line).expect("a line");
+        let mut got = [0; 25];
+        from.read_exact(&mut got).expect("an answer");
+        assert_eq!(got, answer);
+    }
+    drop(to);
+    assert!(child.wait().expect("the program").success());
+}
+
+/// The paper's example; no input; a refused settings line with more input behind it; a last line
+/// without byte 10; the largest book that fits, and one word more.
+#[test]
+fn edges() {
+    let example = b"00000002000000020000000200000003000000020000000200000001000000020000000100000004\n\
+        00000001000000000000000100000000000000010000000000000000\nzz\n";
+    assert_eq!(written(vec![example.to_vec()], None), b"000000000000000000000000\n000000170000000000000000\n");
+    assert_eq!(written(vec![example[..example.len() - 1].to_vec()], None), frames(example));
+    assert_eq!(written(vec![], None), b"000000180000000000000000\n");
+    assert_eq!(written(vec![b"\n".to_vec(), example.to_vec()], None), b"000000180000000000000000\n");
+    let mut numbers = Counts::new();
+    for (dates, rest) in [(1, 1), (16, 16), (400, 1)] {
+        let line = words_line(&[dates, rest, rest, 200, 40, 8, 1, 100, 30, 9]);
+        let expected = frames(&line);
+        assert_eq!(written(vec![line], None), expected);
+        numbers.add(expected.len());
+    }
+    numbers.assert_each([0, 25], 1);
+}
+
+/// A program whose answers nobody reads ends, and does not wait for more input.
+#[test]
+fn nobody_reads() {
+    let mut child = program();
+    let mut to = child.stdin.take().expect("a pipe");
+    drop(child.stdout.take());
+    to.write_all(&words_line(&[2, 2, 2, 3, 2, 2, 1, 2, 1, 4])).expect("the settings line");
+    for _ in 0..100_000 {
+        match to.write_all(b"zz\n") {
+            Ok(()) => {}
+            Err(error) => {
+                assert_eq!(error.kind(), ErrorKind::BrokenPipe);
+                child.wait().expect("the program");
+                return;
+            }
+        }
+    }
+    panic!("the program goes on although nobody reads");
+}

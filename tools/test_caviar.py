@@ -1,0 +1,372 @@
+#!/usr/bin/env python3
+"""Tests of tools/caviar against the second program's `frames` and, where it is built, the proved one.
+
+    python3 tools/test_caviar.py
+
+The files of tools/conversations hold settings, requests as they are typed, and indented below each one the sentence
+that its answer is to become.
+"""
+
+import os
+import random
+import re
+import shutil
+import subprocess
+import sys
+import tempfile
+import unittest
+from pathlib import Path
+
+sys.dont_write_bytecode = True
+ROOT = Path(__file__).resolve().parent.parent
+sys.path.insert(0, str(ROOT / "tools"))
+
+from caviar_tool import lines, paper, typed  # noqa: E402
+from caviar_tool.paper import Problem, Raw, Request  # noqa: E402
+
+CAVIAR = ROOT / "tools" / "caviar"
+CARGO_TARGET = Path(os.environ.get("CARGO_TARGET_DIR", ROOT / "target" / "cargo"))
+PROVED = ROOT / "target" / "bin" / "frames"
+SETTINGS = ("settings dates 2 sessions 2 times 2 visitors 3 meetings 2 rooms 2 dining 1 hotels 2 transports 1 "
+            "capacities 4")
+SETTINGS_LINE = "00000002000000020000000200000003000000020000000200000001000000020000000100000004"
+SEEDS = [1, 2, 3, 4, 5, 6, 31]
+LINES_A_SEED = 800
+
+
+def built(name):
+    """A program of the second package."""
+    return CARGO_TARGET / "release" / name
+
+
+def programs():
+    """The programs that answer: the second one, and the proved one where it is built."""
+    return [built("frames")] + [PROVED] * PROVED.exists()
+
+
+def setUpModule():
+    cargo = shutil.which("cargo") or str(Path.home() / ".cargo" / "bin" / "cargo")
+    command = [cargo, "build", "--quiet", "--offline", "--locked", "--release", "--bins"]
+    environment = dict(os.environ, CARGO_TARGET_DIR=str(CARGO_TARGET))
+    subprocess.run(command, cwd=ROOT / "tests" / "second", env=environment, check=True)
+    print("programs:", ", ".join(os.path.relpath(program, ROOT) for program in programs()), flush=True)
+
+
+def caviar(*arguments, given=b""):
+    """Runs the tool: its status, what it wrote, what it complained about."""
+    given = given.encode() if isinstance(given, str) else given
+    done = subprocess.run([CAVIAR, *arguments], input=given, capture_output=True)
+    return done.returncode, done.stdout, done.stderr.decode()
+
+
+def answered(program, requests):
+    return subprocess.run([program], input=requests, capture_output=True, check=True).stdout
+
+
+class Tested(unittest.TestCase):
+    """What the tests ask of the tool again and again."""
+
+    maxDiff = None
+
+    def wrote(self, *arguments, given=b""):
+        """What the tool wrote, having understood everything."""
+        status, out, complaint = caviar(*arguments, given=given)
+        self.assertEqual((status, complaint), (0, ""))
+        return out
+
+    def complains(self, message, *arguments, given=b""):
+        """The tool writes nothing, says what is wrong, and ends with status 2."""
+        self.assertEqual(caviar(*arguments, given=given), (2, b"", f"caviar: {message}\n"))
+
+    def explained(self, requests, answers):
+        """The sentences with a file of requests."""
+        with tempfile.NamedTemporaryFile() as file:
+            file.write(requests)
+            file.flush()
+            return self.wrote("explain", "--with", file.name, given=answers)
+
+
+class Conversations(Tested):
+    """Typed, framed, answered, explained."""
+
+    def converses(self, name, typed_text=None):
+        settings, _, expected = (ROOT / "tools" / "conversations" / name).read_text().partition("\n")
+        requests = [line for line in expected.splitlines() if not line.startswith(" ")]
+        typed_text = typed_text or "\n".join([settings, *requests])
+        framed = self.wrote("frame", given=typed_text)
+        for program in programs():
+            answers = answered(program, framed)
+            self.assertEqual(self.explained(typed_text.encode(), answers).decode(), expected)
+            self.assertEqual(self.explained(framed, answers).decode(), expected, "the lines do as well")
+            self.assertEqual(len(answers.splitlines()), len(requests))
+        words = self.wrote("words", given=framed).decode()
+        self.assertEqual(words, "\n".join([settings, *requests, ""]), "words are the way back")
+        return expected
+
+    def test_the_example_site(self):
+        self.converses("site.txt", (ROOT / "examples" / "site.txt").read_text())
+
+    def test_every_kind_is_done(self):
+        said = self.converses("kinds.txt")
+        done = re.findall(r"^(\S+) .*\n    Done: ", said, re.MULTILINE)
+        self.assertEqual(sorted(done), sorted(kind.name for kind in paper.KINDS))
+
+    def test_every_refusal_of_a_request(self):
+        said = self.converses("refusals.txt")
+        found = re.findall(r"^(\S+).*\n    Refused by (\d+): ", said, re.MULTILINE)
+        refused = {(int(number), name) for name, number in found}
+        self.assertEqual({number for number, _ in refused}, set(range(3, 24)))
+        for number in range(8, 23):
+            kinds = {paper.BY_NUMBER[kind].name for kind in paper.QUESTIONS[number][1]}
+            self.assertEqual({name for at, name in refused if at == number}, kinds, f"question {number}")
+
+    def test_the_example_of_the_paper(self):
+        typed_text = SETTINGS + "\nadd-leave visitor 1 dates 0..1\nraw zz\n"
+        framed = self.wrote("frame", given=typed_text)
+        leave = "00000001000000000000000100000000000000010000000000000000"
+        self.assertEqual(framed.decode(), f"{SETTINGS_LINE}\n{leave}\nzz\n")
+        for program in programs():
+            answers = answered(program, framed)
+            self.assertEqual(answers, b"000000000000000000000000\n000000170000000000000000\n")
+            self.assertEqual(self.wrote("explain", given=answers).decode(), "Done, value 0.\nRefused by 23. "
+                             "[23. Is the line lower-case hexadecimal of 56 digits?]\n")
+
+    def test_refused_settings(self):
+        refused = "\n    Refused by 24: these are not good settings, {}. [24. {}]\n"
+        not_words = "it is not whole words of lower-case hexadecimal"
+        one_more = f"raw {SETTINGS_LINE}00000004"
+        cases = {
+            "": ("raw", not_words),
+            "raw 0000001": ("raw 0000001", not_words),
+            "raw 00000002": ("raw 00000002", "there are 1 numbers, and settings have 9 before the capacities"),
+            one_more + "\nadd-leave": (one_more, "dining 1 wants as many capacities, and there are 2"),
+        }
+        for typed_text, (shown, why) in cases.items():
+            self.refused_at_once(typed_text, shown + refused.format(why, paper.QUESTIONS[24][0]))
+
+    def test_settings_of_the_largest_book_and_of_one_too_large(self):
+        wide = SETTINGS.replace("visitors 3", "visitors 500").replace("sessions 2", "sessions 16")
+        largest, over = wide.replace("hotels 2", "hotels 83"), wide.replace("hotels 2", "hotels 84")
+        for program in programs():
+            self.assertEqual(answered(program, self.wrote("frame", given=largest)), b"")
+        why = "the book of these settings has 16,386 words, more than 16,384"
+        self.refused_at_once(over, f"{over}\n    Refused by 25: {why}. [25. {paper.QUESTIONS[25][0]}]\n")
+
+    def refused_at_once(self, typed_text, expected):
+        framed = self.wrote("frame", given=typed_text)
+        for program in programs():
+            self.assertEqual(self.explained(typed_text.encode(), answered(program, framed)).decode(), expected)
+
+
+class Frame(Tested):
+    """Words to lines."""
+
+    def test_arguments_and_lines_say_the_same(self):
+        line = b"00000004000000000000000100000000000000010000000000000000\n"
+        self.assertEqual(self.wrote("frame", "add-hotel", "room", "0", "visitor", "1", "dates", "0..1"), line)
+        self.assertEqual(self.wrote("frame", "4 visitor 1 dates 0..1"), line)
+        self.assertEqual(self.wrote("frame", "4 visitor 1 dates 0..1", "add-hotel b 1 last 1"), line + line)
+        self.assertEqual(self.wrote("frame", given="\n # nothing\n\tADD-HOTEL  Visitor 0x1 date 0..1 # two\n"), line)
+        as_it_stands = self.wrote("frame", given="raw\nRAW\t# as it  stands \n raw raw\n")
+        self.assertEqual(as_it_stands, b"\n# as it  stands \nraw\n")
+
+    def test_names_and_numbers_are_the_same_kinds(self):
+        for kind in paper.KINDS:
+            fields = " ".join(f"{word} 1" for word in kind.uses())
+            by_name, by_number = (typed.parse_line(f"{head} {fields}", False) for head in (kind.name, kind.number))
+            self.assertEqual(by_name, by_number)
+            self.assertEqual(typed.parse_line(kind.name, False), Request(kind.number), "missing fields are 0")
+
+    def test_every_complaint(self):
+        cases = {
+            "setings dates 2": "there is no kind 'setings'; did you mean settings?",
+            "add-hotl": "there is no kind 'add-hotl'; did you mean add-hotel?",
+            "frobnicate 3": "there is no kind 'frobnicate'; `caviar kinds` lists the kinds",
+            "4294967296": "4294967296 does not fit in 32 bits",
+            "add-leave floor 3": "add-leave takes no 'floor'; it takes visitor, dates",
+            "add-leave seats 3": "add-leave takes no 'seats'; it takes visitor, dates",
+            "add-lunch visitor 3": "add-lunch takes no 'visitor'; it takes dining, meeting, dates, seats, info",
+            "21 room 1": "kind 21 takes no 'room'; it takes a, b, first, last, n, info",
+            "21 dates 1": "kind 21 takes no 'dates'; it takes a, b, first, last, n, info",
+            "add-hotel sessions 0..1": "add-hotel takes dates, not sessions",
+            "which-meeting time 1": "which-meeting takes sessions, not times",
+            "add-leave visitor": "nothing comes after 'visitor'",
+            "add-leave visitor one": "'one' is not a number",
+            "add-leave visitor -1": "'-1' is not a number",
+            "add-leave visitor 0x": "'0x' is not a number",
+            "add-leave visitor 1_0": "'1_0' is not a number",
+            "add-leave visitor ١": "'١' is not a number",
+            "add-leave visitor 4294967296": "4294967296 does not fit in 32 bits",
+            "add-leave date x": "'x' is not a number",
+            "add-leave dates 0..x": "'x' is not a number",
+            "add-leave dates 0..": "'0..' is neither a slot nor a run of slots first..last",
+            "add-leave dates ..1": "'..1' is neither a slot nor a run of slots first..last",
+            "add-leave dates 0..1..2": "'0..1..2' is neither a slot nor a run of slots first..last",
+            "add-leave visitor 1 visitor 2": "'visitor' says again what was said before",
+            "add-leave visitor 1 b 1": "'b' says again what was said before",
+            "add-leave dates 0..1 last 2": "'last' says again what was said before",
+            SETTINGS.replace("hotels 2 ", "").replace("dates 2 ", ""): "settings lack dates, hotels",
+            SETTINGS.replace(" capacities 4", ""): "settings lack capacities",
+            SETTINGS.replace("dates 2", "dates"): "nothing comes after '1'",
+            SETTINGS.replace("dates", "days"): "settings take no 'days'; they take dates, sessions, times, visitors, "
+                                               "meetings, rooms, dining, hotels, transports, capacities",
+            SETTINGS.replace("sessions 2", "dates 2"): "'dates' says again what was said before",
+            SETTINGS.replace("dates 2", "dates 401"): "dates 401 is not from 1 to 400",
+            SETTINGS.replace("times 2", "times 0"): "times 0 is not from 1 to 96",
+            SETTINGS + " 5": "dining 1 wants as many capacities, and there are 2",
+            SETTINGS + "x": "'4x' is not a number",
+            SETTINGS.replace("capacities 4", "capacities 1001"): "capacity 1001 is not from 1 to 1000",
+            "bell\a": "there is no kind 'bell\\x07'; `caviar kinds` lists the kinds",
+        }
+        for line, message in cases.items():
+            self.complains(f"line 1: {message}", "frame", given=line)
+        self.complains("line 5: settings come first, before every request", "frame",
+                       given=f"# one\n\n{SETTINGS}\n  # four\n{SETTINGS}\n")
+        self.complains("line 3: 'x' is not a number", "frame", given=f"{SETTINGS}\nadd-leave\nadd-leave visitor x\n4\n")
+        self.complains("line 2: 'x' is not a number", "frame", SETTINGS, "add-leave visitor x")
+
+
+class RoundTrips(Tested):
+    """Lines to words and back, and answers to all sorts of lines."""
+
+    def test_every_request_has_its_words(self):
+        rng = random.Random(20_261_115)
+        for _ in range(20_000):
+            kind = rng.choice([rng.randrange(24), rng.randrange(24), rng.randrange(2 ** 32)])
+            fields = [rng.choice([0, 0, rng.randrange(9), rng.randrange(2 ** 32)]) for _ in range(6)]
+            request = Request(kind, *fields)
+            self.assertEqual(typed.parse_line(typed.typed(request), False), request)
+            self.assertEqual(lines.read_request(lines.written(request)), request)
+
+    def test_seeded_streams(self):
+        numbers, kinds, count = set(), set(), 0
+        for seed in SEEDS:
+            for damage in ([], ["damaged"]):
+                command = [built("gen"), str(seed), str(LINES_A_SEED), *damage]
+                stream = subprocess.run(command, capture_output=True, check=True).stdout
+                words, sentences = self.there_and_back(stream)
+                refused = map(re.compile(r" +Refused by (\d+)").match, sentences)
+                numbers |= {int(found.group(1)) for found in refused if found}
+                kinds |= {line.split()[0] for line in words.decode("utf-8", "replace").splitlines() if line}
+                count += len(sentences)
+        print(f"seeds {', '.join(map(str, SEEDS))}: {count} answers explained, numbers {sorted(numbers)}", flush=True)
+        self.assertEqual(numbers, set(range(3, 26)))
+        self.assertLessEqual({kind.name for kind in paper.KINDS}, kinds)
+
+    def there_and_back(self, stream):
+        """The words of a stream of lines give it back, and its answers have their sentences."""
+        words = self.wrote("words", given=stream)
+        whole = stream if stream.endswith(b"\n") or not stream else stream + b"\n"
+        self.assertEqual(self.wrote("frame", given=words), whole)
+        answers = [answered(program, stream) for program in programs()]
+        self.assertEqual(set(answers), {answers[0]})
+        told = self.explained(stream, answers[0])
+        self.assertEqual(self.explained(words, answers[0]), told)
+        sentences = [line for line in told.decode().splitlines() if line.startswith("    ")]
+        self.assertEqual(len(sentences), len(answers[0].splitlines()))
+        return words, sentences
+
+
+class Explain(Tested):
+    """Answers that stand alone, and answers that cannot be."""
+
+    def test_answers_without_their_requests(self):
+        given = "".join(f"{number:08x}{place:08x}{value:08x}\n" for number, place, value in
+                        [(0, 0, 0), (0, 0, 7), (1, 0, 0), (2, 0, 0), (8, 0, 0), (9, 3, 0), (17, 2, 0), (22, 0, 0)])
+        said = self.wrote("explain", given=given).decode().splitlines()
+        starts = ["Done, value 0.", "Done, value 7.", "Refused by 1. [1. ", "Refused by 2. [2. ", "Refused by 8. [8. ",
+                  "Refused by 9 at slot 3. [9. ", "Refused by 17 at date 2. [17. ", "Refused by 22. [22. "]
+        self.assertEqual(len(said), len(starts))
+        for sentence, start in zip(said, starts):
+            self.assertTrue(sentence.startswith(start), sentence)
+
+    def test_no_answers_and_fewer_answers(self):
+        self.assertEqual(self.wrote("explain"), b"")
+        requests = f"{SETTINGS}\nadd-leave\nadd-leave\n".encode()
+        self.assertEqual(self.explained(requests, b""), b"Requests without an answer here: 2.\n")
+        self.assertEqual(self.explained(requests, b"0" * 24), b"add-leave visitor 0 date 0\n"
+                         b"    Done: visitor 0 has leave on date 0.\nRequests without an answer here: 1.\n")
+
+    def test_every_complaint(self):
+        no_line = "not an answer line, which is 24 lower-case hexadecimal digits"
+        cases = {
+            "zz": no_line, "": no_line, "0" * 23: no_line, "0" * 32: no_line, "A" * 24: no_line,
+            "0000001a" + "0" * 16: "there is no question 26",
+            "000000090000000000000001": "a refusal has value 0",
+            "000000000000000100000000": "a done answer has place 0",
+            "000000080000000100000000": "this answer has place 0",
+        }
+        for line, message in cases.items():
+            self.complains(f"line 2: {message}", "explain", given="0" * 24 + "\n" + line + "\n")
+
+    def test_every_complaint_about_requests(self):
+        whose = "; are these the answers to these requests?"
+        done = "0" * 24
+        cases = [
+            (SETTINGS, done, "there are 1 answers and 0 requests"),
+            ("add-leave", done, "the requests do not begin with good settings, and are answered with 24 alone"),
+            (SETTINGS, "00000018" + "0" * 16,
+             "line 1: these settings are not refused by 24; is this the answer to these requests?"),
+            (f"{SETTINGS}\nadd-leave", "000000080000000000000000",
+             "line 1: add-leave with these words is not refused by 8" + whose),
+            (f"{SETTINGS}\nadd-hotel", "0000000f0000000000000000",
+             "line 1: add-hotel with these words is not refused by 15" + whose),
+            (f"{SETTINGS}\nadd-hotel", "000000090000000100000000",
+             "line 1: place 1 is not a slot of this add-hotel" + whose),
+            (f"{SETTINGS}\n16 sessions 2..3", "000000110000000200000000",
+             "line 1: place 2 is not a slot of this erase-conf-and-lunch" + whose),
+            (f"{SETTINGS}\nadd-hotel", "000000000000000000000001", "line 1: add-hotel has value 0" + whose),
+            (f"{SETTINGS}\nadd-hotel room 2", done, "line 1: this line is refused by 5" + whose),
+            (f"{SETTINGS}\n21", done, "line 1: this line is refused by 3" + whose),
+            (f"{SETTINGS}\nraw zz", done, "line 1: this line is refused by 23" + whose),
+        ]
+        for requests, answers, message in cases:
+            with tempfile.NamedTemporaryFile("w") as file:
+                file.write(requests)
+                file.flush()
+                self.complains(message, "explain", "--with", file.name, given=answers)
+                file.write("\nadd-leave room 1")
+                file.flush()
+                at = requests.count("\n") + 2
+                self.complains(f"{file.name}: line {at}: add-leave takes no 'room'; it takes visitor, dates",
+                               "explain", "--with", file.name, given=answers)
+        self.complains("no/such/file: No such file or directory", "explain", "--with", "no/such/file", given=done)
+
+
+class Commands(Tested):
+    """The tables, the help, and commands that are none."""
+
+    def test_the_tables(self):
+        table = self.wrote("table").decode().splitlines()
+        self.assertEqual([int(line.split()[0]) for line in table[:25]], list(range(1, 26)))
+        self.assertTrue(all(question in line for line, (question, _) in zip(table, paper.QUESTIONS.values())))
+        kinds = self.wrote("kinds").decode().splitlines()
+        self.assertEqual([line.split()[:2] for line in kinds], [[str(kind.number), kind.name] for kind in paper.KINDS])
+
+    def test_help(self):
+        for arguments in ([], ["frame"], ["words"], ["explain"], ["table"], ["kinds"]):
+            self.assertIn(b"usage: caviar " + " ".join(arguments).encode(), self.wrote(*arguments, "--help"))
+
+    def test_commands_that_are_none(self):
+        for arguments in ([], ["fram"], ["table", "1"], ["explain", "--with"], ["explain", "--without"]):
+            status, out, complaint = caviar(*arguments)
+            self.assertEqual((status, out), (2, b""))
+            self.assertTrue(complaint.startswith("usage: caviar"), complaint)
+
+    def test_nobody_reads(self):
+        reading, writing = os.pipe()
+        os.close(reading)
+        done = subprocess.run([CAVIAR, "kinds"], stdout=writing, stderr=subprocess.PIPE)
+        os.close(writing)
+        self.assertEqual((done.returncode, done.stderr), (0, b""))
+
+    def test_the_length_of_a_book(self):
+        self.assertEqual(typed.parse_line(SETTINGS, True).book_length(), 64)
+        largest = paper.settings_of(list(paper.LIMITS.values()) + [1000] * 16)
+        self.assertEqual(largest.book_length(), 9_401_625)
+        self.assertEqual(lines.read_first("zz"), Raw("zz"))
+        self.assertRaises(Problem, lines.settings_in, "zz")
+
+
+if __name__ == "__main__":
+    unittest.main()
