@@ -27,6 +27,7 @@ use Rattle.model.proofs.ReadBack.{valid-is, seated}
 use Rattle.model.proofs.Shown.{valid-settings, words-stateOf}
 use Rattle.model.proofs.Sound.{book-sound}
 use Rattle.model.proofs.Keeps.{Yes, judged, yes, slots-fit}
+use Rattle.model.proofs.Frame.{settings-change}
 use Rattle.model.proofs.Done.{Accepted, accepted-step, done-of}
 use Rattle.book.specs.declared.grid.Grid.{Grid}
 use Rattle.book.specs.declared.grid.Grids.{Grids}
@@ -57,30 +58,6 @@ pub reach-of : (S : Settings) (b : List ℕ) → Laid S b → (g : Region) (h : 
 reach-of S b l g h e n to k q =
     subst (λ (h : Grid). Reach h n to) (sym e) (subst (λ (n : ℕ). Reach (gridOf S g) n to) (sym k)
     (record { fits = fits S b l g; narrow = small S (l .ranges) g .width; most = q }))
-
--- no kind changes the settings
-settings-kept : (x : State) (r : Request) (k : Kind) → change x r k .settings ≡ x .settings
-unfolding change
-settings-kept x r addLeave = refl
-settings-kept x r endLeave = refl
-settings-kept x r removeVisitor = refl
-settings-kept x r addHotel = refl
-settings-kept x r eraseHotel = refl
-settings-kept x r addRide = refl
-settings-kept x r eraseRide = refl
-settings-kept x r addStanding = refl
-settings-kept x r endStanding = refl
-settings-kept x r addAttend = refl
-settings-kept x r eraseAttend = refl
-settings-kept x r addConf = refl
-settings-kept x r eraseConf = refl
-settings-kept x r addLunch = refl
-settings-kept x r eraseLunch = refl
-settings-kept x r eraseConfAndLunch = refl
-settings-kept x r whichMeeting = refl
-settings-kept x r countLeave = refl
-settings-kept x r seatsLeft = refl
-settings-kept x r freeRoom = refl
 
 -- what is known in the arm of kind k: a good book, its grids, an accepted request, and its kind
 pub record Known (S : Settings) (b : List ℕ) (G : Grids) (r : Request) (k : Kind) : Type 0 where
@@ -140,7 +117,7 @@ module _ {S : Settings} {b : List ℕ} {G : Grids} {r : Request} {k : Kind} (w :
       ap (W S) (w .grids)
       ∙ ap (λ (S : Settings). W S (gridsOf S)) (w .good .read)
       ∙ carries-all (change (stateOf b) r k) _
-      (subst (λ (T : Settings). Carries T (change (stateOf b) r k) (W (settingsOf b) (gridsOf (settingsOf b)))) (sym (settings-kept (stateOf b) r k))
+      (subst (λ (T : Settings). Carries T (change (stateOf b) r k) (W (settingsOf b) (gridsOf (settingsOf b)))) (sym (settings-change (stateOf b) r k))
       (write (stateOf b) (sym (w .good .read)) (book-sound b (w .good .laid) (w .good .lawful)) shown answers))
       ∙ ap words (sym (ap (λ (o : Outcome). o .state) (accepted-step (stateOf b) r k whole)))
     where

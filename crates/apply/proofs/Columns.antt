@@ -16,13 +16,13 @@ use Rattle.model.specs.Kinds.{Kind, row, slotsOf}
 use Rattle.model.specs.Kinds.{Kind.addHotel, Kind.eraseHotel, Kind.addRide, Kind.eraseRide}
 use Rattle.model.specs.Kinds.{Kind.addAttend, Kind.eraseAttend, Kind.addConf}
 use Rattle.model.specs.Kinds.{Kind.addLunch, Kind.eraseLunch}
-use Rattle.model.specs.Questions.{ask, test, always, further, Question, Question.aBelow, Question.bBelow, Question.absent, Question.elsewhere, Question.present}
+use Rattle.model.specs.Questions.{ask, test, always, further, Question.aBelow, Question.bBelow, Question.absent, Question.elsewhere}
 use Rattle.model.specs.Machine.{change, slot, withLunch}
 use Rattle.model.specs.Words.{Region, hotelCells, attendCells, confPairs, lunchTriples, rideCells, slots, items, width, word, cell, infoOf, lunchInfo}
 use Rattle.model.proofs.Search.{and-left, and-right}
 use Rattle.model.proofs.Laws.{Sound}
 use Rattle.model.proofs.Places.{Cell}
-use Rattle.model.proofs.Keeps.{Yes, yes, yes-slot, is-free, not-elsewhere}
+use Rattle.model.proofs.Keeps.{Yes, yes, yes-slot, was-present, is-free, not-elsewhere}
 use Rattle.book.specs.Grids.{gridOf}
 use Rattle.apply.specs.declared.cells.Content.{Content}
 use Rattle.apply.specs.Stores.{wordIn, empty, full, filled}
@@ -72,11 +72,6 @@ module _ (x : State) (s : Sound x) (r : Request) (b : List ℕ) (a : Carries (x 
   abbrev S : Settings
   S = x .settings
 
-  -- the pair is in the set, and in it alone
-  there : (k : Kind) (p : Pairs) → ask x r k (present p) ≡ none → (i : ℕ) → slot r i ≡ true → booked x p i (r .a) (r .b) ≡ true
-  unfolding test
-  there k p e i h = yes-slot x r k (present p) refl e i h
-
   -- b has no a at all in the set
   alone : (k : Kind) (p : Pairs) → ask x r k (absent p) ≡ none → ask x r k (elsewhere p) ≡ none → (i c : ℕ) → slot r i ≡ true → booked x p i c (r .b) ≡ true → ⊥
   unfolding test
@@ -123,7 +118,7 @@ module _ (x : State) (s : Sound x) (r : Request) (b : List ℕ) (a : Carries (x 
   write-eraseHotel y =
       take-one eraseHotel y hotelCells refl refl (x .hotel) _ (S .visitors) (r .a) (r .b) (change x r eraseHotel) (hotel-frame x _)
       (ltb-true _ _ (yes x r eraseHotel aBelow refl (y .1 .0))) (λ i j m. refl) (λ i j m. refl) (λ i j u. refl)
-      (λ i u h e. s .oneB hotels refl i (r .a) u (r .b) e (there eraseHotel hotels (y .1 .1 .1 .1 .0) i h))
+      (λ i u h e. s .oneB hotels refl i (r .a) u (r .b) e (was-present x r eraseHotel hotels (y .1 .1 .1 .1 .0) i h))
 
   pub write-addRide : Yes x r addRide (always ++ further addRide)
       → Carries S (change x r addRide) (filled (gridOf S rideCells) (r .a) (full (r .b) 0 0) (r .first) (r .last + 1) b)
@@ -139,7 +134,7 @@ module _ (x : State) (s : Sound x) (r : Request) (b : List ℕ) (a : Carries (x 
   write-eraseRide y =
       take-one eraseRide y rideCells refl refl (x .ride) _ (S .visitors) (r .a) (r .b) (change x r eraseRide) (ride-frame x _)
       (ltb-true _ _ (yes x r eraseRide aBelow refl (y .1 .0))) (λ i j m. refl) (λ i j m. refl) (λ i j u. refl)
-      (λ i u h e. s .oneB rides refl i (r .a) u (r .b) e (there eraseRide rides (y .1 .1 .1 .1 .0) i h))
+      (λ i u h e. s .oneB rides refl i (r .a) u (r .b) e (was-present x r eraseRide rides (y .1 .1 .1 .1 .0) i h))
 
   -- kinds 10 and 11: the item is b, and its cells hold a
   pub write-addAttend : Yes x r addAttend (always ++ further addAttend)
@@ -158,7 +153,7 @@ module _ (x : State) (s : Sound x) (r : Request) (b : List ℕ) (a : Carries (x 
       take-one eraseAttend y attendCells refl refl (λ i j m. x .attend i m j) _ (S .meetings) (r .b) (r .a) (change x r eraseAttend) (attend-frame x _)
       (ltb-true _ _ (yes x r eraseAttend bBelow refl (y .1 .1 .0))) (λ i j m. refl) (λ i j m. refl)
       (λ i j u. ap (λ (t : Bool). x .attend i u j && not t) (swap (slot r i) (eqb u (r .a)) (eqb j (r .b))))
-      (λ i u h e. s .oneA attends refl i (r .b) u (r .a) e (there eraseAttend attends (y .1 .1 .1 .1 .0) i h))
+      (λ i u h e. s .oneA attends refl i (r .b) u (r .a) e (was-present x r eraseAttend attends (y .1 .1 .1 .1 .0) i h))
 
   -- kind 12: a pair, the item a, holding b with its information
   pub write-addConf : Yes x r addConf (always ++ further addConf)
@@ -282,7 +277,7 @@ module _ (x : State) (s : Sound x) (r : Request) (b : List ℕ) (a : Carries (x 
           ∙ ap (λ (t : Bool). p i j u && not t) (swap (slot r i) (eqb u (r .a)) (eqb j (r .b)))
 
       only : (i u : ℕ) → slot r i ≡ true → p i (r .b) u ≡ true → u ≡ r .a
-      only i u h e = s .oneA lunches refl i (r .b) u (r .a) e (there eraseLunch lunches (y .1 .1 .1 .1 .0) i h)
+      only i u h e = s .oneA lunches refl i (r .b) u (r .a) e (was-present x r eraseLunch lunches (y .1 .1 .1 .1 .0) i h)
 
       beside : (f : Option Lunch → ℕ) (i j : ℕ) → found (lowest (q i j) 0 (S .dining)) (λ g. f (U eraseLunch y refl hb none i g j))
           ≡ cond (slot r i && eqb j (r .b)) 0 (found (lowest (p i j) 0 (S .dining)) (λ g. f (x .lunch i g j)))

@@ -15,7 +15,7 @@ use Rattle.checking.specs.Rows.{Blank, Padded, rowAt, seatsIn}
 use Rattle.checking.specs.Days.{Guested, Met, Day, Empty}
 use Rattle.checking.proofs.Addresses.{row-at}
 use Rattle.checking.proofs.Parts.{row-long}
-use Rattle.checking.proofs.Seating.{sum-none}
+use Rattle.model.proofs.Sums.{sum-empty}
 
 row-blank : (cells : List ℕ) → Blank cells → (width i : ℕ) → Blank (rowAt width i cells)
 row-blank cells z width i j = go (ltb j width) refl
@@ -49,7 +49,7 @@ module _ (S : Settings) (caps leave hotel stand attend conf lunch ride : List �
       }
 
   no-seats : (g : ℕ) → sum (seatsIn lunch g) (S .meetings) ≡ 0
-  no-seats g = sum-none (seatsIn lunch g) 0 (S .meetings) (λ j _ _. go (eqb (getD lunch (j * 3) 0) g) (z .lunches (j * 3 + 1)))
+  no-seats g = sum-empty (seatsIn lunch g) 0 (S .meetings) (λ j _ _. go (eqb (getD lunch (j * 3) 0) g) (z .lunches (j * 3 + 1)))
     where
       go : (b : Bool) {n : ℕ} → n ≡ 0 → cond b n 0 ≡ 0
       go true e = e

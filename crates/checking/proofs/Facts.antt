@@ -1,7 +1,7 @@
 -- What the dates of a book say, slot by slot, at the model's addresses.
 -- Assumes nothing.
-use Prim.Native.Nat.{ℕ, zero, suc, _+_, _*_, _/_, _%_, _^_, _-_, _≤_, _<_, min}
-use mathlib.Core.Path.{_≡_, refl, sym, _∙_, ap, ap₂}
+use Prim.Native.Nat.{ℕ, suc, _+_, _*_, _/_, _%_, _^_, _-_, _≤_, _<_, min}
+use mathlib.Core.Path.{_≡_, sym, _∙_, ap, ap₂}
 use mathlib.Core.Bool.{true, _&&_, cond}
 use mathlib.Core.List.{List}
 use native.Mathlib.Omega.{arith}
@@ -10,18 +10,20 @@ use lib.Dec.{eqb}
 use lib.ListN.{length, getD}
 use borrow.Author.Tests.{eqb-true, eq-eqb}
 use Rattle.model.specs.declared.Settings.{Settings}
-use Rattle.model.specs.Bounded.{any, bit, sum, sumFrom}
+use Rattle.model.specs.Bounded.{any, bit, sum}
 use Rattle.book.specs.Ranges.{Ranges}
 use Rattle.model.specs.Site.{allSessions}
 use Rattle.model.specs.Questions.{standsOn}
 use Rattle.model.specs.Words.{bookLength, Region, leaves, hotelCells, standings, attendCells, confPairs, lunchTriples, rideCells, groups}
 use Rattle.model.specs.Reading.{at, bitAt, readState}
 use Rattle.model.proofs.Search.{and-left, and-right, and-true, bool-eq, any-true, true-any}
+use Rattle.model.proofs.ReadBack.{inside-by}
+use Rattle.model.proofs.Sums.{sum-agree}
 use Rattle.checking.specs.Rows.{rowAt, seatsIn}
 use Rattle.pool.specs.Pool.{member}
 use Rattle.checking.specs.Days.{Met, Eaten, DayAt, standsIn, shareOf, dateAt}
 use Rattle.checking.proofs.Addresses.{leave-at, hotel-at, lunch-at, stand-word, stand-at, attend-at, ride-at, conf-at}
-use Rattle.checking.proofs.Slots.{Split, split, within-slots, Slot, slot-by, by-slot, bit-is, inside-by, date-long, row-long-is}
+use Rattle.checking.proofs.Slots.{Split, split, within-slots, Slot, slot-by, by-slot, bit-is, date-long, row-long-is}
 
 -- the seats of meeting j's lunch on date d if it is in room g - 1
 abbrev pub seatsAt : Settings → List ℕ → ℕ → ℕ → ℕ → ℕ
@@ -45,10 +47,6 @@ pub record Facts (S : Settings) (caps b : List ℕ) : Type 0 where
       → Eaten (S .dining) caps (standsOn (readState S b) d j) (at S b lunchTriples d j 0) (at S b lunchTriples d j 1) (at S b lunchTriples d j 2)
   pub sums : (d g : ℕ) → d < S .dates → g < 17 → sum (seatsAt S b d g) (S .meetings) ≤ getD caps g 0
 
-pub sum-same : (f g : ℕ → ℕ) (i n : ℕ) → ((j : ℕ) → i ≤ j → j < i + n → f j ≡ g j) → sumFrom f i n ≡ sumFrom g i n
-sum-same f g i zero h = refl
-sum-same f g i (suc n) h = omega (arith, h i (omega arith) (omega arith), sum-same f g (suc i) n (λ j l k. h j (omega arith) (omega arith)))
-
 module _ (S : Settings) (caps b : List ℕ) (r : Ranges S) (laid : length b ≡ bookLength S) where
   leave-bit : (d v : ℕ) → d < S .dates → v < S .visitors → bitAt S b leaves d v ≡ member (dateAt S b leaves d) v
   leave-bit d v h l = bit-is S b leaves d v (dateAt S b leaves d) h (omega arith) (leave-at S b d (v / 32) (omega arith))
@@ -71,7 +69,7 @@ module _ (S : Settings) (caps b : List ℕ) (r : Ranges S) (laid : length b ≡ 
       word : (p : ℕ) → p < S .sessions
           → bitAt S b standings (d * S .sessions + p) m ≡ bit (getD (dateAt S b standings d) (p * groups (S .meetings) + m / 32) 0) (m % 32)
       word p k =
-          rw (inside-by S b standings (d * S .sessions + p) (m / 32) (within-slots (S .dates) (S .sessions) d p h k) (omega arith), stand-word S b d p (m / 32) k (omega arith))
+          rw (inside-by S standings (d * S .sessions + p) (m / 32) (within-slots (S .dates) (S .sessions) d p h k) (omega arith), stand-word S b d p (m / 32) k (omega arith))
 
       forth : ((s : ℕ) × (s < allSessions S) × (eqb (s / S .sessions) d && bitAt S b standings s m ≡ true))
           → any (λ p. bit (getD (dateAt S b standings d) (p * groups (S .meetings) + m / 32) 0) (m % 32)) (S .sessions) ≡ true
@@ -111,7 +109,7 @@ module _ (S : Settings) (caps b : List ℕ) (r : Ranges S) (laid : length b ≡ 
 
   sums-same : (d g : ℕ) → sum (seatsAt S b d g) (S .meetings) ≡ sum (seatsIn (dateAt S b lunchTriples d) g) (S .meetings)
   sums-same d g =
-      sum-same (seatsAt S b d g) (seatsIn (dateAt S b lunchTriples d) g) 0 (S .meetings)
+      sum-agree (seatsAt S b d g) (seatsIn (dateAt S b lunchTriples d) g) 0 (S .meetings)
       (λ j _ h. ap₂ (λ (x y : ℕ). cond (eqb x g) y 0) (lunch-zero d j (omega arith)) (lunch-at S b d j 1 (omega arith) (omega arith)))
 
   met-session : (d p : ℕ) → d < S .dates → p < S .sessions

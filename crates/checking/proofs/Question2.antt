@@ -11,7 +11,7 @@ use lib.Dec.{leb, ltb, eqb}
 use lib.ListN.{getD}
 use borrow.Author.Tests.{ltb-true, ltb-false, lt-ltb, leb-true, le-leb, eqb-true, eq-eqb, ne-eqb}
 use Rattle.model.specs.declared.Settings.{Settings}
-use Rattle.model.specs.Bounded.{sum, within, isSome}
+use Rattle.model.specs.Bounded.{sum, within}
 use Rattle.book.specs.Ranges.{Ranges}
 use Rattle.book.specs.Grids.{Laid}
 use Rattle.model.specs.Site.{allSessions, capacity}
@@ -23,30 +23,23 @@ use Rattle.model.specs.Laws.{eachCell, cellsWithin, confRule, lunchRule, cellTe
 use Rattle.model.specs.Laws.{Law.oneVisitorARoom, Law.oneRoomAVisitor, Law.oneVisitorARide, Law.oneRideAVisitor, Law.oneMeetingAVisitor, Law.oneMeetingARoom, Law.oneRoomALunch}
 use Rattle.model.specs.Laws.{Law.attendedStands, Law.confStands, Law.lunchStands, Law.hotelLeave, Law.rideLeave, Law.attendLeave, Law.seatsWithin}
 use Rattle.model.proofs.Search.{Each, conj-is, conj-by, and-left, and-right, and-true, true-all, within-true, true-within}
+use Rattle.model.proofs.ReadBack.{inside-by}
+use Rattle.model.proofs.Sums.{sum-agree, sum-empty}
 use Rattle.model.proofs.Laws.{Sound, law-by, oneA-by, oneB-by, each-by}
-use Rattle.model.proofs.Shown.{each-cell}
-use Rattle.model.proofs.Sound.{book-sound}
+use Rattle.model.proofs.Shown.{each-cell, some-is}
+use Rattle.model.proofs.Sound.{book-sound, held-some}
 use Rattle.model.specs.Reading.{settingsOf, stateOf}
 use Rattle.model.specs.Laws.{wellLaid, lawful}
 use Rattle.checking.specs.Rows.{Decides}
 use Rattle.checking.specs.Days.{Eaten, Caps, DayAt}
-use Rattle.checking.proofs.Seating.{sum-none}
-use Rattle.checking.proofs.Slots.{split, within-slots, held, holds-by, inside-by, within-by, Slot, one-a-cell, one-a-row}
-use Rattle.checking.proofs.Facts.{Facts, Session, seatsAt, sum-same, facts-by, by-facts}
-
-held-some : {A : Type 0} (t : Bool) (w : A) → isSome (cond t (some w) none) ≡ true → t ≡ true
-held-some true w e = refl
-held-some false w e = e
-
-some-held : {A : Type 0} (t : Bool) (w : A) → t ≡ true → isSome (cond t (some w) none) ≡ true
-some-held true w e = refl
-some-held false w e = e
+use Rattle.checking.proofs.Slots.{split, within-slots, held, holds-by, within-by, Slot, one-a-cell, one-a-row}
+use Rattle.checking.proofs.Facts.{Facts, Session, seatsAt, facts-by, by-facts}
 
 module _ (S : Settings) (caps b : List ℕ) (r : Ranges S) (cs : Caps S caps) where
   -- the seats of a lunch in the state, and in the words
   seats-same : (d g m : ℕ) → d < S .dates → m < S .meetings → seatsOf (readState S b .lunch d g m) ≡ seatsAt S b d (suc g) m
   unfolding readState
-  seats-same d g m h l = rw (inside-by S b lunchTriples d m h l) (go (eqb (at S b lunchTriples d m 0) (suc g)))
+  seats-same d g m h l = rw (inside-by S lunchTriples d m h l) (go (eqb (at S b lunchTriples d m 0) (suc g)))
     where
       go : (t : Bool)
           → seatsOf (cond t (some (record { seats = at S b lunchTriples d m 1; info = at S b lunchTriples d m 2 })) none) ≡ cond t (at S b lunchTriples d m 1) 0
@@ -56,7 +49,7 @@ module _ (S : Settings) (caps b : List ℕ) (r : Ranges S) (cs : Caps S caps) wh
   reserved-is : (d g : ℕ) → d < S .dates → reserved (readState S b) d g ≡ sum (seatsAt S b d (suc g)) (S .meetings)
   unfolding reserved readState
   reserved-is d g h =
-      sum-same (λ m. seatsOf (readState S b .lunch d g m)) (seatsAt S b d (suc g)) 0 (S .meetings) (λ m _ l. seats-same d g m h (omega arith))
+      sum-agree (λ m. seatsOf (readState S b .lunch d g m)) (seatsAt S b d (suc g)) 0 (S .meetings) (λ m _ l. seats-same d g m h (omega arith))
 
   -- facts give the tests
   module _ (f : Facts S caps b) where
@@ -208,7 +201,7 @@ module _ (S : Settings) (caps b : List ℕ) (r : Ranges S) (cs : Caps S caps) wh
               ap (λ (x : ℕ). bitAt S b leaves x j) (sym (digits-div d k)) ∙ s .guests attends refl i (at S b attendCells i j 0 - 1) j (holds-by S b attendCells i j _ t l w);
           attended = λ j m l e. s .attended i m j (holds-by S b attendCells i j m t l e);
           within = λ j l. range-is confPairs (S .meetings) (rules .1 .1 .1 .1 .0) i j t l;
-          stands = λ j m l e. s .held i j m (some-held (holds S b confPairs i j m) _ (holds-by S b confPairs i j m t l e));
+          stands = λ j m l e. s .held i j m (some-is (holds S b confPairs i j m) _ ∙ holds-by S b confPairs i j m t l e);
           beside = λ j l e. eqb-true _ 0 (rw (eq-eqb _ 0 e) at (each-cell S confPairs (confRule S b) (rules .1 .1 .1 .1 .1 .0) i j t l));
         }
 
@@ -244,7 +237,7 @@ module _ (S : Settings) (caps b : List ℕ) (r : Ranges S) (cs : Caps S caps) wh
               range = a;
               fit = omega (arith, u .1, cs .each w (omega (arith, r .dining .1)));
               some = λ _. u .0;
-              stood = λ _. s .lunched d w j (some-held (holds S b lunchTriples d j w) _ (holds-by S b lunchTriples d j w h l q));
+              stood = λ _. s .lunched d w j (some-is (holds S b lunchTriples d j w) _ ∙ holds-by S b lunchTriples d j w h l q);
               beside = λ y. absurd (omega (arith, y));
             }
 
@@ -254,7 +247,7 @@ module _ (S : Settings) (caps b : List ℕ) (r : Ranges S) (cs : Caps S caps) wh
 
     sums-is : (d g : ℕ) → d < S .dates → g < 17 → sum (seatsAt S b d g) (S .meetings) ≤ getD caps g 0
     sums-is d zero h l =
-        omega (arith, sum-none (seatsAt S b d 0) 0 (S .meetings) (λ j _ k. go j (lunch-is d j h (omega arith)) (eqb (at S b lunchTriples d j 0) 0) refl))
+        omega (arith, sum-empty (seatsAt S b d 0) 0 (S .meetings) (λ j _ k. go j (lunch-is d j h (omega arith)) (eqb (at S b lunchTriples d j 0) 0) refl))
       where
         go : (j : ℕ)
             → Eaten (S .dining) caps (standsOn (readState S b) d j) (at S b lunchTriples d j 0) (at S b lunchTriples d j 1) (at S b lunchTriples d j 2)
@@ -274,7 +267,7 @@ module _ (S : Settings) (caps b : List ℕ) (r : Ranges S) (cs : Caps S caps) wh
             let k : g < S .dining = ltb-true g (S .dining) q in
             omega (arith, reserved-is d g h, room d g h k, cs .each g (omega arith))
         go false q =
-            omega (arith, sum-none (seatsAt S b d (suc g)) 0 (S .meetings) (λ j _ k. out j (ltb-false g (S .dining) q) (range-is lunchTriples (S .dining) (rules .1 .1 .1 .1 .1 .1 .0) d j h (omega arith))))
+            omega (arith, sum-empty (seatsAt S b d (suc g)) 0 (S .meetings) (λ j _ k. out j (ltb-false g (S .dining) q) (range-is lunchTriples (S .dining) (rules .1 .1 .1 .1 .1 .1 .0) d j h (omega arith))))
 
     pub facts-is : Facts S caps b
     facts-is = record {

@@ -5,7 +5,6 @@ use mathlib.Core.Path.{_≡_, refl, sym, _∙_, ap}
 use mathlib.Core.Bool.{Bool, true, false}
 use mathlib.Core.List.{List}
 use native.Mathlib.Decide.{ℕ-discrete}
-use native.Mathlib.Nat.{add-zero, zero-add}
 use native.Mathlib.Numerals.{add-one}
 use native.Mathlib.Omega.{arith}
 use lib.Dec.{ltb}
@@ -13,29 +12,12 @@ use lib.ListN.{length, getD, set, replicate, length-set}
 use lib.Seq.{getD-set-same, getD-set-other}
 use borrow.Author.Tests.{ltb-true, ltb-false, eq-eqb, ne-eqb}
 use borrow.Author.Count.{below-none, below-more}
-use Rattle.model.specs.Bounded.{sum, sumFrom}
+use Rattle.model.specs.Bounded.{sum}
+use Rattle.model.proofs.Sums.{sum-more}
 use Rattle.model.specs.declared.Settings.{Settings}
 use Rattle.checking.specs.Days.{Caps}
 use Rattle.checking.specs.Rows.{Triple, seatsIn}
 use Rattle.checking.proofs.Zeros.{none-zero}
-
--- a sum of zeros
-pub sum-none : (f : ℕ → ℕ) (i n : ℕ) → ((j : ℕ) → i ≤ j → j < i + n → f j ≡ 0) → sumFrom f i n ≡ 0
-sum-none f i zero h = refl
-sum-none f i (suc n) h = omega (arith, h i (omega arith) (omega arith), sum-none f (suc i) n (λ j l k. h j (omega arith) (omega arith)))
-
--- one more term of a sum
-sum-from : (f : ℕ → ℕ) (i n : ℕ) → sumFrom f i (suc n) ≡ sumFrom f i n + f (i + n)
-sum-from f i zero = omega (arith, ap f (add-zero i))
-sum-from f i (suc n) =
-    let e : f (suc i + n) ≡ f (i + suc n) = ap f (omega arith) in
-    omega (arith, sum-from f (suc i) n, e)
-
-pub sum-more : (f : ℕ → ℕ) (n : ℕ) → sum f (n + 1) ≡ sum f n + f n
-sum-more f n =
-    let e : f (0 + n) ≡ f n = ap f (zero-add n) in
-    let s : n + 1 ≡ suc n = add-one n in
-    ap (sum f) s ∙ sum-from f 0 n ∙ ap (λ (x : ℕ). sum f n + x) e
 
 -- lunches: what is shown of the triples below j, with the sums so far
 pub record Sofar (row : List ℕ) (dining : ℕ) (caps : List ℕ) (t : List Bool) (s : List ℕ) (j : ℕ) : Type 0 where

@@ -9,12 +9,13 @@ use native.Mathlib.Omega.{arith}
 use lib.Dec.{leb, ltb}
 use lib.ListN.{length, getD, take, drop, length-drop}
 use lib.Seq.{length-take-le}
-use borrow.Author.Tests.{ltb-true, ltb-false, lt-ltb, le-leb, eqb-true, eq-eqb}
+use borrow.Author.Tests.{ltb-true, ltb-false, le-leb, eqb-true, eq-eqb}
 use Rattle.model.specs.declared.Settings.{Settings}
 use Rattle.model.specs.Words.{base, bookLength, Region, leaves, slots, items, hotelCells, standings, attendCells, confPairs, lunchTriples, rideCells}
 use Rattle.model.specs.Reading.{at, inside, bitAt, holds}
 use Rattle.model.specs.Laws.{cellsWithin}
 use Rattle.model.proofs.Search.{and-left, and-right, and-true, true-all}
+use Rattle.model.proofs.ReadBack.{inside-by, inside-is}
 use Rattle.book.proofs.Regions.{end-le}
 use Rattle.checking.proofs.Addresses.{size-is}
 use Rattle.book.specs.declared.grid.Grids.{Grids}
@@ -39,9 +40,6 @@ within-slots dates per d p h l = omega (arith, row-inside d dates per h)
 
 -- the model's two tests of a cell, as facts
 module _ (S : Settings) (b : List ℕ) where
-  pub inside-by : (g : Region) (i j : ℕ) → i < slots S g → j < items S g → inside S g i j ≡ true
-  inside-by g i j h k = rw (lt-ltb i (slots S g) h, lt-ltb j (items S g) k)
-
   pub record Held (g : Region) (i j v : ℕ) : Type 0 where
     pub slot : i < slots S g
     pub item : j < items S g
@@ -49,17 +47,17 @@ module _ (S : Settings) (b : List ℕ) where
 
   pub held : (g : Region) (i j v : ℕ) → holds S b g i j v ≡ true → Held g i j v
   held g i j v e = record {
-    slot = ltb-true i (slots S g) (and-left _ (ltb j (items S g)) (and-left (inside S g i j) _ e));
-    item = ltb-true j (items S g) (and-right (ltb i (slots S g)) _ (and-left (inside S g i j) _ e));
+    slot = inside-is S g i j (and-left (inside S g i j) _ e) .0;
+    item = inside-is S g i j (and-left (inside S g i j) _ e) .1;
     word = eqb-true _ _ (and-right (inside S g i j) _ e);
   }
 
   pub holds-by : (g : Region) (i j v : ℕ) → i < slots S g → j < items S g → at S b g i j 0 ≡ suc v → holds S b g i j v ≡ true
-  holds-by g i j v h k e = and-true (inside-by g i j h k) (eq-eqb _ _ e)
+  holds-by g i j v h k e = and-true (inside-by S g i j h k) (eq-eqb _ _ e)
 
   pub bit-is : (g : Region) (i v : ℕ) (row : List ℕ) → i < slots S g → v / 32 < items S g → at S b g i (v / 32) 0 ≡ getD row (v / 32) 0
       → bitAt S b g i v ≡ member row v
-  bit-is g i v row h k e = rw (inside-by g i (v / 32) h k, e)
+  bit-is g i v row h k e = rw (inside-by S g i (v / 32) h k, e)
 
   pub within-by : (g : Region) (n : ℕ) → ((i j : ℕ) → i < slots S g → j < items S g → at S b g i j 0 ≤ n) → cellsWithin S b g n ≡ true
   within-by g n h = true-all _ (slots S g) (λ i a. true-all (λ j. leb (at S b g i j 0) n) (items S g) (λ j c. le-leb _ n (h i j a c)))

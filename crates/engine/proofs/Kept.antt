@@ -1,34 +1,24 @@
--- A good book stays good: what a check or a laying leaves, and what a step keeps.
+-- A good book stays good: what a laying leaves, and what a step keeps.
 -- Assumes nothing.
 use Prim.Native.Nat.{ℕ}
-use mathlib.Core.Path.{_≡_, refl, sym, _∙_, ap, subst}
-use mathlib.Core.Bool.{Bool, true, false}
-use mathlib.Core.List.{List, [], _∷_}
-use native.Mathlib.Omega.{arith}
+use mathlib.Core.Path.{_≡_, _∙_, ap, subst}
+use mathlib.Core.Bool.{true}
+use mathlib.Core.List.{List, _∷_}
 use Rattle.model.specs.declared.Settings.{Settings}
 use Rattle.model.specs.declared.Request.{Request}
-use Rattle.model.specs.declared.Answer.{Answer}
-use Rattle.model.specs.declared.Answer.the-variants.{Done, Refused}
 use Rattle.model.specs.State.{State, emptyState}
 use Rattle.model.specs.Machine.{step, Call, request}
 use Rattle.model.specs.Words.{words}
-use Rattle.model.specs.Reading.{settingsOf, stateOf, readState}
-use Rattle.model.specs.Laws.{wellLaid, lawful}
-use Rattle.model.specs.Calls.{Called, called, Calls, call, calls, check, gate, freshBook}
+use Rattle.model.specs.Reading.{stateOf, readState}
+use Rattle.model.specs.Calls.{Called, called, call, calls, freshBook}
 use Rattle.model.specs.Site.{validSettings}
 use Rattle.model.proofs.Shown.{words-stateOf}
 use Rattle.model.proofs.Sound.{book-sound}
-use Rattle.model.proofs.Passes.{well-laid, lawful-words}
-use Rattle.model.proofs.ReadBack.{settings-back, valid-is}
 use Rattle.model.proofs.Frame.{step-settings}
 use Rattle.model.proofs.Calls.{step-sound, empty-sound, fresh-words}
 use Rattle.model.proofs.Laws.{Sound}
 use Rattle.book.specs.Good.{Good}
-use Rattle.book.proofs.Goods.{good-state}
-
--- the words of a sound state are a good book
-pub good-words : (x : State) → Sound x → Good (x .settings) (words x)
-good-words x s = record { read = sym (settings-back x (valid-is (x .settings) (s .valid))); laid = well-laid x s; lawful = lawful-words x s }
+use Rattle.book.proofs.Goods.{good-state, good-words}
 
 module _ {S : Settings} {b : List ℕ} (good : Good S b) where
   sound : Sound (stateOf b)
@@ -57,19 +47,7 @@ module _ {S : Settings} {b : List ℕ} (good : Good S b) where
   unfolding calls
   good-calls r cs = ap (λ (c : Called). record { answers = c .answer ∷ calls (c .book) cs .answers; book = calls (c .book) cs .book }) (good-call r)
 
--- a book that checking accepts, and a freshly laid book
-pub refused-done : {n p v : ℕ} {A : Type 0} → Refused n p ≡ Done v → A
-refused-done e = absurd (let z : _≡_ {A = ℕ} 0 1 = cc in omega arith)
-
-pub check-good : (b : List ℕ) (v : ℕ) → check b ≡ Done v → Good (settingsOf b) b
-unfolding check
-check-good b v e = go (wellLaid b) refl (lawful b) refl e
-  where
-    go : (o : Bool) → wellLaid b ≡ o → (t : Bool) → lawful b ≡ t → check b ≡ Done v → Good (settingsOf b) b
-    go true q true r e = record { read = refl; laid = q; lawful = r }
-    go true q false r e = refused-done (rw (q, r) at e)
-    go false q t r e = refused-done (rw q at e)
-
+-- a freshly laid book
 pub fresh-good : (S : Settings) → validSettings S ≡ true → Good S (freshBook S)
 unfolding emptyState
 fresh-good S e = rw (fresh-words S e) (good-words (emptyState S) (empty-sound S e))

@@ -1,30 +1,27 @@
 -- What check and lay leave to say of a request and of a list.
 -- Assumes nothing.
-use Prim.Native.Nat.{ℕ, _*_, _/_}
+use Prim.Native.Nat.{ℕ}
 use mathlib.Core.Path.{_≡_, refl, sym, _∙_, ap, ap₂, subst}
 use mathlib.Core.Bool.{Bool, true, false}
-use mathlib.Core.List.{List, _++_}
+use mathlib.Core.List.{List}
 use native.Mathlib.Omega.{arith}
 use lib.Dec.{eqb}
-use lib.ListN.{length, drop}
-use Rattle.model.specs.declared.Settings.{Settings}
+use lib.ListN.{length}
 use Rattle.model.specs.declared.Request.{Request}
 use Rattle.model.specs.declared.Answer.{Answer}
 use Rattle.model.specs.declared.Answer.the-variants.{Done, Refused}
-use Rattle.model.specs.State.{emptyState}
-use Rattle.model.specs.Machine.{step, run}
-use Rattle.model.specs.Words.{words, bookLength}
+use Rattle.model.specs.Words.{bookLength}
 use Rattle.model.specs.Reading.{settingsOf, stateOf}
 use Rattle.model.specs.Laws.{wellLaid, lawful}
-use Rattle.model.specs.Calls.{Called, Calls, call, calls, check, lay, freshBook, settingsGood, requestsOf, answersWords, answerable, Listed, listed, callList, serveList}
-use Rattle.model.specs.Site.{validSettings}
+use Rattle.model.specs.Calls.{Called, call, calls, check, lay, freshBook, settingsGood, requestsOf, answerable, listed, callList, serveList}
 use Rattle.model.proofs.Calls.{from-fresh}
 use Rattle.model.proofs.Shows.{good-valid}
 use Rattle.model.specs.Removal.{Removed, RemovalKept}
 use Rattle.model.proofs.Removal.{removal}
 use Rattle.book.specs.Good.{Good, answered}
 use Rattle.engine.specs.Lists.{All, asListed}
-use Rattle.engine.proofs.Kept.{check-good, fresh-good, good-call, refused-done}
+use Rattle.checking.proofs.Verdicts.{done-good}
+use Rattle.engine.proofs.Kept.{fresh-good}
 
 done-refused : {n p v : ℕ} {A : Type 0} → Done v ≡ Refused n p → A
 done-refused e = absurd (let z : _≡_ {A = ℕ} 0 1 = cc in omega arith)
@@ -66,7 +63,7 @@ module _ (w a : List ℕ) {n : ℕ} (e : n ≡ answerable w a) {b b′ a′ : Li
 
 pub requests-done : (b w a : List ℕ) {v n : ℕ} {b′ a′ : List ℕ} → check b ≡ Done v → n ≡ answerable w a → All w n b a b′ a′ → asListed (Done n) b′ a′ ≡ callList b w a
 unfolding callList
-requests-done b w a {v} e q all = let g = check-good b v e in rw (g .laid, g .lawful) (all-listed w a q all)
+requests-done b w a {v} e q all = let g = done-good b v e in rw (g .laid, g .lawful) (all-listed w a q all)
 
 -- laying: refused it keeps the book, and done it leaves a fresh one
 module _ (s b : List ℕ) where

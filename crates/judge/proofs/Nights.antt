@@ -1,11 +1,9 @@
 -- A visitor whose number stands in a date's hotel cells has a booking on that date.
 -- Assumes nothing.
-use Prim.Native.Nat.{ℕ, zero, suc, _+_, _≤_, _<_}
+use Prim.Native.Nat.{ℕ, _+_, _<_}
 use mathlib.Core.Path.{_≡_, _∙_, ap, subst}
 use mathlib.Core.Bool.{Bool, true, false, not, _&&_}
 use mathlib.Core.List.{List}
-use mathlib.Core.Logic.{_⊎_, inl, inr}
-use native.Mathlib.Nat.{eq-or-lt-of-le}
 use native.Mathlib.Omega.{arith}
 use lib.Dec.{eqb}
 use borrow.Author.Tests.{ne-eqb}
@@ -16,21 +14,13 @@ use Rattle.book.proofs.Counts.{any-count}
 use Rattle.book.proofs.Entries.{booked-eqb}
 use Rattle.book.proofs.Goods.{good-state}
 use Rattle.model.specs.declared.Settings.{Settings}
-use Rattle.model.specs.Bounded.{sumFrom, sum, count, within}
+use Rattle.model.specs.Bounded.{sum, count, within}
 use Rattle.model.specs.State.{State, hotels}
 use Rattle.model.specs.Questions.{bookings}
 use Rattle.model.specs.Words.{hotelCells}
 use Rattle.model.specs.Reading.{stateOf, readState}
 use Rattle.model.proofs.Search.{any-true, true-any, true-within, and-true, both}
-
--- each term of a sum that is 0
-sum-none : (f : ℕ → ℕ) (i n j : ℕ) → sumFrom f i n ≡ 0 → i ≤ j → j < i + n → f j ≡ 0
-sum-none f i zero j e l h = absurd (omega (arith, l, h))
-sum-none f i (suc n) j e l h = go (λ q. sum-none f (suc i) n j (omega (arith, e)) q (omega (arith, h))) (eq-or-lt-of-le l)
-  where
-    go : (i < j → f j ≡ 0) → (i ≡ j) ⊎ (i < j) → f j ≡ 0
-    go later (inl q) = rw (← q) (omega (arith, e))
-    go later (inr q) = later q
+use Rattle.model.proofs.Sums.{sum-zero}
 
 module _ {S : Settings} {b : List ℕ} (good : Good S b) (d v : ℕ) (hd : d < S .dates) (hv : v < S .visitors) where
   abbrev x : State
@@ -44,7 +34,7 @@ module _ {S : Settings} {b : List ℕ} (good : Good S b) (d v : ℕ) (hd : d < S
   counted e z =
       let k = any-true (λ j. eqb (cellAt (gridOf S hotelCells) b d j) (v + 1)) (S .hotels) e in
       let there : night d (k .0) ≡ true = and-true (true-within d d d (omega arith) (omega arith)) (booked-eqb S b hotels d hd {a = k .0} {v = v} (k .1) hv ∙ k .2) in
-      let none : count (night d) (S .hotels) ≡ 0 = sum-none (λ i. count (night i) (S .hotels)) 0 (S .dates) d z (omega arith) (omega (arith, hd)) in
+      let none : count (night d) (S .hotels) ≡ 0 = sum-zero (λ i. count (night i) (S .hotels)) 0 (S .dates) z d (omega arith) (omega (arith, hd)) in
       both (true-any (night d) (S .hotels) (k .0) (k .1) there) (any-count (night d) (S .hotels) ∙ ap (λ (n : ℕ). not (eqb n 0)) none)
 
   pub night-counts : rowHas (gridOf S hotelCells) b d (v + 1) ≡ true → eqb (bookings (stateOf b) v d d) 0 ≡ false

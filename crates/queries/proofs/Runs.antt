@@ -1,23 +1,24 @@
 -- Counts over the slots of a run of dates, and the members of a date.
 -- Assumes nothing.
-use Prim.Native.Nat.{ℕ, zero, suc, _+_, _*_, _/_, _%_, _-_, _≤_, _<_}
-use mathlib.Core.Path.{_≡_, refl, sym, _∙_, ap, ap₂, subst}
-use mathlib.Core.Bool.{Bool, true, false, not, _&&_, true≢false, false≢true}
+use Prim.Native.Nat.{ℕ, suc, _+_, _*_, _/_, _%_, _-_, _≤_, _<_}
+use mathlib.Core.Path.{_≡_, refl, sym, _∙_, ap, ap₂}
+use mathlib.Core.Bool.{Bool, true, false, not, _&&_}
 use mathlib.Core.List.{List}
 use native.Mathlib.Nat.{mul-one}
 use native.Mathlib.Omega.{arith}
 use lib.Dec.{leb, ltb, eqb}
-use lib.ListN.{length, getD, take, drop, length-take, length-drop}
+use lib.ListN.{length, getD, take, drop}
 use lib.Seq.{getD-drop, getD-take}
 use borrow.Author.Tests.{le-leb, lt-ltb, lt-leb, le-ltb, leb-true, leb-false, ltb-true}
 use Rattle.model.specs.declared.Settings.{Settings}
-use Rattle.model.specs.Bounded.{any, bit, one, sumFrom, sum, count, count2, within}
+use Rattle.model.specs.Bounded.{bit, one, sumFrom, count, count2, within}
 use Rattle.model.specs.Site.{allSessions, allTimes, dateOfSession, dateOfTime}
-use Rattle.model.specs.State.{State, Pairs, hotels, rides, attends, booked}
-use Rattle.model.specs.Questions.{bookings, limitA}
-use Rattle.model.specs.Words.{Region, leaves, hotelCells, attendCells, rideCells, groups}
+use Rattle.model.specs.State.{State, hotels, rides, attends, booked}
+use Rattle.model.specs.Questions.{bookings}
+use Rattle.model.specs.Words.{leaves, hotelCells, attendCells, rideCells, groups}
 use Rattle.model.specs.Reading.{stateOf, readState}
-use Rattle.model.proofs.Search.{bool-eq, and-true, both}
+use Rattle.model.proofs.Search.{bool-eq, and-true}
+use Rattle.model.proofs.Sums.{sum-last, sum-agree, sum-empty, sum-most}
 use Rattle.book.specs.declared.grid.Grid.{Grid}
 use Rattle.book.specs.declared.units.Slot.{Slot}
 use Rattle.book.specs.declared.units.Slot.the-variants.{Sessions, Times}
@@ -25,7 +26,7 @@ use Rattle.book.specs.Grids.{cellAt, gridOf, place, Index}
 use Rattle.book.specs.Rows.{rowCount}
 use Rattle.book.specs.Good.{Good}
 use Rattle.book.specs.Units.{Cut}
-use Rattle.book.proofs.Counts.{sum-last, sum-part, sum-same, sum-zero, count-same, count-le}
+use Rattle.book.proofs.Counts.{sum-part, count-same, count-le}
 use Rattle.book.proofs.Cuts.{between-cuts}
 use Rattle.book.proofs.Entries.{booked-eqb}
 use Rattle.book.proofs.Goods.{good-state, good-sound, good-cell}
@@ -44,10 +45,6 @@ sum-next f lo i h =
 pub sum-start : (f : ℕ → ℕ) (lo : ℕ) → 0 ≡ sumFrom f lo (lo - lo)
 sum-start f lo = let e : lo - lo ≡ 0 = omega arith in sym (ap (sumFrom f lo) e)
 
-sum-most : (f : ℕ → ℕ) (k i n : ℕ) → ((j : ℕ) → f j ≤ k) → sumFrom f i n ≤ n * k
-sum-most f k i zero h = omega arith
-sum-most f k i (suc n) h = let e : suc n * k ≡ k + n * k = omega arith in omega (arith, e, h i, sum-most f k (suc i) n h)
-
 -- counts are few enough to be added
 pub rows-le : (g : Grid) (b : List ℕ) (w lo hi : ℕ) → g .items ≤ 512 → rowsCount g b w lo hi ≤ (hi - lo) * 512
 unfolding rowsCount rowCount
@@ -61,7 +58,7 @@ column-le g b j lo hi = count-le (λ i. not (eqb (cellAt g b i j) 0)) lo (hi - l
 module _ (t : ℕ → Bool) (q : ℕ → ℕ → Bool) (f : ℕ → ℕ) (lo hi n m : ℕ) (l : lo ≤ hi) (h : hi ≤ n)
     (in-run : (i : ℕ) → i < n → t i ≡ leb lo i && ltb i hi) (each : (i : ℕ) → i < n → count (q i) m ≡ f i) where
   outside : (i : ℕ) → t i ≡ false → count (λ j. t i && q i j) m ≡ 0
-  outside i e = sum-zero (λ j. one (t i && q i j)) 0 m (λ j a b. ap (λ (b : Bool). one (b && q i j)) e)
+  outside i e = sum-empty (λ j. one (t i && q i j)) 0 m (λ j a b. ap (λ (b : Bool). one (b && q i j)) e)
 
   inside : (i : ℕ) → i < n → t i ≡ true → count (λ j. t i && q i j) m ≡ f i
   inside i k e = count-same (λ j. t i && q i j) (q i) m (λ j b. ap (λ (b : Bool). b && q i j) e) ∙ each i k
@@ -71,7 +68,7 @@ module _ (t : ℕ → Bool) (q : ℕ → ℕ → Bool) (f : ℕ → ℕ) (lo hi 
       sum-part (λ i. count (λ j. t i && q i j) m) lo hi n l h
       (λ i k. outside i (in-run i (omega arith) ∙ ap (λ (b : Bool). b && ltb i hi) (lt-leb lo i k)))
       (λ i k g. outside i (in-run i g ∙ off i k))
-      ∙ sum-same (λ i. count (λ j. t i && q i j) m) f lo (hi - lo)
+      ∙ sum-agree (λ i. count (λ j. t i && q i j) m) f lo (hi - lo)
       (λ i k g. inside i (omega arith) (in-run i (omega arith) ∙ and-true (le-leb lo i k) (lt-ltb i hi (omega arith))))
     where
       off : (i : ℕ) → hi ≤ i → leb lo i && ltb i hi ≡ false

@@ -1,30 +1,30 @@
 -- What a good book's cells say of its state: entries, rows, single cells.
 -- Assumes nothing.
-use Prim.Native.Nat.{ℕ, zero, suc, _+_, _*_, _/_, _%_, _-_, _≤_, _<_}
-use mathlib.Core.Path.{_≡_, refl, sym, _∙_, ap, subst}
+use Prim.Native.Nat.{ℕ, zero, suc, _+_, _/_, _%_, _-_, _≤_, _<_}
+use mathlib.Core.Path.{_≡_, refl, sym, _∙_, ap}
 use mathlib.Core.Bool.{Bool, true, false, not, cond}
 use mathlib.Core.Option.{Option, none, some}
 use mathlib.Core.List.{List}
 use native.Mathlib.Omega.{arith}
 use lib.Dec.{ltb, eqb}
-use lib.ListN.{getD}
-use borrow.Author.Tests.{lt-ltb, eq-eqb, ne-eqb, eqb-true, eqb-false}
+use borrow.Author.Tests.{lt-ltb, eq-eqb, ne-eqb, eqb-true}
 use Rattle.model.specs.declared.Settings.{Settings}
-use Rattle.model.specs.Bounded.{within, lowest, isSome, any, bit, one, count, found}
+use Rattle.model.specs.Bounded.{within, lowest, isSome, any, bit, one, count}
 use Rattle.model.specs.Site.{allSessions, capacity, validSettings, ranges}
-use Rattle.model.specs.State.{State, Lunch, Pairs, hotels, rides, attends, confs, lunches, booked, seatsOf}
-use Rattle.model.specs.Questions.{limitA, limitB, confHeld, lunchHeld, meetingOf}
-use Rattle.model.specs.Words.{Region, leaves, hotelCells, standings, attendCells, confPairs, lunchTriples, rideCells, slots, items, groups}
+use Rattle.model.specs.State.{State, Lunch, attends, confs, lunches, booked, seatsOf}
+use Rattle.model.specs.Questions.{confHeld, lunchHeld, meetingOf}
+use Rattle.model.specs.Words.{leaves, standings, attendCells, confPairs, lunchTriples, groups}
 use Rattle.model.specs.Reading.{stateOf, readState, holds, at}
 use Rattle.model.proofs.Search.{lowest-by, lowest-same, bool-eq, Each, conj-is, within-true, all-true}
 use Rattle.model.proofs.Sums.{sum-delta}
 use Rattle.book.specs.Grids.{cellAt, gridOf}
 use Rattle.book.specs.Rows.{rowHas}
 use Rattle.book.specs.Good.{Good}
-use Rattle.book.proofs.Entries.{booked-eqb, bit-is, any-same, cellsOf, itemOf, valueOf, holds-is, cell-is}
-use Rattle.book.proofs.Goods.{good-laid, good-state, good-sound, good-cell, cellLimit}
+use Rattle.book.proofs.Entries.{booked-eqb, bit-is, any-same, holds-is}
+use Rattle.book.proofs.Goods.{good-state, good-sound, good-cell}
 use Rattle.book.proofs.Regions.{group-lt}
-use Rattle.book.proofs.Counts.{sum-zero, count-same}
+use Rattle.model.proofs.Sums.{sum-empty}
+use Rattle.book.proofs.Counts.{count-same}
 use Rattle.queries.specs.Shown.{Seats, roomTaken}
 
 -- the number that a cell holds, if it is full
@@ -59,7 +59,7 @@ any-cell c n h = ap isSome (lowest-cell c n h) ∙ go c
     go (suc c) = sym (ap not (ne-eqb (suc c) 0 (λ e. omega (arith, e))))
 
 pub count-cell : (c n : ℕ) → c ≤ n → count (λ w. eqb c (w + 1)) n ≡ one (not (eqb c 0))
-count-cell zero n h = sum-zero (λ w. one (eqb 0 (w + 1))) 0 n (λ j l k. ap one (ne-eqb 0 (j + 1) (λ e. omega (arith, e))))
+count-cell zero n h = sum-empty (λ w. one (eqb 0 (w + 1))) 0 n (λ j l k. ap one (ne-eqb 0 (j + 1) (λ e. omega (arith, e))))
 count-cell (suc c) n h =
     count-same (λ w. eqb (suc c) (w + 1)) (λ w. eqb w c) n (λ w l. same-suc c w)
     ∙ sum-delta 1 c 0 n (omega arith) (omega (arith, h))

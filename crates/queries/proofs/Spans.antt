@@ -1,6 +1,6 @@
 -- The bookings of a visitor date by date: those of a run of dates are added up, and a date without leave has none.
 -- Assumes nothing.
-use Prim.Native.Nat.{ℕ, zero, suc, _+_, _*_, _≤_}
+use Prim.Native.Nat.{ℕ, _+_, _*_, _≤_}
 use mathlib.Core.Path.{_≡_, refl, sym, _∙_, ap}
 use mathlib.Core.Bool.{Bool, true, false, _&&_}
 use mathlib.Core.List.{List}
@@ -9,25 +9,18 @@ use native.Mathlib.Omega.{arith}
 use lib.Dec.{leb}
 use borrow.Author.Tests.{leb-true, leb-false, le-leb, lt-leb}
 use Rattle.model.specs.declared.Settings.{Settings}
-use Rattle.model.specs.Bounded.{one, sumFrom, count, count2, within}
+use Rattle.model.specs.Bounded.{one, count, count2, within}
 use Rattle.model.specs.Site.{allSessions, allTimes, dateOfSession, dateOfTime}
 use Rattle.model.specs.State.{State, hotels, rides, attends}
 use Rattle.model.specs.Questions.{bookings}
 use Rattle.model.specs.Reading.{stateOf, readState}
 use Rattle.model.proofs.Search.{within-true, both}
+use Rattle.model.proofs.Sums.{sum-agree, sum-empty, sum-most, sum-add}
 use Rattle.book.specs.Good.{Good}
 use Rattle.book.specs.Ranges.{Ranges}
-use Rattle.book.proofs.Counts.{sum-same, sum-zero, count-le}
+use Rattle.book.proofs.Counts.{count-le}
 use Rattle.book.proofs.Goods.{good-laid, good-state, good-sound}
 use Rattle.book.proofs.Regions.{all-sessions, all-times}
-
-sum-add : (f g : ℕ → ℕ) (i n : ℕ) → sumFrom (λ j. f j + g j) i n ≡ sumFrom f i n + sumFrom g i n
-sum-add f g i zero = omega arith
-sum-add f g i (suc n) = omega (arith, sum-add f g (suc i) n)
-
-sum-most : (f : ℕ → ℕ) (k i n : ℕ) → ((j : ℕ) → f j ≤ k) → sumFrom f i n ≤ n * k
-sum-most f k i zero h = omega arith
-sum-most f k i (suc n) h = let e : suc n * k ≡ k + n * k = omega arith in omega (arith, e, h i, sum-most f k (suc i) n h)
 
 -- from..to + 1 is from..to and that date
 split : (from to d : ℕ) (b : Bool) → from ≤ to → one (within from (to + 1) d && b) ≡ one (within from to d && b) + one (within (to + 1) (to + 1) d && b)
@@ -45,9 +38,9 @@ module _ (date : ℕ → ℕ) (q : ℕ → ℕ → Bool) (n m : ℕ) where
 
   on-next : (from to : ℕ) → from ≤ to → on from (to + 1) ≡ on from to + on (to + 1) (to + 1)
   on-next from to h =
-      sum-same (λ i. count (λ j. within from (to + 1) (date i) && q i j) m)
+      sum-agree (λ i. count (λ j. within from (to + 1) (date i) && q i j) m)
       (λ i. count (λ j. within from to (date i) && q i j) m + count (λ j. within (to + 1) (to + 1) (date i) && q i j) m) 0 n
-      (λ i _ _. sum-same (λ j. one (within from (to + 1) (date i) && q i j))
+      (λ i _ _. sum-agree (λ j. one (within from (to + 1) (date i) && q i j))
       (λ j. one (within from to (date i) && q i j) + one (within (to + 1) (to + 1) (date i) && q i j)) 0 m
       (λ j _ _. split from to (date i) (q i j) h)
       ∙ sum-add (λ j. one (within from to (date i) && q i j)) (λ j. one (within (to + 1) (to + 1) (date i) && q i j)) 0 m)
@@ -58,8 +51,8 @@ module _ (date : ℕ → ℕ) (q : ℕ → ℕ → Bool) (n m : ℕ) where
 
   on-none : (d : ℕ) → ((i j : ℕ) → date i ≡ d → q i j ≡ false) → on d d ≡ 0
   on-none d h =
-      sum-zero (λ i. count (λ j. within d d (date i) && q i j) m) 0 n
-      (λ i _ _. sum-zero (λ j. one (within d d (date i) && q i j)) 0 m (λ j _ _. off i j (within d d (date i)) refl))
+      sum-empty (λ i. count (λ j. within d d (date i) && q i j) m) 0 n
+      (λ i _ _. sum-empty (λ j. one (within d d (date i) && q i j)) 0 m (λ j _ _. off i j (within d d (date i)) refl))
     where
       off : (i j : ℕ) (t : Bool) → within d d (date i) ≡ t → one (within d d (date i) && q i j) ≡ 0
       off i j false e = rw e

@@ -1,10 +1,10 @@
 -- `request` meets its contract: checked, then one step.
 -- Assumes nothing.
-use Prim.Native.Nat.{_-_}
 use mathlib.Core.Path.{sym, _∙_}
 use borrow.Author.Needs.{needs}
 use Rattle.book.proofs.Goods.{good-laid}
-use Rattle.engine.proofs.Kept.{good-call, check-good}
+use Rattle.engine.proofs.Kept.{good-call}
+use Rattle.checking.proofs.Verdicts.{done-good}
 use Rattle.engine.proofs.Whole.{request-refused, with-removal}
 use Rattle.engine.proofs.request.Statement.{statement}
 use Rattle.engine.proofs.request.Tie as tie
@@ -33,12 +33,12 @@ settings-requires c κs = search needs
 grids-of-requires : tie.Need-grids-of-requires
 grids-of-requires c κs =
     let a = c .before .before .before .before .before .before .before .before .args in
-    rw (c .before .settings .ensures) (good-laid (check-good (a .book .now) _ (sym (c .before .before .before .before .before .check .ensures) ∙ c .before .before .before .enum-told .given .1)) .ranges)
+    rw (c .before .settings .ensures) (good-laid (done-good (a .book .now) _ (sym (c .before .before .before .before .before .check .ensures) ∙ c .before .before .before .enum-told .given .1)) .ranges)
 
 step-requires : tie.Need-step-requires
 step-requires c κs =
     let a = c .before .before .before .before .before .before .before .before .before .args in
-    (rw (c .before .before .settings .ensures) (check-good (a .book .now) _ (sym (c .before .before .before .before .before .before .check .ensures) ∙ c .before .before .before .before .enum-told .given .1)), c .grids-of .ensures)
+    (rw (c .before .before .settings .ensures) (done-good (a .book .now) _ (sym (c .before .before .before .before .before .before .check .ensures) ∙ c .before .before .before .before .enum-told .given .1)), c .grids-of .ensures)
 
 same-length-2 : tie.Need-same-length-2
 same-length-2 c = search needs
@@ -47,7 +47,7 @@ returns-2 : tie.Need-returns-2
 returns-2 c =
     let a = c .before .before .before .before .before .before .before .before .before .before .before .before .args in
     with-removal (a .book .now) (a .r) _ _
-    (c .before .before .step .ensures ∙ sym (good-call (check-good (a .book .now) _ (sym (c .before .before .before .before .before .before .before .before .before .check .ensures) ∙ c .before .before .before .before .before .before .before .enum-told .given .1)) (a .r)))
+    (c .before .before .step .ensures ∙ sym (good-call (done-good (a .book .now) _ (sym (c .before .before .before .before .before .before .before .before .before .check .ensures) ∙ c .before .before .before .before .before .before .before .enum-told .given .1)) (a .r)))
 
 pub request-spec : {M : Type 1} → statement M
 request-spec =

@@ -1,11 +1,10 @@
 -- `list::requests` meets its contract: checked once, then each request in turn.
 -- Assumes nothing.
-use Prim.Native.Nat.{_-_}
 use mathlib.Core.Path.{sym, _∙_}
 use native.Mathlib.Omega.{arith}
 use borrow.Author.Needs.{needs}
 use Rattle.book.proofs.Goods.{good-laid}
-use Rattle.engine.proofs.Kept.{check-good}
+use Rattle.checking.proofs.Verdicts.{done-good}
 use Rattle.engine.proofs.Whole.{requests-refused, requests-done}
 use Rattle.engine.proofs.list.requests.Statement.{statement}
 use Rattle.engine.proofs.list.requests.Tie as tie
@@ -36,13 +35,13 @@ answerable-in-requires c κs = search needs
 grids-of-requires : tie.Need-grids-of-requires
 grids-of-requires c κs =
     let a = c .before .before .before .before .before .before .before .before .before .before .before .args in
-    rw (c .before .before .settings .ensures) (good-laid (check-good (a .book .now) _ (sym (c .before .before .before .before .before .before .check .ensures) ∙ c .before .before .before .before .enum-told .given .1)) .ranges)
+    rw (c .before .before .settings .ensures) (good-laid (done-good (a .book .now) _ (sym (c .before .before .before .before .before .before .check .ensures) ∙ c .before .before .before .before .enum-told .given .1)) .ranges)
 
 answer-all-requires : tie.Need-answer-all-requires
 answer-all-requires c κs =
     let a = c .before .before .before .before .before .before .before .before .before .before .before .before .before .args in
     let n = c .before .before .before .answerable-in .ensures in (
-      rw (c .before .before .before .before .settings .ensures) (check-good (a .book .now) _ (sym (c .before .before .before .before .before .before .before .before .check .ensures) ∙ c .before .before .before .before .before .before .enum-told .given .1)),
+      rw (c .before .before .before .before .settings .ensures) (done-good (a .book .now) _ (sym (c .before .before .before .before .before .before .before .before .check .ensures) ∙ c .before .before .before .before .before .before .enum-told .given .1)),
       (c .before .grids-of .ensures, (omega (arith, n), omega (arith, n))),
     )
 

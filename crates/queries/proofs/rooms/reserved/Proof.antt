@@ -7,7 +7,7 @@ use borrow.Author.Needs.{needs}
 use Rattle.model.specs.Bounded.{sum}
 use Rattle.model.specs.State.{State, seatsOf, reserved}
 use Rattle.model.specs.Reading.{stateOf, readState}
-use Rattle.book.proofs.Counts.{sum-more}
+use Rattle.model.proofs.Sums.{sum-more}
 use Rattle.book.proofs.Goods.{good-laid, good-state}
 use Rattle.queries.proofs.rooms.reserved.Statement.{statement}
 use Rattle.queries.proofs.rooms.reserved.Tie as tie
