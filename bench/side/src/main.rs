@@ -20,8 +20,10 @@ fn main() {
     let largest = full_book(&mut rng, &sites::largest(), 50);
     let medium = full_book(&mut rng, &sites::medium(90), 50);
     table::head();
-    if std::env::args().any(|word| word == "kinds") {
-        steps::by_kinds("medium site", &medium);
+    if std::env::args().nth(1).as_deref() == Some("kinds") {
+        let named: Vec<u32> = std::env::args().skip(2).map(|word| word.parse().expect("a kind")).collect();
+        let all: Vec<u32> = (1..=20).collect();
+        steps::by_kinds("medium site", &medium, if named.is_empty() { &all } else { &named });
         return;
     }
     checks::fresh(&sites::largest());

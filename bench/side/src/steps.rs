@@ -83,11 +83,11 @@ fn one_request(name: &str, book: &[u32], requests: &[[u32; 7]]) {
 }
 
 /// The steps of each kind alone: the requests of that kind out of the load, on the same book.
-pub fn by_kinds(name: &str, book: &[u32]) {
+pub fn by_kinds(name: &str, book: &[u32], kinds: &[u32]) {
     let settings = Settings::of_book(book).expect("a full book");
     let requests = load(&settings, 100_000);
-    for kind in 1..=20 {
-        let of_kind: Vec<u32> = requests.iter().filter(|request| request[0] == kind).flatten().copied().collect();
+    for kind in kinds {
+        let of_kind: Vec<u32> = requests.iter().filter(|request| request[0] == *kind).flatten().copied().collect();
         let m = list_times(book, &of_kind);
         let count = of_kind.len() / 7;
         let each = |time: f64| format!("{:.0} ns", time / count as f64 * 1e9);

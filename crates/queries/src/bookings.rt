@@ -2,13 +2,14 @@
 use crate::entries::on_leave;
 use book::grid::Grid;
 use book::grid::Grids;
+use book::grid::at;
 use book::grid::cell;
-use book::rows::row_count;
+use book::rows::part_count;
 use book::units::Slot;
 use book::units::first_on;
 use model::Settings;
 ghost use mathlib.Core.Path.{_≡_};
-ghost use Prim.Native.Nat.{_-_, _≤_, _<_};
+ghost use Prim.Native.Nat.{_≤_, _<_};
 ghost use mathlib.Core.Bool.{not};
 ghost use lib.Dec.{eqb};
 ghost use lib.ListN.{length};
@@ -19,19 +20,19 @@ ghost use Rattle.book.specs.Grids.{Fits, gridsOf};
 ghost use Rattle.book.specs.Good.{Good};
 ghost use Rattle.queries.specs.Shown.{rowsCount, columnCount};
 
-// How many cells of the slots lo..hi, hi left out, hold w.
+// How many cells of the slots lo..hi, hi left out, hold w: rows of one-word cells stand one behind the other.
 fn rows_count(book: &[u32], g: Grid, w: u32, lo: u32, hi: u32) -> u32
     requires { ⌜ Fits g (length (now book)) ⌝ }
-    requires { ⌜ (lo ≤ hi) × (hi ≤ g .slots) × (g .slots ≤ 38400) × (g .items ≤ 512) ⌝ }
+    requires { ⌜ (g .width ≡ 1) × (1 ≤ g .items) ⌝ }
+    requires { ⌜ (lo ≤ hi) × (hi ≤ g .slots) ⌝ }
     ensures { λ r. ⌜ r ≡ rowsCount g (now (book .entry)) w lo hi ⌝ }
 {
-    let mut n: u32 = 0;
-    let mut i = lo;
-    while i < hi {
-        n += row_count(book, g, i, w);
-        i += 1;
+    if lo == hi {
+        return 0;
     }
-    n
+    let start = at(g, lo, 0);
+    let end = start + ((hi - lo) as usize) * (g.items as usize);
+    part_count(&book[start..end], w)
 }
 
 fn full(w: u32) -> u32

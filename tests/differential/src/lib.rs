@@ -2,6 +2,8 @@
 //!
 //! SEED=N takes another seed, SCALE=N a run N times as long. Every test prints its seed.
 
+pub mod guarded;
+
 use std::collections::BTreeMap;
 use std::fmt::Debug;
 

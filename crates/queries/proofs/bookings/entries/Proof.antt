@@ -48,7 +48,7 @@ rows-count-requires : tie.Need-rows-count-requires
 rows-count-requires c κs =
     let s = c .before .before .before .before .before in
     let l = good-laid (s .pre .0) in
-    (rw (s .pre .1 .0) (fits (s .args .s) (s .args .book .now) l hotelCells), rw (s .pre .1 .0) (omega arith, omega arith, omega (arith, l .ranges .dates), omega (arith, l .ranges .hotels)))
+    (rw (s .pre .1 .0) (fits (s .args .s) (s .args .book .now) l hotelCells), (rw (s .pre .1 .0) (refl, l .ranges .hotels .0), rw (s .pre .1 .0) (omega arith, omega arith)))
 
 add-rows-count-3 : tie.Need-add-rows-count-3
 add-rows-count-3 c = omega (arith, good-laid (c .before .before .before .before .before .before .pre .0) .ranges .visitors)
@@ -60,7 +60,7 @@ rows-count-requires-2 c κs =
     let lo = c .before .before .before .before .first-on in
     let hi = c .before .before .before .first-on2 in (
       rw (s .pre .1 .0) (fits (s .args .s) (s .args .book .now) l rideCells),
-      rw (s .pre .1 .0) (cut-order (s .args .s) Times (s .args .from) (s .args .to + 1) _ _ (lo .ensures) (hi .ensures) (omega arith), hi .ensures .most, all-times (s .args .s) (l .ranges), omega (arith, l .ranges .transports)),
+      (rw (s .pre .1 .0) (refl, l .ranges .transports .0), rw (s .pre .1 .0) (cut-order (s .args .s) Times (s .args .from) (s .args .to + 1) _ _ (lo .ensures) (hi .ensures) (omega arith), hi .ensures .most)),
     )
 
 column-count-requires : tie.Need-column-count-requires

@@ -1,78 +1,103 @@
--- `bookings::rows_count` meets its contract: after the slots before i, n is their count.
+-- `bookings::rows_count` meets its contract: the rows are one part of the book.
 -- Assumes nothing.
-use Prim.Native.Nat.{ℕ, _+_, _*_, _-_, _≤_}
-use mathlib.Core.Path.{_≡_, sym, _∙_, ap, ap₂}
+use Prim.Native.Nat.{ℕ, _+_, _*_, _-_}
+use mathlib.Core.Path.{_≡_, refl, sym, _∙_, ap}
 use native.Mathlib.Omega.{arith}
-use lib.Dec.{eqb}
+use lib.ListN.{length, drop, length-take, length-drop}
 use borrow.Author.Needs.{needs}
 use Rattle.model.specs.Bounded.{sumFrom}
-use Rattle.book.specs.Grids.{cellAt}
 use Rattle.book.specs.Rows.{rowCount}
-use Rattle.book.proofs.Counts.{count-le}
 use Rattle.queries.specs.Shown.{rowsCount}
-use Rattle.queries.proofs.Runs.{sum-start, sum-next}
+use Rattle.queries.proofs.Blocks.{rows-in, rows-part}
 use Rattle.queries.proofs.bookings.rows_count.Statement.{statement}
 use Rattle.queries.proofs.bookings.rows_count.Tie as tie
 
-abbrev Inv-loop : tie.InvT-loop
-Inv-loop book g w lo hi n₀ i₀ n i = (lo ≤ i) × (i ≤ hi) × (n ≡ sumFrom (λ k. rowCount g book k w) lo (i - lo)) × (n ≤ 512 * (i - lo))
-
-abbrev μ-loop : tie.MeasureT-loop
-μ-loop book g w lo hi n₀ i₀ n i = hi - i
-
-loop-holds : tie.Need-loop-holds Inv-loop μ-loop
-loop-holds c =
-    let a = c .before .args in
-    (search needs, omega (arith, c .before .pre .1), sum-start (λ k. rowCount (a .g) (a .book .now) k (a .w)) (a .lo), search needs)
-
-row-count-requires : tie.Need-row-count-requires Inv-loop μ-loop
-row-count-requires c κs =
-    let s = c .before .before .before in
-    (s .pre .0, omega (arith, s .pre .1))
-
-add-n : tie.Need-add-n Inv-loop μ-loop
-unfolding rowCount
-add-n c =
-    let s = c .before .before .before .before in
-    let a = s .args in
-    omega (arith, c .row-count .ensures, s .pre .1, count-le (λ j. eqb (cellAt (a .g) (a .book .now) (c .before .before .loop .i) j) (a .w)) 0 (a .g .items))
-
-add-i : tie.Need-add-i Inv-loop μ-loop
-add-i c = omega arith
-
-loop-less : tie.Need-loop-less Inv-loop μ-loop
-loop-less c = omega arith
-
-loop-again : tie.Need-loop-again Inv-loop μ-loop
-unfolding rowCount
-loop-again c =
-    let s = c .before .before .before .before in
-    let a = s .args in
-    let l = c .before .before .loop in (
-      omega arith,
-      omega arith,
-      ap₂ _+_ (l .inv .2) (c .row-count .ensures) ∙ sym (sum-next (λ k. rowCount (a .g) (a .book .now) k (a .w)) (a .lo) (l .i) (l .inv .0)),
-      omega (arith, c .row-count .ensures, s .pre .1, count-le (λ j. eqb (cellAt (a .g) (a .book .now) (l .i) j) (a .w)) 0 (a .g .items)),
-    )
-
-returns : tie.Need-returns Inv-loop μ-loop
+returns : tie.Need-returns
 unfolding rowsCount
 returns c =
-    let a = c .before .before .before .args in
-    let l = c .before .loop in
-    let e : l .i ≡ a .hi = omega arith in
-    l .inv .2 ∙ ap (λ (k : ℕ). sumFrom (λ i. rowCount (a .g) (a .book .now) i (a .w)) (a .lo) (k - a .lo)) e
+    let a = c .before .before .args in
+    let e : a .hi - a .lo ≡ 0 = omega (arith, c .if1 .taken) in
+    sym (ap (sumFrom (λ i. rowCount (a .g) (a .book .now) i (a .w)) (a .lo)) e)
+
+at-requires : tie.Need-at-requires
+at-requires c κs =
+    let s = c .before .before in
+    let f = s .pre .0 in
+    (record { ends = omega (arith, f .ends, f .small); small = omega arith; wide = f .wide }, (omega (arith, s .pre .1 .1, c .if1 .left), omega (arith, s .pre .1 .0)))
+
+sub-end : tie.Need-sub-end
+sub-end c = omega (arith, c .before .before .before .pre .1 .1)
+
+cast-end : tie.Need-cast-end
+cast-end c = search needs
+
+cast-end-2 : tie.Need-cast-end-2
+cast-end-2 c = search needs
+
+mul-end : tie.Need-mul-end
+mul-end c =
+    let s = c .before .before .before .before in
+    let a = s .args in
+    let i = rows-in (a .g) (a .lo) (a .hi) _ (s .pre .1 .0 .0) (s .pre .1 .1 .0) (s .pre .1 .1 .1) (c .before .at .ensures) (length (a .book .now)) (s .pre .0) in
+    omega (arith, i, s .pre .0 .small)
+
+add-end : tie.Need-add-end
+add-end c =
+    let s = c .before .before .before .before in
+    let a = s .args in
+    let i = rows-in (a .g) (a .lo) (a .hi) _ (s .pre .1 .0 .0) (s .pre .1 .1 .0) (s .pre .1 .1 .1) (c .before .at .ensures) (length (a .book .now)) (s .pre .0) in
+    omega (arith, i, s .pre .0 .small)
+
+mul-part-count : tie.Need-mul-part-count
+mul-part-count c =
+    let s = c .before .before .before .before in
+    let a = s .args in
+    let i = rows-in (a .g) (a .lo) (a .hi) _ (s .pre .1 .0 .0) (s .pre .1 .1 .0) (s .pre .1 .1 .1) (c .before .at .ensures) (length (a .book .now)) (s .pre .0) in
+    omega (arith, i, s .pre .0 .small)
+
+sub-part-count : tie.Need-sub-part-count
+sub-part-count c = search needs
+
+part-part-count-start : tie.Need-part-part-count-start
+part-part-count-start c = search needs
+
+part-part-count-end : tie.Need-part-part-count-end
+part-part-count-end c =
+    let s = c .before .before .before .before in
+    let a = s .args in
+    let i = rows-in (a .g) (a .lo) (a .hi) _ (s .pre .1 .0 .0) (s .pre .1 .1 .0) (s .pre .1 .1 .1) (c .before .at .ensures) (length (a .book .now)) (s .pre .0) in
+    omega (arith, i, s .pre .0 .small)
+
+part-count-requires : tie.Need-part-count-requires
+part-count-requires c κs =
+    let s = c .before .before .before .before .before in
+    let a = s .args in
+    let r = c .before .before .at .result in
+    omega (arith, s .pre .0 .small, length-take (r + (a .hi - a .lo) * a .g .items - r) (drop r (a .book .now)), length-drop r (a .book .now))
+
+returns-2 : tie.Need-returns-2
+returns-2 c =
+    let s = c .before .before .before .before .before .before in
+    let a = s .args in
+    let r = c .before .before .before .at in
+    c .part-count .ensures
+    ∙ rows-part (a .g) (a .lo) (a .hi) (r .result) (s .pre .1 .0 .0) (s .pre .1 .1 .0) (s .pre .1 .1 .1) (r .ensures) (a .book .now) (a .w) _
+    (rows-in (a .g) (a .lo) (a .hi) (r .result) (s .pre .1 .0 .0) (s .pre .1 .1 .0) (s .pre .1 .1 .1) (r .ensures) (length (a .book .now)) (s .pre .0)) refl
 
 pub rows-count-spec : {M : Type 1} → statement M
 rows-count-spec =
     tie.close
     (tie.spec
-    Inv-loop
-    μ-loop
-    loop-holds
-    row-count-requires
-    add-n
-    add-i
-    loop-less
-    loop-again
-    returns)
+    returns
+    at-requires
+    sub-end
+    cast-end
+    cast-end-2
+    mul-end
+    add-end
+    mul-part-count
+    sub-part-count
+    part-part-count-start
+    part-part-count-end
+    part-count-requires
+    returns-2)
