@@ -9,10 +9,11 @@ use lib.Dec.{eqb}
 use lib.ListN.{length, getD, take, drop, length-take, length-drop}
 use lib.Seq.{getD-drop, getD-take}
 use Rattle.model.specs.Bounded.{one, sumFrom, count}
+use Rattle.model.proofs.Sums.{sum-agree, sum-split}
 use Rattle.book.specs.declared.grid.Grid.{Grid}
 use Rattle.book.specs.Grids.{Fits, Index, place, cellAt}
 use Rattle.book.specs.Rows.{partCount, rowCount}
-use Rattle.book.proofs.Counts.{sum-same, sum-split, count-same}
+use Rattle.book.proofs.Counts.{count-same}
 use Rattle.queries.specs.Shown.{rowsCount}
 
 sum-shift : (f : ℕ → ℕ) (a i n : ℕ) → sumFrom (λ j. f (a + j)) i n ≡ sumFrom f (a + i) n
@@ -55,7 +56,7 @@ module _ (g : Grid) (lo hi r : ℕ) (e : g .width ≡ 1) (l : lo ≤ hi) (h : hi
       ∙ sum-shift f (lo * g .items) 0 ((hi - lo) * g .items)
       ∙ ap (λ (n : ℕ). sumFrom f n ((hi - lo) * g .items)) (let z : lo * g .items + 0 ≡ lo * g .items = omega arith in z)
       ∙ sym (sum-blocks f (g .items) lo (hi - lo))
-      ∙ sum-same (λ i. sumFrom (λ j. f (i * g .items + j)) 0 (g .items)) (λ i. count (λ j. eqb (getD b (place g i j 0) 0) w) (g .items)) lo (hi - lo)
+      ∙ sum-agree (λ i. sumFrom (λ j. f (i * g .items + j)) 0 (g .items)) (λ i. count (λ j. eqb (getD b (place g i j 0) 0) w) (g .items)) lo (hi - lo)
       (λ i s t. count-same (λ j. eqb (getD b (g .base + (i * g .items + j)) 0) w) (λ j. eqb (getD b (place g i j 0) 0) w) (g .items)
       (λ j u. ap (λ (n : ℕ). eqb (getD b n 0) w) (sym (at-j i j))))
     where
