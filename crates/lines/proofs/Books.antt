@@ -2,9 +2,8 @@
 -- Assumes nothing.
 use Prim.Native.Nat.{ℕ, _+_, _-_, _≤_, _<_}
 use mathlib.Core.Path.{_≡_, refl, sym, _∙_, ap, subst}
-use mathlib.Core.Bool.{Bool, true, false, cond}
-use mathlib.Core.Option.{Option, none, some}
-use mathlib.Core.List.{List, [], _++_}
+use mathlib.Core.Bool.{Bool, true, false}
+use mathlib.Core.List.{List}
 use lib.ListN.{length, take, drop}
 use Rattle.model.specs.declared.Settings.{Settings}
 use Rattle.model.specs.declared.Request.{Request}
@@ -12,21 +11,16 @@ use Rattle.model.specs.declared.Answer.{Answer}
 use Rattle.model.specs.declared.Answer.the-variants.{Done, Refused}
 use Rattle.model.specs.State.{State, emptyState}
 use Rattle.model.specs.Site.{validSettings}
-use Rattle.model.specs.Kinds.{Kind, kindOf}
-use Rattle.model.specs.Kinds.{Kind.addLeave, Kind.endLeave, Kind.removeVisitor, Kind.addHotel, Kind.eraseHotel, Kind.addRide, Kind.eraseRide}
-use Rattle.model.specs.Kinds.{Kind.addStanding, Kind.endStanding, Kind.addAttend, Kind.eraseAttend, Kind.addConf, Kind.eraseConf}
-use Rattle.model.specs.Kinds.{Kind.addLunch, Kind.eraseLunch, Kind.eraseConfAndLunch, Kind.whichMeeting, Kind.countLeave, Kind.seatsLeft, Kind.freeRoom}
-use Rattle.model.specs.Questions.{Refusal, judge, always, further}
-use Rattle.model.specs.Machine.{Outcome, change, finish, stepKind, step, requestOf}
+use Rattle.model.specs.Machine.{step, requestOf}
 use Rattle.model.specs.Words.{words}
 use Rattle.model.specs.Reading.{settingsOf, stateOf, readState}
 use Rattle.model.specs.Calls.{Called, called, freshBook}
 use Rattle.model.specs.Lines.{isFrame, lineWords, lineOutcome}
 use Rattle.model.proofs.Laws.{Sound}
 use Rattle.model.proofs.Sound.{book-sound}
-use Rattle.model.proofs.ReadBack.{valid-is, settings-back, stateOf-words}
+use Rattle.model.proofs.ReadBack.{stateOf-words}
 use Rattle.model.proofs.Shown.{words-stateOf}
-use Rattle.model.proofs.Passes.{well-laid, lawful-words}
+use Rattle.model.proofs.Frame.{step-settings}
 use Rattle.model.proofs.Calls.{step-sound, empty-sound, fresh-words}
 use native.Mathlib.Omega.{arith}
 use Rattle.lines.specs.Frame.{framed}
@@ -37,42 +31,7 @@ use Rattle.lines.specs.declared.line.Framed.{Framed}
 use Rattle.lines.specs.declared.line.Framed.the-variants.{Frame, Other}
 use Rattle.lines.proofs.Framing.{framed-yes, framed-no}
 use Rattle.book.specs.Good.{Good, answered}
-
--- no request changes the settings
-change-settings : (x : State) (r : Request) (k : Kind) → change x r k .settings ≡ x .settings
-unfolding change
-change-settings x r addLeave = refl
-change-settings x r endLeave = refl
-change-settings x r removeVisitor = refl
-change-settings x r addHotel = refl
-change-settings x r eraseHotel = refl
-change-settings x r addRide = refl
-change-settings x r eraseRide = refl
-change-settings x r addStanding = refl
-change-settings x r endStanding = refl
-change-settings x r addAttend = refl
-change-settings x r eraseAttend = refl
-change-settings x r addConf = refl
-change-settings x r eraseConf = refl
-change-settings x r addLunch = refl
-change-settings x r eraseLunch = refl
-change-settings x r eraseConfAndLunch = refl
-change-settings x r whichMeeting = refl
-change-settings x r countLeave = refl
-change-settings x r seatsLeft = refl
-change-settings x r freeRoom = refl
-
-kind-settings : (x : State) (r : Request) (k : Option Kind) → stepKind x r k .state .settings ≡ x .settings
-kind-settings x r none = refl
-kind-settings x r (some k) = go (judge x r k (always ++ further k))
-  where
-    go : (o : Option Refusal) → finish x r k o .state .settings ≡ x .settings
-    go none = change-settings x r k
-    go (some f) = refl
-
-step-settings : (x : State) (r : Request) → step x r .state .settings ≡ x .settings
-unfolding step
-step-settings x r = kind-settings x r (kindOf (r .kind))
+use Rattle.book.proofs.Goods.{good-words}
 
 -- what a line gives
 pub outcome-yes : (x : State) (l : List ℕ) → isFrame l ≡ true → lineOutcome x l ≡ step x (requestOf (lineWords l))
@@ -106,11 +65,7 @@ line-sound : (x : State) (l : List ℕ) (t : Bool) → isFrame l ≡ t → Sound
 line-sound x l true h s = rw (outcome-yes x l h) (step-sound x s (requestOf (lineWords l)), step-settings x (requestOf (lineWords l)))
 line-sound x l false h s = rw (outcome-no x l h) (s, refl)
 
--- the words of a sound state are a good book, which shows the state
-pub good-words : (x : State) → Sound x → Good (x .settings) (words x)
-good-words x s =
-    record { read = sym (settings-back x (valid-is (x .settings) (s .valid))); laid = well-laid x s; lawful = lawful-words x s }
-
+-- a good book is the words of the state that it shows
 pub good-shows : {S : Settings} {b : List ℕ} → Good S b → words (stateOf b) ≡ b
 good-shows {S} {b} h = words-stateOf b (h .laid) (h .lawful)
 

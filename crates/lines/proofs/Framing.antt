@@ -16,6 +16,7 @@ use Rattle.model.specs.declared.Answer.the-variants.{Done, Refused}
 use Rattle.model.specs.Machine.{answerWords, requestOf}
 use Rattle.model.specs.Lines.{isFrame, wordDigits, hexadecimal, lineWords, shown, wholeWords, answerLine}
 use Rattle.model.proofs.Search.{and-left, and-right}
+pub use Rattle.model.proofs.Search.{never as not-so}
 use Rattle.model.proofs.Places.{length-list, getD-list}
 use Rattle.lines.specs.Digits.{digitsOnly}
 use Rattle.lines.specs.Frame.{framed}
@@ -63,11 +64,6 @@ module _ (l : List ℕ) (n : length l ≡ 56) where
   pub is-frame : digitsOnly l ≡ true → isFrame l ≡ true
   unfolding isFrame
   is-frame h = simp (h, n)
-
--- a test that is not true is false
-pub not-so : (t : Bool) → (t ≡ true → ⊥) → t ≡ false
-not-so true h = absurd (h refl)
-not-so false h = refl
 
 pub no-frame : (l : List ℕ) → (isFrame l ≡ true → ⊥) → isFrame l ≡ false
 no-frame l h = not-so (isFrame l) h

@@ -5,20 +5,21 @@ use native.Mathlib.Omega.{arith}
 use mathlib.Core.Path.{_≡_, refl, sym, _∙_, ap}
 use mathlib.Core.Bool.{Bool, true, false, _&&_, cond}
 use mathlib.Core.List.{List, [], _++_, append-nil}
-use lib.Dec.{leb, eqb}
+use lib.Dec.{leb}
 use lib.ListN.{length, take, drop, length-append}
 use lib.Seq.{take-at, length-take-le}
 use borrow.Author.Tests.{le-leb, lt-leb, leb-true, eq-eqb}
 use Rattle.model.specs.declared.Settings.{Settings}
 use Rattle.model.specs.declared.Answer.{Answer}
 use Rattle.model.specs.declared.Answer.the-variants as A
-use Rattle.model.specs.Site.{settingsLength, validSettings}
+use Rattle.model.specs.Site.{validSettings}
 use Rattle.model.specs.State.{State, emptyState}
 use Rattle.model.specs.Words.{bookLength, total, order}
 use Rattle.model.specs.Reading.{settingsOf, stateOf}
 use Rattle.model.specs.Calls.{Called, settingsGood, freshBook, laid, lay}
 use Rattle.model.specs.Lines.{wholeWords, lineWords, answerLine, programWords}
-use Rattle.model.proofs.Search.{and-right, both}
+use Rattle.model.proofs.Search.{never, and-right, both}
+use Rattle.model.proofs.Shows.{good-valid}
 use Rattle.book.specs.Good.{Good, answered}
 use Rattle.book.specs.Heads.{neededLength}
 use Rattle.lines.specs.Digits.{Put}
@@ -27,7 +28,6 @@ use Rattle.lines.specs.Laying.{layable, LaidOf, LaidBy}
 use Rattle.lines.specs.Post.{EndedOf}
 use Rattle.lines.specs.declared.lay.Laid.{Laid}
 use Rattle.lines.specs.declared.lay.Laid.the-variants.{Book, Refused}
-use Rattle.lines.proofs.Framing.{not-so}
 use Rattle.lines.proofs.Whole.{settings-short}
 use Rattle.lines.proofs.Books.{fresh-good}
 use Rattle.lines.proofs.Turns.{put-wrote}
@@ -102,7 +102,7 @@ module _ (l : List ℕ) {b : List ℕ} where
   by-not-whole h = refused-24 (rw h)
 
   pub by-long : 25 < length l / 8 → LaidBy l (Refused 24) b
-  by-long h = refused-24 (not-so (wholeWords l && settingsGood (lineWords l)) (λ e. omega (arith, settings-short l e)))
+  by-long h = refused-24 (never (wholeWords l && settingsGood (lineWords l)) (λ e. omega (arith, settings-short l e)))
 
   pub by-words : {r : Laid} → wholeWords l ≡ true → LaidOf (lineWords l) r b → LaidBy l r b
   by-words h k =
@@ -112,10 +112,6 @@ pub laid-is : {l b : List ℕ} {r q : Laid} → LaidBy l r b → r ≡ q → Lai
 laid-is {l} {b} k e = rw e at k
 
 -- the settings line is over
-good-settings : (w : List ℕ) → settingsGood w ≡ true → validSettings (settingsOf w) ≡ true
-unfolding settingsGood
-good-settings w h = and-right (leb 9 (length w) && eqb (length w) (settingsLength (settingsOf w))) _ h
-
 module _ (l : List ℕ) where
   abbrev S : Settings
   S = settingsOf (lineWords l)
@@ -137,7 +133,7 @@ module _ (l : List ℕ) where
   book-by : {n : ℕ} (t u : Bool) → wholeWords l && settingsGood (lineWords l) ≡ t → leb (bookLength S) programWords ≡ u
       → Book n ≡ cond t (cond u (Book (bookLength S)) (Refused 25)) (Refused 24)
       → (validSettings S ≡ true) × (opened l ≡ silent (later (emptyState S) []))
-  book-by true true h k e = (good-settings (lineWords l) (and-right (wholeWords l) _ h), opened-book h k)
+  book-by true true h k e = (good-valid (lineWords l) (and-right (wholeWords l) _ h), opened-book h k)
   book-by true false h k e = no-book (sym e)
   book-by false u h k e = no-book (sym e)
 

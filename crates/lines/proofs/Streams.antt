@@ -31,7 +31,7 @@ use Rattle.lines.specs.declared.stream.Ended.{Ended}
 use Rattle.lines.proofs.Looking.{all-free, end-leads}
 use Rattle.lines.proofs.Whole.{byte-end, byte-in}
 use Rattle.lines.proofs.Books.{After, after-line}
-use Rattle.lines.proofs.Turns.{grown, Kept, run-free, run-leads, tail-is, put-wrote}
+use Rattle.lines.proofs.Turns.{grown, Kept, later-kept, run-free, run-leads, tail-is, put-wrote}
 
 -- a good book by its own settings
 own : {S : Settings} {b : List ℕ} → Good S b → Good (settingsOf b) b
@@ -126,10 +126,6 @@ rest-over {b} {out} {h} e c m k =
 grown-later : (x : State) (l : List ℕ) → grown (later x []) l ≡ later x (kept l)
 unfolding grown
 grown-later x l = refl
-
-later-kept : (x : State) → Kept (later x [])
-unfolding Kept
-later-kept x = refl
 
 pub rest-later : {last out out′ : List ℕ} {h : Held} {used wrote : ℕ} (b : List ℕ) (e : Ended) (c : List ℕ) → e .more ≡ true → e .size ≤ length b
     → Told (settingsOf (take (e .size) b)) (take (e .size) b) c out (e .wrote) last out′ used wrote

@@ -94,7 +94,7 @@ pub run-leads : (p : Point) (l : List ℕ) (n : ℕ) → Kept p → Leads l n
     → run p l ≡ behind (ended (grown p (take n l)) .out) (run (ended (grown p (take n l)) .point) (drop (n + 1) l))
 run-leads p l n k e = ap (run p) (leads-split l n e) ∙ run-line p (take n l) (drop (n + 1) l) k (e .free)
 
-later-kept : (x : State) → Kept (later x [])
+pub later-kept : (x : State) → Kept (later x [])
 unfolding Kept
 later-kept x = refl
 

@@ -9,10 +9,10 @@ use lib.Dec.{eqb}
 use lib.ListN.{length, getD, take, drop, length-take, length-drop}
 use lib.Seq.{getD-drop, getD-take}
 use Rattle.model.specs.Bounded.{one, sumFrom, count}
+use Rattle.model.proofs.Sums.{sum-agree, sum-split}
 use Rattle.book.specs.declared.grid.Grid.{Grid}
 use Rattle.book.specs.Grids.{Fits, Index, place, cellAt}
 use Rattle.book.specs.Rows.{partCount, rowCount}
-use Rattle.model.proofs.Sums.{sum-agree, sum-split}
 use Rattle.book.proofs.Counts.{count-same}
 use Rattle.queries.specs.Shown.{rowsCount}
 
