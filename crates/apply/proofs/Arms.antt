@@ -81,6 +81,9 @@ module _ {S : Settings} {b : List ℕ} {G : Grids} {r : Request} {k : Kind} (w :
   laid = good-laid (w .good)
 
   -- the bounds of its fields and slots
+  pub order-ok : r .first ≤ r .last
+  order-ok = slots-fit (stateOf b) r k (answers .1 .1 .1 .0) .0
+
   pub slots-ok : r .last < slotsOf S (row k .unit)
   unfolding stateOf readState
   slots-ok = subst (λ (S : Settings). r .last < slotsOf S (row k .unit)) (sym (w .good .read)) (slots-fit (stateOf b) r k (answers .1 .1 .1 .0) .1)

@@ -26,7 +26,8 @@ use Rattle.book.specs.Grids.{gridOf}
 use Rattle.book.proofs.Regions.{group-lt, date-lt}
 use Rattle.book.proofs.Cuts.{between-cuts}
 use Rattle.book.proofs.Goods.{ranges-by}
-use Rattle.apply.specs.Stores.{wordIn, empty, filled, swept, markedAll, OnDates}
+use Rattle.apply.specs.Stores.{wordIn, empty, filled, swept, markedAll}
+use Rattle.book.specs.Units.{OnDates}
 use Rattle.apply.proofs.Writes.{empty-word}
 use Rattle.apply.proofs.Stages.{Frame, Carries, column, rows, bits, up-to, in-slots, last-slot}
 use Rattle.apply.proofs.Contents.{emptied, swept-of, some-less, less-same, turned, turned-bits}

@@ -8,11 +8,10 @@ use lib.Dec.{eqb}
 use lib.ListN.{set}
 use Rattle.apply.specs.declared.cells.Content.{Content}
 use Rattle.book.specs.declared.grid.Grid.{Grid}
-use Rattle.book.specs.declared.units.Slot.{Slot}
 use Rattle.book.specs.declared.units.Slot.the-variants.{Sessions, Times}
 use Rattle.model.specs.declared.Settings.{Settings}
 use Rattle.model.specs.Words.{leaves, hotelCells, attendCells, rideCells}
-use Rattle.book.specs.Units.{Cut}
+use Rattle.book.specs.Units.{OnDates}
 use Rattle.book.specs.Grids.{Fits, place, cellAt, gridOf}
 use Rattle.pool.specs.Pool.{put, clear}
 
@@ -75,11 +74,6 @@ pub record Span (g : Grid) (n last : ℕ) : Type 0 where
   pub fits : Fits g n
   pub narrow : g .width ≤ 3
   pub slot : last < g .slots
-
--- the slots of a unit on the dates first..last are those from `from` to before `to`
-pub record OnDates (S : Settings) (u : Slot) (first last from to : ℕ) : Type 0 where
-  pub begins : Cut S u first from
-  pub ends : Cut S u (last + 1) to
 
 -- kind 3: from b to c, by the times and the sessions of the dates
 pub record Removed (S : Settings) (v first last : ℕ) (b c : List ℕ) : Type 0 where

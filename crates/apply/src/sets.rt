@@ -8,7 +8,7 @@ use book::grid::Grid;
 use book::grid::Grids;
 use book::units::Slot;
 use book::units::date_of_session;
-use book::units::first_on;
+use book::units::slots_on;
 use model::Session;
 use model::Settings;
 ghost use mathlib.Core.Path.{_≡_};
@@ -16,11 +16,8 @@ ghost use Prim.Native.Nat.{_+_, _/_, _≤_, _<_};
 ghost use lib.ListN.{length};
 ghost use mathlib.Core.Bool.{false};
 ghost use Rattle.model.specs.Site.{dateOfSession};
-ghost use Rattle.model.specs.Kinds.{slotsOf};
-ghost use Rattle.book.specs.Ranges.{Ranges};
-ghost use Rattle.book.specs.Units.{unitOf};
 ghost use Rattle.book.specs.Grids.{gridsOf, Laid};
-ghost use Rattle.apply.specs.Stores.{Span, full, empty, filled, swept, markedAll, OnDates, Removed};
+ghost use Rattle.apply.specs.Stores.{Span, full, empty, filled, swept, markedAll, Removed};
 
 // One entry into the cells of an item, with the words beside it.
 pub fn add(
@@ -99,29 +96,12 @@ pub fn erase_conf_and_lunch(book: &mut [u32], s: Settings, g: Grids, b: u32, fir
     take(book, g.lunch, b, from.0, to.0);
 }
 
-// The slots of a unit on the dates first..last: from `from` to before `to`.
-pub struct Run {
-    pub from: u32,
-    pub to: u32,
-}
-
-// They are found by bisection over the date-of function.
-fn slots_on(s: Settings, u: Slot, n: u32, first: u32, last: u32) -> Run
-    requires { ⌜ Ranges s ⌝ }
-    requires { ⌜ n ≡ slotsOf s (unitOf u) ⌝ }
-    requires { ⌜ last < 1000 ⌝ }
-    ensures { λ r. ⌜ OnDates s u first last (r .from) (r .to) ⌝ }
-{
-    let from = first_on(s, u, n, first);
-    let to = first_on(s, u, n, last + 1);
-    Run { from, to }
-}
-
 // Kind 3: the visitor's leave, their hotel rooms on those dates, their rides at the times and their meetings in the sessions on those
 // dates.
 pub fn remove_visitor(book: &mut [u32], s: Settings, g: Grids, v: u32, first: u32, last: u32)
     requires { ⌜ Laid s (now book) ⌝ }
     requires { ⌜ g ≡ gridsOf s ⌝ }
+    requires { ⌜ first ≤ last ⌝ }
     requires { ⌜ last < s .dates ⌝ }
     requires { ⌜ v < s .visitors ⌝ }
     ensures { λ _. ⌜ Removed s v first last (now (book .entry)) (now (book .exit)) ⌝ }
@@ -129,7 +109,8 @@ pub fn remove_visitor(book: &mut [u32], s: Settings, g: Grids, v: u32, first: u3
     turn(book, g.leave, false, v, first, last);
     drop(book, g.hotel, v, first, last);
     let times = slots_on(s, Slot::Times, g.ride.slots, first, last);
-    sweep(book, g.ride, v + 1, times.from, times.to);
+    let rides = g.ride;
+    sweep(book, rides, v + 1, times.from, times.to);
     let sessions = slots_on(s, Slot::Sessions, g.attend.slots, first, last);
     fill(book, g.attend, v, EMPTY, sessions.from, sessions.to);
 }

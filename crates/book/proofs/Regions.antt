@@ -1,12 +1,12 @@
 -- The regions as grids: each starts where the one before ends, all lie in the book, and their numbers are small.
 -- Assumes nothing.
-use Prim.Native.Nat.{ℕ, suc, _+_, _*_, _/_, _-_, _≤_, _<_}
+use Prim.Native.Nat.{ℕ, _+_, _*_, _/_, _-_, _≤_, _<_}
 use native.Mathlib.Nat.{mul-le-mul, div-lt-iff-lt-mul}
 use Rattle.book.specs.declared.units.Slot.{Slot}
 use Rattle.book.specs.declared.units.Slot.the-variants.{Dates, Sessions, Times}
 use Rattle.model.specs.Kinds.{slotsOf, dateOf}
 use native.Mathlib.Omega.{arith}
-use mathlib.Core.Path.{_≡_, refl, sym, _∙_, ap}
+use mathlib.Core.Path.{_≡_, ap}
 use mathlib.Core.List.{List}
 use lib.ListN.{length}
 use Rattle.book.specs.declared.grid.Grid.{Grid}
@@ -17,7 +17,7 @@ use Rattle.model.specs.declared.Settings.{Settings}
 use Rattle.book.specs.Ranges.{Ranges}
 use Rattle.model.specs.Site.{allSessions, allTimes}
 use Rattle.model.specs.Words.{Region, leaves, hotelCells, standings, attendCells, confPairs, lunchTriples, rideCells}
-use Rattle.model.specs.Words.{base, slots, items, width, size, bookLength, total, before, order}
+use Rattle.model.specs.Words.{base, slots, items, width, size, bookLength}
 
 pub all-sessions : (S : Settings) → Ranges S → allSessions S ≤ 6400
 all-sessions S h = mul-le-mul {n₂ = 400} {m₂ = 16} (h .dates .1) (h .sessions .1)

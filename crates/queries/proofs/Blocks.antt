@@ -1,6 +1,6 @@
 -- Rows of one-word cells stand one behind the other: their counts are the count of one part of the book.
 -- Assumes nothing.
-use Prim.Native.Nat.{ℕ, zero, suc, _+_, _*_, _-_, _≤_, _<_}
+use Prim.Native.Nat.{ℕ, zero, suc, _+_, _*_, _-_, _≤_}
 use mathlib.Core.Path.{_≡_, refl, sym, _∙_, ap, ap₂}
 use mathlib.Core.List.{List}
 use native.Mathlib.Nat.{mul-one, add-mul, mul-le-mul-right}

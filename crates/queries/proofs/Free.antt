@@ -1,21 +1,20 @@
 -- Rooms free in a run of sessions, and meetings that stand in some session of a date.
 -- Assumes nothing.
-use Prim.Native.Nat.{ℕ, suc, _+_, _-_, _≤_, _<_}
+use Prim.Native.Nat.{ℕ, _+_, _-_, _≤_, _<_}
 use mathlib.Core.Path.{_≡_, refl, sym, _∙_, ap, subst}
 use mathlib.Core.Bool.{Bool, true, false, not, _&&_}
 use mathlib.Core.Option.{Option, none, some}
 use mathlib.Core.List.{List}
 use native.Mathlib.Omega.{arith}
 use lib.Dec.{leb, ltb, eqb}
-use borrow.Author.Tests.{eq-eqb, eqb-true, le-leb, lt-ltb, leb-true, ltb-true, leb-false}
+use borrow.Author.Tests.{eq-eqb, eqb-true, le-leb, lt-ltb, leb-true, ltb-true}
 use Rattle.model.specs.declared.Settings.{Settings}
-use Rattle.model.specs.Bounded.{lowest, isSome, any, failing, within}
+use Rattle.model.specs.Bounded.{isSome, any, failing}
 use Rattle.model.specs.Site.{allSessions, dateOfSession}
 use Rattle.model.specs.State.{State}
-use Rattle.model.specs.Kinds.{dateOf, slotsOf}
 use Rattle.model.specs.Questions.{lowestFree, standsOn}
 use Rattle.model.specs.Reading.{stateOf, readState}
-use Rattle.model.proofs.Search.{lowest-by, lowest-is, Lowest, true-any, false-any, none-failing, failing-none, and-true, and-left, and-right, within-true, true-within, both}
+use Rattle.model.proofs.Search.{lowest-by, any-true, any-false, true-any, false-any, none-failing, failing-none, and-true, and-left, and-right, within-true, true-within, both}
 use Rattle.book.specs.declared.found.Found.the-variants.{At, Nothing}
 use Rattle.book.specs.declared.units.Slot.the-variants.{Sessions}
 use Rattle.book.specs.Founds.{foundOf}
@@ -90,3 +89,30 @@ module _ (S : Settings) (b : List ℕ) (good : Good S b) (d m lo hi : ℕ) (low 
   date-no =
       stands-no (stateOf b) d m lo hi (subst (λ (S : Settings). Cut S Sessions d lo) settings-are low)
       (subst (λ (S : Settings). Cut S Sessions (d + 1) hi) settings-are high)
+
+  -- asked of the sessions between the cuts
+  pub date-any : any (λ i. leb lo i && stateOf b .standing i m) hi ≡ standsOn (stateOf b) d m
+  date-any = go (any at hi) refl
+    where
+      at : ℕ → Bool
+      at i = leb lo i && stateOf b .standing i m
+
+      off : (s : ℕ) → leb lo s ≡ true → at s ≡ false → stateOf b .standing s m ≡ false
+      off s e f = sym (ap (λ (t : Bool). t && stateOf b .standing s m) e) ∙ f
+
+      go : (t : Bool) → any at hi ≡ t → any at hi ≡ standsOn (stateOf b) d m
+      go true q =
+          let w : (k : ℕ) × (k < hi) × (at k ≡ true) = any-true at hi q in
+          q ∙ date-yes (w .0) (leb-true lo (w .0) (and-left (leb lo (w .0)) (stateOf b .standing (w .0) m) (w .2))) (w .1) (and-right (leb lo (w .0)) (stateOf b .standing (w .0) m) (w .2))
+      go false q = q ∙ date-no (λ s l k. off s (le-leb lo s l) (any-false at hi q s k))
+
+-- sessions from lo on, before hi
+pub between-yes : (t : ℕ → Bool) (lo hi i : ℕ) → lo ≤ i → i < hi → t i ≡ true → true ≡ any (λ i. leb lo i && t i) hi
+between-yes t lo hi i l h e = sym (true-any (λ i. leb lo i && t i) hi i h (and-true (le-leb lo i l) e))
+
+pub between-no : (t : ℕ → Bool) (lo hi : ℕ) → ((k : ℕ) → lo ≤ k → k < hi → t k ≡ false) → false ≡ any (λ i. leb lo i && t i) hi
+between-no t lo hi h = sym (false-any (λ i. leb lo i && t i) hi (λ k g. go k g (leb lo k) refl))
+  where
+    go : (k : ℕ) → k < hi → (b : Bool) → leb lo k ≡ b → leb lo k && t k ≡ false
+    go k g false q = rw q
+    go k g true q = rw q (h k (leb-true lo k q) g)

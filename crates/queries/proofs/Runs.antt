@@ -25,7 +25,7 @@ use Rattle.book.specs.declared.units.Slot.the-variants.{Sessions, Times}
 use Rattle.book.specs.Grids.{cellAt, gridOf, place, Index}
 use Rattle.book.specs.Rows.{rowCount}
 use Rattle.book.specs.Good.{Good}
-use Rattle.book.specs.Units.{Cut}
+use Rattle.book.specs.Units.{OnDates}
 use Rattle.book.proofs.Counts.{sum-part, count-same, count-le}
 use Rattle.book.proofs.Cuts.{between-cuts}
 use Rattle.book.proofs.Entries.{booked-eqb}
@@ -74,19 +74,19 @@ module _ (t : ℕ → Bool) (q : ℕ → ℕ → Bool) (f : ℕ → ℕ) (lo hi 
       off : (i : ℕ) → hi ≤ i → leb lo i && ltb i hi ≡ false
       off i k = rw (le-leb lo i (omega arith), le-ltb i hi k)
 
--- a later date's cut is no lower
-pub cut-order : (S : Settings) (u : Slot) (d e lo hi : ℕ) → Cut S u d lo → Cut S u e hi → d ≤ e → lo ≤ hi
-cut-order S u d e lo hi a b h = go (leb lo hi) refl
+-- the slots of a run of dates begin no later than they end
+pub run-order : (S : Settings) (u : Slot) (first last from to : ℕ) → OnDates S u first last from to → first ≤ last → from ≤ to
+run-order S u first last from to r h = go (leb from to) refl
   where
-    go : (t : Bool) → leb lo hi ≡ t → lo ≤ hi
-    go true q = leb-true lo hi q
+    go : (t : Bool) → leb from to ≡ t → from ≤ to
+    go true q = leb-true from to q
     go false q =
-        let l : hi < lo = leb-false lo hi q in
-        absurd (omega (arith, a .before hi l, b .after hi (omega arith) (omega (arith, a .most)), h))
+        let l : to < from = leb-false from to q in
+        absurd (omega (arith, r .begins .before to l, r .ends .after to (omega arith) (omega (arith, r .begins .most)), h))
 
--- the bookings of a visitor on a run of dates, by the cuts of times and sessions
+-- the bookings of a visitor on a run of dates, by its times and sessions
 module _ (S : Settings) (b : List ℕ) (good : Good S b) (v from to t0 t1 s0 s1 : ℕ) (hv : v < S .visitors) (hf : from ≤ to) (ht : to < S .dates)
-    (ta : Cut S Times from t0) (tb : Cut S Times (to + 1) t1) (sa : Cut S Sessions from s0) (sb : Cut S Sessions (to + 1) s1) where
+    (rt : OnDates S Times from to t0 t1) (rs : OnDates S Sessions from to s0 s1) where
   abbrev x : State
   x = readState S b
 
@@ -100,27 +100,26 @@ module _ (S : Settings) (b : List ℕ) (good : Good S b) (v from to t0 t1 s0 s1 
       last : (d : ℕ) → leb d to ≡ ltb d (to + 1)
       last d = bool-eq _ _ (λ e. lt-ltb d (to + 1) (omega (arith, leb-true d to e))) (λ e. le-leb d to (omega (arith, ltb-true d (to + 1) e)))
 
-  taxis : t0 ≤ t1 → count2 (λ t k. within from to (dateOfTime S t) && x .ride t k v) (allTimes S) (S .transports) ≡ rowsCount (gridOf S rideCells) b (v + 1) t0 t1
+  taxis : count2 (λ t k. within from to (dateOfTime S t) && x .ride t k v) (allTimes S) (S .transports) ≡ rowsCount (gridOf S rideCells) b (v + 1) t0 t1
   unfolding rowsCount rowCount
-  taxis l =
+  taxis =
       count-run (λ t. within from to (dateOfTime S t)) (λ t k. booked x rides t k v) (λ t. rowCount (gridOf S rideCells) b t (v + 1)) t0 t1 (allTimes S) (S .transports)
-      l (tb .most) (λ t k. between-cuts S Times from to t0 t1 ta tb t k)
+      (run-order S Times from to t0 t1 rt hf) (rt .ends .most) (λ t k. between-cuts S Times from to t0 t1 (rt .begins) (rt .ends) t k)
       (λ t k. count-same (λ r. booked x rides t r v) (λ r. eqb (cellAt (gridOf S rideCells) b t r) (v + 1)) (S .transports) (λ r g. booked-eqb S b rides t k g hv))
 
-  seated : s0 ≤ s1 → count2 (λ s m. within from to (dateOfSession S s) && x .attend s m v) (allSessions S) (S .meetings) ≡ columnCount (gridOf S attendCells) b v s0 s1
+  seated : count2 (λ s m. within from to (dateOfSession S s) && x .attend s m v) (allSessions S) (S .meetings) ≡ columnCount (gridOf S attendCells) b v s0 s1
   unfolding columnCount
-  seated l =
+  seated =
       count-run (λ s. within from to (dateOfSession S s)) (λ s m. booked x attends s m v) (λ s. one (not (eqb (cellAt (gridOf S attendCells) b s v) 0))) s0 s1 (allSessions S) (S .meetings)
-      l (sb .most) (λ s k. between-cuts S Sessions from to s0 s1 sa sb s k)
+      (run-order S Sessions from to s0 s1 rs hf) (rs .ends .most) (λ s k. between-cuts S Sessions from to s0 s1 (rs .begins) (rs .ends) s k)
       (λ s k. count-same (λ m. booked x attends s m v) (λ m. eqb (cellAt (gridOf S attendCells) b s v) (m + 1)) (S .meetings) (λ m g. booked-eqb S b attends s k g hv)
       ∙ count-cell (cellAt (gridOf S attendCells) b s v) (S .meetings) (good-cell good attends s v k hv))
 
-  pub bookings-is : t0 ≤ t1 → s0 ≤ s1
-      → rowsCount (gridOf S hotelCells) b (v + 1) from (to + 1) + rowsCount (gridOf S rideCells) b (v + 1) t0 t1 + columnCount (gridOf S attendCells) b v s0 s1
+  pub bookings-is :
+      rowsCount (gridOf S hotelCells) b (v + 1) from (to + 1) + rowsCount (gridOf S rideCells) b (v + 1) t0 t1 + columnCount (gridOf S attendCells) b v s0 s1
       ≡ bookings (stateOf b) v from to
   unfolding bookings readState
-  bookings-is l k =
-      rw (good-state good) (sym (ap₂ _+_ (ap₂ _+_ nights (taxis l)) (seated k)))
+  bookings-is = rw (good-state good) (sym (ap₂ _+_ (ap₂ _+_ nights taxis) seated))
 
 -- the members of a date are the bits of its row
 module _ (S : Settings) (b : List ℕ) (good : Good S b) (d r : ℕ) (h : d < S .dates) (at : Index (gridOf S leaves) d 0 r) where

@@ -4,13 +4,14 @@ use book::grid::Grid;
 use book::grid::Grids;
 use book::grid::at;
 use book::grid::cell;
+use book::grid::grids_of;
 use book::rows::part_count;
 use book::units::Slot;
-use book::units::first_on;
+use book::units::slots_on;
 use model::Settings;
 ghost use mathlib.Core.Path.{_≡_};
-ghost use Prim.Native.Nat.{_≤_, _<_};
-ghost use mathlib.Core.Bool.{not};
+ghost use Prim.Native.Nat.{ℕ, _≤_, _<_};
+ghost use mathlib.Core.Bool.{false, not};
 ghost use lib.Dec.{eqb};
 ghost use lib.ListN.{length};
 ghost use Rattle.model.specs.Bounded.{one};
@@ -69,46 +70,44 @@ fn entries(book: &[u32], s: Settings, g: Grids, visitor: u32, from: u32, to: u32
     requires { ⌜ to < s .dates ⌝ }
     ensures { λ r. ⌜ r ≡ bookingsIn (stateOf (now (book .entry))) visitor from to ⌝ }
 {
-    let times = g.ride.slots;
-    let sessions = g.attend.slots;
-    let t0 = first_on(s, Slot::Times, times, from);
-    let t1 = first_on(s, Slot::Times, times, to + 1);
-    let s0 = first_on(s, Slot::Sessions, sessions, from);
-    let s1 = first_on(s, Slot::Sessions, sessions, to + 1);
+    let times = slots_on(s, Slot::Times, g.ride.slots, from, to);
+    let sessions = slots_on(s, Slot::Sessions, g.attend.slots, from, to);
     let nights = rows_count(book, g.hotel, visitor + 1, from, to + 1);
-    let rides = rows_count(book, g.ride, visitor + 1, t0, t1);
-    let meetings = column_count(book, g.attend, visitor, s0, s1);
+    let rides = rows_count(book, g.ride, visitor + 1, times.from, times.to);
+    let meetings = column_count(book, g.attend, visitor, sessions.from, sessions.to);
     nights + rides + meetings
 }
 
-// The entries of the visitor on one date: there are none without leave.
-fn on_date(book: &[u32], s: Settings, g: Grids, visitor: u32, date: u32) -> u32
+// Has the visitor leave on some date of from..to?
+fn some_leave(book: &[u32], s: Settings, g: Grids, visitor: u32, from: u32, to: u32) -> bool
     requires { ⌜ Good s (now book) ⌝ }
     requires { ⌜ g ≡ gridsOf s ⌝ }
     requires { ⌜ visitor < s .visitors ⌝ }
-    requires { ⌜ date < s .dates ⌝ }
-    ensures { λ r. ⌜ r ≡ bookingsIn (stateOf (now (book .entry))) visitor date date ⌝ }
+    requires { ⌜ to < s .dates ⌝ }
+    ensures { λ r. ⌜ (r ≡ false → (d : ℕ) → from ≤ d → d ≤ to → stateOf (now (book .entry)) .leave d visitor ≡ false) ⌝ }
 {
-    if !on_leave(book, s, g, Slot::Dates, date, visitor) {
-        return 0;
+    let mut date = from;
+    while date <= to {
+        if on_leave(book, s, g, Slot::Dates, date, visitor) {
+            return true;
+        }
+        date += 1;
     }
-    entries(book, s, g, visitor, date, date)
+    false
 }
 
-// The entries of the visitor on the dates from..to.
-pub fn bookings(book: &[u32], s: Settings, g: Grids, visitor: u32, from: u32, to: u32) -> u32
+// The entries of the visitor on the dates from..to: there are none without leave. The grids are computed here, where few products are
+// needed: a copy of all seven for the call would cost more.
+pub fn bookings(book: &[u32], s: Settings, visitor: u32, from: u32, to: u32) -> u32
     requires { ⌜ Good s (now book) ⌝ }
-    requires { ⌜ g ≡ gridsOf s ⌝ }
     requires { ⌜ visitor < s .visitors ⌝ }
     requires { ⌜ from ≤ to ⌝ }
     requires { ⌜ to < s .dates ⌝ }
     ensures { λ r. ⌜ r ≡ bookingsIn (stateOf (now (book .entry))) visitor from to ⌝ }
 {
-    let mut n = on_date(book, s, g, visitor, from);
-    let mut date = from;
-    while date < to {
-        date += 1;
-        n += on_date(book, s, g, visitor, date);
+    let g = grids_of(s);
+    if !some_leave(book, s, g, visitor, from, to) {
+        return 0;
     }
-    n
+    entries(book, s, g, visitor, from, to)
 }

@@ -13,12 +13,13 @@ use Rattle.model.specs.Words.{leaves, hotelCells, standings, attendCells, confP
 use Rattle.book.specs.declared.grid.Grids.{Grids}
 use Rattle.book.specs.declared.units.Slot.the-variants.{Sessions, Times}
 use Rattle.book.proofs.Regions.{group-lt}
-use Rattle.apply.specs.Stores.{full, empty, filled, swept, markedAll, OnDates}
+use Rattle.apply.specs.Stores.{full, empty, filled, swept, markedAll}
+use Rattle.book.specs.Units.{OnDates}
 use Rattle.apply.proofs.Columns.{write-addHotel, write-eraseHotel, write-addRide, write-eraseRide, write-addAttend, write-eraseAttend}
 use Rattle.apply.proofs.Columns.{write-addConf, write-addLunch, write-eraseLunch}
 use Rattle.apply.proofs.Erasures.{write-addLeave, write-endLeave, write-removeVisitor, write-addStanding, write-endStanding, write-eraseConf}
 use Rattle.apply.proofs.Erasures.{write-eraseConfAndLunch}
-use Rattle.apply.proofs.Arms.{Known, laid, slots-ok, a-ok, b-ok, span, item, arm, unchanged}
+use Rattle.apply.proofs.Arms.{Known, laid, order-ok, slots-ok, a-ok, b-ok, span, item, arm, unchanged}
 use borrow.Author.Needs.{needs}
 use Rattle.apply.proofs.apply.Statement.{statement}
 use Rattle.apply.proofs.apply.Tie as tie
@@ -51,7 +52,7 @@ remove-visitor-requires c κs = let s = c .before .before .before in
     let a = s .args in
     let w : Known (a .s) (a .book .now) (a .g) (a .r) removeVisitor
     = record { good = s .pre .0; grids = s .pre .1 .0; done = s .pre .1 .1; kind = ap kindOf (c .before .match .keys3) } in
-    (laid w, (s .pre .1 .0, (slots-ok w, b-ok w (a .s .visitors) refl)))
+    (laid w, (s .pre .1 .0, (order-ok w, (slots-ok w, b-ok w (a .s .visitors) refl))))
 
 add-requires : tie.Need-add-requires
 unfolding kindOf

@@ -1,7 +1,6 @@
-use Rattle.book.proofs.Cells.{Bound, cell-room, wide-le}
+use Rattle.book.proofs.Cells.{cell-room, wide-le}
 use native.Mathlib.Omega.{arith}
-use mathlib.Core.Path.{_≡_}
-use Prim.Native.Nat.{ℕ, _+_, _*_}
+use Prim.Native.Nat.{_*_}
 use borrow.Author.Needs.{needs}
 use Rattle.book.proofs.grid.at.Statement.{statement}
 use Rattle.book.proofs.grid.at.Tie as tie

@@ -1,5 +1,4 @@
 use Rattle.book.specs.Grids.{cellAt}
-use mathlib.Core.Path.{refl}
 use borrow.Author.Needs.{needs}
 use Rattle.book.proofs.grid.cell.Statement.{statement}
 use Rattle.book.proofs.grid.cell.Tie as tie

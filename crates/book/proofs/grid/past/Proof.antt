@@ -1,7 +1,5 @@
 use Rattle.book.proofs.Regions.{product3}
 use native.Mathlib.Omega.{arith}
-use native.Mathlib.Nat.{mul-le-mul}
-use Prim.Native.Nat.{ℕ, _+_, _*_, _≤_}
 use borrow.Author.Needs.{needs}
 use Rattle.book.proofs.grid.past.Statement.{statement}
 use Rattle.book.proofs.grid.past.Tie as tie

@@ -8,135 +8,106 @@ use Rattle.book.specs.declared.units.Slot.the-variants.{Sessions, Times}
 use Rattle.book.specs.Grids.{gridOf}
 use Rattle.book.proofs.Regions.{fits, all-sessions, all-times}
 use Rattle.book.proofs.Goods.{good-laid}
-use Rattle.queries.proofs.Runs.{rows-le, column-le, cut-order, bookings-is}
+use Rattle.queries.proofs.Runs.{rows-le, column-le, run-order, bookings-is}
 use Rattle.queries.proofs.bookings.entries.Statement.{statement}
 use Rattle.queries.proofs.bookings.entries.Tie as tie
 
-first-on-requires : tie.Need-first-on-requires
-first-on-requires c κs =
+slots-on-requires : tie.Need-slots-on-requires
+slots-on-requires c κs =
     let s = c .before in
-    (good-laid (s .pre .0) .ranges, rw (s .pre .1 .0) refl)
+    let l = good-laid (s .pre .0) in
+    (l .ranges, (rw (s .pre .1 .0) refl, (s .pre .1 .1 .1 .0, omega (arith, l .ranges .dates, s .pre .1 .1 .1 .1))))
 
-add-first-on : tie.Need-add-first-on
-add-first-on c = omega (arith, good-laid (c .before .before .pre .0) .ranges .dates)
-
-first-on-requires-2 : tie.Need-first-on-requires-2
-first-on-requires-2 c κs =
+slots-on-requires-2 : tie.Need-slots-on-requires-2
+slots-on-requires-2 c κs =
     let s = c .before .before in
-    (good-laid (s .pre .0) .ranges, rw (s .pre .1 .0) refl)
-
-first-on-requires-3 : tie.Need-first-on-requires-3
-first-on-requires-3 c κs =
-    let s = c .before .before .before in
-    (good-laid (s .pre .0) .ranges, rw (s .pre .1 .0) refl)
-
-add-first-on-2 : tie.Need-add-first-on-2
-add-first-on-2 c = omega (arith, good-laid (c .before .before .before .before .pre .0) .ranges .dates)
-
-first-on-requires-4 : tie.Need-first-on-requires-4
-first-on-requires-4 c κs =
-    let s = c .before .before .before .before in
-    (good-laid (s .pre .0) .ranges, rw (s .pre .1 .0) refl)
+    let l = good-laid (s .pre .0) in
+    (l .ranges, (rw (s .pre .1 .0) refl, (s .pre .1 .1 .1 .0, omega (arith, l .ranges .dates, s .pre .1 .1 .1 .1))))
 
 add-rows-count : tie.Need-add-rows-count
-add-rows-count c = omega (arith, good-laid (c .before .before .before .before .before .pre .0) .ranges .visitors)
+add-rows-count c = omega (arith, good-laid (c .before .before .before .pre .0) .ranges .visitors)
 
 add-rows-count-2 : tie.Need-add-rows-count-2
-add-rows-count-2 c = omega (arith, good-laid (c .before .before .before .before .before .pre .0) .ranges .dates)
+add-rows-count-2 c = omega (arith, good-laid (c .before .before .before .pre .0) .ranges .dates)
 
 rows-count-requires : tie.Need-rows-count-requires
 rows-count-requires c κs =
-    let s = c .before .before .before .before .before in
+    let s = c .before .before .before in
     let l = good-laid (s .pre .0) in
     (rw (s .pre .1 .0) (fits (s .args .s) (s .args .book .now) l hotelCells), (rw (s .pre .1 .0) (refl, l .ranges .hotels .0), rw (s .pre .1 .0) (omega arith, omega arith)))
 
 add-rows-count-3 : tie.Need-add-rows-count-3
-add-rows-count-3 c = omega (arith, good-laid (c .before .before .before .before .before .before .pre .0) .ranges .visitors)
+add-rows-count-3 c = omega (arith, good-laid (c .before .before .before .before .pre .0) .ranges .visitors)
 
 rows-count-requires-2 : tie.Need-rows-count-requires-2
 rows-count-requires-2 c κs =
-    let s = c .before .before .before .before .before .before in
+    let s = c .before .before .before .before in
     let l = good-laid (s .pre .0) in
-    let lo = c .before .before .before .before .first-on in
-    let hi = c .before .before .before .first-on2 in (
+    let t = c .before .before .slots-on .ensures in (
       rw (s .pre .1 .0) (fits (s .args .s) (s .args .book .now) l rideCells),
-      (rw (s .pre .1 .0) (refl, l .ranges .transports .0), rw (s .pre .1 .0) (cut-order (s .args .s) Times (s .args .from) (s .args .to + 1) _ _ (lo .ensures) (hi .ensures) (omega arith), hi .ensures .most)),
+      (rw (s .pre .1 .0) (refl, l .ranges .transports .0), rw (s .pre .1 .0) (run-order (s .args .s) Times _ _ _ _ t (s .pre .1 .1 .1 .0), t .ends .most)),
     )
 
 column-count-requires : tie.Need-column-count-requires
 column-count-requires c κs =
-    let s = c .before .before .before .before .before .before .before in
+    let s = c .before .before .before .before .before in
     let l = good-laid (s .pre .0) in
-    let lo = c .before .before .before .first-on3 in
-    let hi = c .before .before .first-on4 in (
+    let p = c .before .before .slots-on2 .ensures in (
       rw (s .pre .1 .0) (fits (s .args .s) (s .args .book .now) l attendCells),
       (
         rw (s .pre .1 .0) (s .pre .1 .1 .0),
-        rw (s .pre .1 .0) (cut-order (s .args .s) Sessions (s .args .from) (s .args .to + 1) _ _ (lo .ensures) (hi .ensures) (omega arith), hi .ensures .most, omega (arith, all-sessions (s .args .s) (l .ranges))),
+        rw (s .pre .1 .0) (run-order (s .args .s) Sessions _ _ _ _ p (s .pre .1 .1 .1 .0), p .ends .most, omega (arith, all-sessions (s .args .s) (l .ranges))),
       ),
     )
 
 add-result : tie.Need-add-result
 add-result c =
-    let s = c .before .before .before .before .before .before .before .before in
+    let s = c .before .before .before .before .before .before in
     let a = s .args in
     let l = good-laid (s .pre .0) in
+    let t = c .before .before .before .before .slots-on in
+    let p = c .before .before .before .slots-on2 in
     let e1 = rw (s .pre .1 .0) at (c .before .before .rows-count .ensures) in
     let e2 = rw (s .pre .1 .0) at (c .before .rows-count2 .ensures) in
     let e3 = rw (s .pre .1 .0) at (c .column-count .ensures) in
-    let t = all-times (a .s) (l .ranges) in
-    let p = all-sessions (a .s) (l .ranges) in
-    let th = c .before .before .before .before .before .first-on2 .ensures .most in
-    let sh = c .before .before .before .first-on4 .ensures .most in
     let k1 = rows-le (gridOf (a .s) hotelCells) (a .book .now) (a .visitor + 1) (a .from) (a .to + 1) (omega (arith, l .ranges .hotels)) in
-    let k2 = rows-le (gridOf (a .s) rideCells) (a .book .now) (a .visitor + 1) (c .before .before .before .before .before .before .first-on .result) (c .before .before .before .before .before .first-on2 .result) (omega (arith, l .ranges .transports)) in
-    let k3 = column-le (gridOf (a .s) attendCells) (a .book .now) (a .visitor) (c .before .before .before .before .first-on3 .result) (c .before .before .before .first-on4 .result) in
-    omega (arith, e1, e2, e3, k1, k2, k3, t, p, th, sh, l .ranges .dates)
+    let k2 = rows-le (gridOf (a .s) rideCells) (a .book .now) (a .visitor + 1) (t .result .from) (t .result .to) (omega (arith, l .ranges .transports)) in
+    let k3 = column-le (gridOf (a .s) attendCells) (a .book .now) (a .visitor) (p .result .from) (p .result .to) in
+    omega (arith, e1, e2, e3, k1, k2, k3, all-times (a .s) (l .ranges), all-sessions (a .s) (l .ranges), t .ensures .ends .most, p .ensures .ends .most, l .ranges .dates)
 
 add-result-2 : tie.Need-add-result-2
 add-result-2 c =
-    let s = c .before .before .before .before .before .before .before .before in
+    let s = c .before .before .before .before .before .before in
     let a = s .args in
     let l = good-laid (s .pre .0) in
+    let t = c .before .before .before .before .slots-on in
+    let p = c .before .before .before .slots-on2 in
     let e1 = rw (s .pre .1 .0) at (c .before .before .rows-count .ensures) in
     let e2 = rw (s .pre .1 .0) at (c .before .rows-count2 .ensures) in
     let e3 = rw (s .pre .1 .0) at (c .column-count .ensures) in
-    let t = all-times (a .s) (l .ranges) in
-    let p = all-sessions (a .s) (l .ranges) in
-    let th = c .before .before .before .before .before .first-on2 .ensures .most in
-    let sh = c .before .before .before .first-on4 .ensures .most in
     let k1 = rows-le (gridOf (a .s) hotelCells) (a .book .now) (a .visitor + 1) (a .from) (a .to + 1) (omega (arith, l .ranges .hotels)) in
-    let k2 = rows-le (gridOf (a .s) rideCells) (a .book .now) (a .visitor + 1) (c .before .before .before .before .before .before .first-on .result) (c .before .before .before .before .before .first-on2 .result) (omega (arith, l .ranges .transports)) in
-    let k3 = column-le (gridOf (a .s) attendCells) (a .book .now) (a .visitor) (c .before .before .before .before .first-on3 .result) (c .before .before .before .first-on4 .result) in
-    omega (arith, e1, e2, e3, k1, k2, k3, t, p, th, sh, l .ranges .dates)
+    let k2 = rows-le (gridOf (a .s) rideCells) (a .book .now) (a .visitor + 1) (t .result .from) (t .result .to) (omega (arith, l .ranges .transports)) in
+    let k3 = column-le (gridOf (a .s) attendCells) (a .book .now) (a .visitor) (p .result .from) (p .result .to) in
+    omega (arith, e1, e2, e3, k1, k2, k3, all-times (a .s) (l .ranges), all-sessions (a .s) (l .ranges), t .ensures .ends .most, p .ensures .ends .most, l .ranges .dates)
 
 returns : tie.Need-returns
 returns c =
-    let s = c .before .before .before .before .before .before .before .before in
+    let s = c .before .before .before .before .before .before in
     let a = s .args in
-    let t0 = c .before .before .before .before .before .before .first-on in
-    let t1 = c .before .before .before .before .before .first-on2 in
-    let s0 = c .before .before .before .before .first-on3 in
-    let s1 = c .before .before .before .first-on4 in
+    let t = c .before .before .before .before .slots-on .ensures in
+    let p = c .before .before .before .slots-on2 .ensures in
     let e1 = rw (s .pre .1 .0) at (c .before .before .rows-count .ensures) in
     let e2 = rw (s .pre .1 .0) at (c .before .rows-count2 .ensures) in
     let e3 = rw (s .pre .1 .0) at (c .column-count .ensures) in
     ap₂ _+_ (ap₂ _+_ e1 e2) e3
-    ∙ bookings-is (a .s) (a .book .now) (s .pre .0) (a .visitor) (a .from) (a .to) _ _ _ _ (s .pre .1 .1 .0) (s .pre .1 .1 .1 .0) (s .pre .1 .1 .1 .1)
-    (t0 .ensures) (t1 .ensures) (s0 .ensures) (s1 .ensures)
-    (cut-order (a .s) Times (a .from) (a .to + 1) _ _ (t0 .ensures) (t1 .ensures) (omega arith))
-    (cut-order (a .s) Sessions (a .from) (a .to + 1) _ _ (s0 .ensures) (s1 .ensures) (omega arith))
+    ∙ bookings-is (a .s) (a .book .now) (s .pre .0) (a .visitor) (a .from) (a .to) _ _ _ _ (s .pre .1 .1 .0) (s .pre .1 .1 .1 .0) (s .pre .1 .1 .1 .1) t p
 
 pub entries-spec : {M : Type 1} → statement M
 entries-spec =
     tie.close
     (tie.spec
-    first-on-requires
-    add-first-on
-    first-on-requires-2
-    first-on-requires-3
-    add-first-on-2
-    first-on-requires-4
+    slots-on-requires
+    slots-on-requires-2
     add-rows-count
     add-rows-count-2
     rows-count-requires

@@ -1,6 +1,6 @@
 -- `bookings::rows_count` meets its contract: the rows are one part of the book.
 -- Assumes nothing.
-use Prim.Native.Nat.{ℕ, _+_, _*_, _-_}
+use Prim.Native.Nat.{_+_, _*_, _-_}
 use mathlib.Core.Path.{_≡_, refl, sym, _∙_, ap}
 use native.Mathlib.Omega.{arith}
 use lib.ListN.{length, drop, length-take, length-drop}

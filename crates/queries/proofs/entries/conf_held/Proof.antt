@@ -2,7 +2,6 @@
 -- Assumes nothing.
 use mathlib.Core.Path.{sym, _∙_}
 use native.Mathlib.Omega.{arith}
-use borrow.Author.Needs.{needs}
 use Rattle.model.specs.Words.{confPairs}
 use Rattle.book.proofs.Regions.{fits}
 use Rattle.book.proofs.Goods.{good-laid}

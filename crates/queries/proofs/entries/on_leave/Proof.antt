@@ -1,7 +1,6 @@
 -- `entries::on_leave` meets its contract.
 -- Assumes nothing.
 use mathlib.Core.Path.{sym, _∙_}
-use borrow.Author.Needs.{needs}
 use Rattle.model.specs.Words.{leaves}
 use Rattle.book.proofs.Regions.{fits, group-lt, date-lt}
 use Rattle.book.proofs.Goods.{good-laid}

@@ -1,7 +1,6 @@
 -- `entries::stands` meets its contract.
 -- Assumes nothing.
 use mathlib.Core.Path.{sym, _∙_}
-use borrow.Author.Needs.{needs}
 use Rattle.model.specs.Words.{standings}
 use Rattle.book.proofs.Regions.{fits, group-lt}
 use Rattle.book.proofs.Goods.{good-laid}

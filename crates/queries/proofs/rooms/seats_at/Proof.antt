@@ -4,7 +4,6 @@ use Prim.Native.Nat.{ℕ, _-_}
 use mathlib.Core.Path.{sym, _∙_, ap}
 use native.Mathlib.Omega.{arith}
 use lib.ListN.{getD}
-use borrow.Author.Needs.{needs}
 use Rattle.model.specs.Words.{lunchTriples, address}
 use Rattle.book.specs.Grids.{cellAt}
 use Rattle.book.proofs.Regions.{fits}

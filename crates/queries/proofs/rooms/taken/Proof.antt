@@ -4,7 +4,6 @@ use Prim.Native.Nat.{ℕ, _-_}
 use mathlib.Core.Path.{sym, _∙_, ap}
 use mathlib.Core.Bool.{not}
 use lib.Dec.{eqb}
-use borrow.Author.Needs.{needs}
 use Rattle.model.specs.Words.{confPairs}
 use Rattle.book.proofs.Regions.{fits}
 use Rattle.book.proofs.Goods.{good-laid}

@@ -1,0 +1,55 @@
+-- `bookings::some_leave` meets its contract: no date passed so far has leave.
+-- Assumes nothing.
+use Prim.Native.Nat.{ℕ, suc, _-_, _≤_, _<_}
+use mathlib.Core.Path.{_≡_, sym, _∙_}
+use mathlib.Core.Bool.{false, false≢true}
+use native.Mathlib.Omega.{arith}
+use borrow.Author.Needs.{needs}
+use Rattle.model.specs.Reading.{stateOf}
+use Rattle.book.proofs.Goods.{good-laid}
+use Rattle.queries.proofs.Loops.{passed-from}
+use Rattle.queries.proofs.bookings.some_leave.Statement.{statement}
+use Rattle.queries.proofs.bookings.some_leave.Tie as tie
+
+abbrev Inv-loop : tie.InvT-loop
+Inv-loop book s g visitor from to date₀ date = (from ≤ date) × ((d : ℕ) → from ≤ d → d < date → stateOf book .leave d visitor ≡ false)
+
+abbrev μ-loop : tie.MeasureT-loop
+μ-loop book s g visitor from to date₀ date = suc to - date
+
+loop-holds : tie.Need-loop-holds Inv-loop μ-loop
+loop-holds c = (omega arith, λ d l h. absurd (omega (arith, l, h)))
+
+on-leave-requires : tie.Need-on-leave-requires Inv-loop μ-loop
+on-leave-requires c κs = let p = c .before .before .before .pre in (p .0, (p .1 .0, (omega (arith, p .1 .1 .1, c .loop-test .taken), p .1 .1 .0)))
+
+returns : tie.Need-returns Inv-loop μ-loop
+returns c = λ e. absurd (false≢true (sym e))
+
+add-date : tie.Need-add-date Inv-loop μ-loop
+add-date c = let p = c .before .before .before .before .before .pre in omega (arith, p .1 .1 .1, good-laid (p .0) .ranges .dates, c .before .before .loop-test .taken)
+
+loop-less : tie.Need-loop-less Inv-loop μ-loop
+loop-less c = search needs
+
+loop-again : tie.Need-loop-again Inv-loop μ-loop
+loop-again c =
+    let l = c .before .before .before .loop in
+    (omega arith, passed-from _ _ (l .date) (l .inv .1) (sym (c .before .on-leave .ensures) ∙ c .if1 .left))
+
+returns-2 : tie.Need-returns-2 Inv-loop μ-loop
+returns-2 c = λ e d l h. c .before .loop .inv .1 d l (omega (arith, h))
+
+pub some-leave-spec : {M : Type 1} → statement M
+some-leave-spec =
+    tie.close
+    (tie.spec
+    Inv-loop
+    μ-loop
+    loop-holds
+    on-leave-requires
+    returns
+    add-date
+    loop-less
+    loop-again
+    returns-2)
