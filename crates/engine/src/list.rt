@@ -8,12 +8,10 @@ use model::Request;
 use model::Settings;
 ghost use mathlib.Core.Path.{_≡_};
 ghost use mathlib.Core.List.{[], _∷_};
-ghost use Prim.Native.Nat.{_+_, _*_, _/_, _≤_, _<_, min};
+ghost use Prim.Native.Nat.{_+_, _*_, _/_, _≤_, min};
 ghost use lib.ListN.{length, drop};
-ghost use Rattle.model.specs.Machine;
 ghost use Rattle.model.specs.Machine.{requestOf, answerWords};
-ghost use Rattle.model.specs.Calls.{callList, serveList, answerable};
-ghost use Rattle.model.specs.Reading.{stateOf};
+ghost use Rattle.model.specs.Calls.{callList, serveList};
 ghost use Rattle.book.specs.Good.{Good};
 ghost use Rattle.engine.specs.Lists.{spliced, One, All, asListed};
 

@@ -4,7 +4,6 @@ use Prim.Native.Nat.{_*_, _-_}
 use mathlib.Core.Path.{sym, _∙_, subst}
 use native.Mathlib.Omega.{arith}
 use lib.ListN.{drop}
-use borrow.Author.Needs.{needs}
 use Rattle.model.specs.Machine.{requestOf}
 use Rattle.book.specs.Good.{Good}
 use Rattle.book.proofs.Goods.{good-laid}

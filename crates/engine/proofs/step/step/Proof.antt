@@ -1,6 +1,5 @@
 -- `step::step` meets its contract: judged, and written where it is done.
 -- Assumes nothing.
-use Prim.Native.Nat.{_-_}
 use mathlib.Core.Path.{sym, _∙_, ap, ap₂}
 use borrow.Author.Needs.{needs}
 use Rattle.book.specs.Good.{answered}
