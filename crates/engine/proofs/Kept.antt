@@ -28,7 +28,7 @@ module _ {S : Settings} {b : List ℕ} (good : Good S b) where
   unfolding readState
   settings-are = ap (λ (x : State). x .settings) (good-state good)
 
-  -- a refusal leaves the words of the book
+  -- a good book is the words of the state that it shows
   pub good-book : words (stateOf b) ≡ b
   good-book = words-stateOf b (good .laid) (good .lawful)
 

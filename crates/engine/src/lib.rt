@@ -3,7 +3,6 @@ pub mod list;
 pub mod step;
 
 use crate::step::step;
-use book::grid::grids_of;
 use book::settings::settings;
 use model::Answer;
 use model::Request;
@@ -23,5 +22,5 @@ pub fn request(book: &mut [u32], r: Request) -> Answer
         return Answer::Refused { number, place };
     }
     let s = settings(book);
-    step(book, s, grids_of(s), r)
+    step(book, s, r)
 }

@@ -1,8 +1,6 @@
 // Lists of requests: seven words a request, three words an answer. The book is checked or laid once; that each step keeps the laws is
 // what lets the next one go without a check.
 use crate::step::step;
-use book::grid::Grids;
-use book::grid::grids_of;
 use book::lay::lay;
 use book::settings::settings;
 use model::Answer;
@@ -10,13 +8,10 @@ use model::Request;
 use model::Settings;
 ghost use mathlib.Core.Path.{_≡_};
 ghost use mathlib.Core.List.{[], _∷_};
-ghost use Prim.Native.Nat.{_+_, _*_, _/_, _≤_, _<_, min};
+ghost use Prim.Native.Nat.{_+_, _*_, _/_, _≤_, min};
 ghost use lib.ListN.{length, drop};
-ghost use Rattle.model.specs.Machine;
 ghost use Rattle.model.specs.Machine.{requestOf, answerWords};
-ghost use Rattle.model.specs.Calls.{callList, serveList, answerable};
-ghost use Rattle.model.specs.Reading.{stateOf};
-ghost use Rattle.book.specs.Grids.{gridsOf};
+ghost use Rattle.model.specs.Calls.{callList, serveList};
 ghost use Rattle.book.specs.Good.{Good};
 ghost use Rattle.engine.specs.Lists.{spliced, One, All, asListed};
 
@@ -59,29 +54,27 @@ fn put_answer(answers: &mut [u32], i: usize, a: Answer)
 }
 
 // Request i of the list, and its answer.
-fn answer_at(book: &mut [u32], s: Settings, g: Grids, list: &[u32], answers: &mut [u32], i: usize)
+fn answer_at(book: &mut [u32], s: Settings, list: &[u32], answers: &mut [u32], i: usize)
     requires { ⌜ Good s (now book) ⌝ }
-    requires { ⌜ g ≡ gridsOf s ⌝ }
     requires { ⌜ i * 7 + 7 ≤ length (now list) ⌝ }
     requires { ⌜ i * 3 + 3 ≤ length (now answers) ⌝ }
     ensures { λ _. ⌜ One (now (list .entry)) i (now (book .entry)) (now (answers .entry)) (now (book .exit)) (now (answers .exit)) ⌝ }
 {
     let r = request_at(list, i);
-    let a = step(book, s, g, r);
+    let a = step(book, s, r);
     put_answer(answers, i, a);
 }
 
 // The first n requests of the list, and their answers.
-fn answer_all(book: &mut [u32], s: Settings, g: Grids, list: &[u32], answers: &mut [u32], n: usize)
+fn answer_all(book: &mut [u32], s: Settings, list: &[u32], answers: &mut [u32], n: usize)
     requires { ⌜ Good s (now book) ⌝ }
-    requires { ⌜ g ≡ gridsOf s ⌝ }
     requires { ⌜ n * 7 ≤ length (now list) ⌝ }
     requires { ⌜ n * 3 ≤ length (now answers) ⌝ }
     ensures { λ _. ⌜ All (now (list .entry)) n (now (book .entry)) (now (answers .entry)) (now (book .exit)) (now (answers .exit)) ⌝ }
 {
     let mut i: usize = 0;
     while i < n {
-        answer_at(book, s, g, list, answers, i);
+        answer_at(book, s, list, answers, i);
         i += 1;
     }
 }
@@ -110,7 +103,7 @@ pub fn requests(book: &mut [u32], list: &[u32], answers: &mut [u32]) -> Answer
     }
     let s = settings(book);
     let n = answerable_in(list.len(), answers.len());
-    answer_all(book, s, grids_of(s), list, answers, n);
+    answer_all(book, s, list, answers, n);
     Answer::Done(n as u32)
 }
 
@@ -124,6 +117,6 @@ pub fn serve(words: &[u32], book: &mut [u32], list: &[u32], answers: &mut [u32])
     }
     let s = settings(words);
     let n = answerable_in(list.len(), answers.len());
-    answer_all(book, s, grids_of(s), list, answers, n);
+    answer_all(book, s, list, answers, n);
     Answer::Done(n as u32)
 }

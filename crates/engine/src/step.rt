@@ -1,6 +1,6 @@
 // One request on a book that passes questions 1 and 2: every question is answered before the first word is written.
 use apply::apply;
-use book::grid::Grids;
+use book::grid::grids_of;
 use judge::judge;
 use model::Answer;
 use model::Request;
@@ -9,14 +9,14 @@ ghost use mathlib.Core.Path.{_≡_};
 ghost use Rattle.model.specs.Machine;
 ghost use Rattle.model.specs.Reading.{stateOf};
 ghost use Rattle.model.specs.Calls.{called};
-ghost use Rattle.book.specs.Grids.{gridsOf};
 ghost use Rattle.book.specs.Good.{Good, answered};
 
-pub fn step(book: &mut [u32], s: Settings, g: Grids, r: Request) -> Answer
+// The grids are computed in the step because they are a few products, and a struct of that size passed by value is copied at every call.
+pub fn step(book: &mut [u32], s: Settings, r: Request) -> Answer
     requires { ⌜ Good s (now book) ⌝ }
-    requires { ⌜ g ≡ gridsOf s ⌝ }
     ensures { λ a. ⌜ answered a (now (book .exit)) ≡ called (Machine.step (stateOf (now (book .entry))) r) ⌝ }
 {
+    let g = grids_of(s);
     let answer = judge(book, s, g, r);
     if let Answer::Refused { number, place } = answer {
         return Answer::Refused { number, place };

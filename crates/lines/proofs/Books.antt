@@ -1,14 +1,14 @@
 -- A good book stays good, and shows the machine's state, behind every line.
 -- Assumes nothing.
-use Prim.Native.Nat.{ℕ, _+_, _-_, _≤_, _<_}
+use Prim.Native.Nat.{ℕ, _+_, _-_}
 use mathlib.Core.Path.{_≡_, refl, sym, _∙_, ap, subst}
 use mathlib.Core.Bool.{Bool, true, false}
 use mathlib.Core.List.{List}
-use lib.ListN.{length, take, drop}
+use lib.ListN.{take}
 use Rattle.model.specs.declared.Settings.{Settings}
 use Rattle.model.specs.declared.Request.{Request}
 use Rattle.model.specs.declared.Answer.{Answer}
-use Rattle.model.specs.declared.Answer.the-variants.{Done, Refused}
+use Rattle.model.specs.declared.Answer.the-variants.{Refused}
 use Rattle.model.specs.State.{State, emptyState}
 use Rattle.model.specs.Site.{validSettings}
 use Rattle.model.specs.Machine.{step, requestOf}
@@ -19,7 +19,6 @@ use Rattle.model.specs.Lines.{isFrame, lineWords, lineOutcome}
 use Rattle.model.proofs.Laws.{Sound}
 use Rattle.model.proofs.Sound.{book-sound}
 use Rattle.model.proofs.ReadBack.{stateOf-words}
-use Rattle.model.proofs.Shown.{words-stateOf}
 use Rattle.model.proofs.Frame.{step-settings}
 use Rattle.model.proofs.Calls.{step-sound, empty-sound, fresh-words}
 use native.Mathlib.Omega.{arith}
@@ -27,11 +26,11 @@ use Rattle.lines.specs.Frame.{framed}
 use Rattle.lines.specs.Post.{Free, NextOf, TakenOf}
 use Rattle.lines.specs.declared.line.Next.{Next}
 use Rattle.lines.specs.declared.line.Next.the-variants as N
-use Rattle.lines.specs.declared.line.Framed.{Framed}
 use Rattle.lines.specs.declared.line.Framed.the-variants.{Frame, Other}
 use Rattle.lines.proofs.Framing.{framed-yes, framed-no}
 use Rattle.book.specs.Good.{Good, answered}
 use Rattle.book.proofs.Goods.{good-words}
+use Rattle.engine.proofs.Kept.{good-book}
 
 -- what a line gives
 pub outcome-yes : (x : State) (l : List ℕ) → isFrame l ≡ true → lineOutcome x l ≡ step x (requestOf (lineWords l))
@@ -65,13 +64,9 @@ line-sound : (x : State) (l : List ℕ) (t : Bool) → isFrame l ≡ t → Sound
 line-sound x l true h s = rw (outcome-yes x l h) (step-sound x s (requestOf (lineWords l)), step-settings x (requestOf (lineWords l)))
 line-sound x l false h s = rw (outcome-no x l h) (s, refl)
 
--- a good book is the words of the state that it shows
-pub good-shows : {S : Settings} {b : List ℕ} → Good S b → words (stateOf b) ≡ b
-good-shows {S} {b} h = words-stateOf b (h .laid) (h .lawful)
-
 pub refused-23 : {S : Settings} {b : List ℕ} (l : List ℕ) → Good S b → framed l ≡ Other → answered (Refused 23 0) b ≡ called (lineOutcome (stateOf b) l)
 refused-23 {S} {b} l h e =
-    ap (λ (w : List ℕ). answered (Refused 23 0) w) (sym (good-shows h)) ∙ sym (ap called (other-by (stateOf b) l _ refl e))
+    ap (λ (w : List ℕ). answered (Refused 23 0) w) (sym (good-book h)) ∙ sym (ap called (other-by (stateOf b) l _ refl e))
 
 state-settings : (b : List ℕ) → stateOf b .settings ≡ settingsOf b
 unfolding stateOf readState
@@ -118,7 +113,7 @@ module _ {S : Settings} {b : List ℕ} (l : List ℕ) (h : Good S b) where
         none = λ z. absurd (omega arith);
         some = λ z.
             rw e
-            (q .0, ap (λ (w : List ℕ). answered (Refused 23 0) w) (sym (good-shows h)) ∙ sym (ap called (outcome-no (stateOf b) (take n l) (q .1))));
+            (q .0, ap (λ (w : List ℕ). answered (Refused 23 0) w) (sym (good-book h)) ∙ sym (ap called (outcome-no (stateOf b) (take n l) (q .1))));
       }
 
 pub taken-none : {b : List ℕ} {a : Answer} (l : List ℕ) → Free l → TakenOf l b (record { used = 0; answer = a }) b

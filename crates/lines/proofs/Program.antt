@@ -1,18 +1,18 @@
 -- The program over its whole input: what its turns promise, one after the other, is `frames` of the input.
 -- Assumes nothing.
 use Prim.Native.Nat.{ℕ, _*_}
-use mathlib.Core.Path.{_≡_, refl, sym, _∙_, ap}
+use mathlib.Core.Path.{_≡_, refl, _∙_, ap}
 use mathlib.Core.List.{List, [], _∷_, _++_}
 use lib.ListN.{length, take}
 use Rattle.model.specs.Words.{words}
 use Rattle.model.specs.Reading.{stateOf}
 use Rattle.model.specs.Lines.{frames}
-use Rattle.lines.specs.Stream.{Point, Turn, behind, opening, run, closed, fed, joined}
-use Rattle.lines.specs.Post.{pointOf, Going, Moved, Begun, endPoint, EndedOf}
+use Rattle.lines.specs.Stream.{Point, Turn, behind, run, closed, fed, joined}
+use Rattle.lines.specs.Post.{pointOf, Going, Moved, Begun, EndedOf}
 use Rattle.lines.specs.declared.stream.Phase.the-variants.{Later}
 use Rattle.lines.specs.declared.stream.Stream.{Stream}
 use Rattle.lines.specs.declared.stream.Ended.{Ended}
-use Rattle.lines.proofs.Books.{good-shows}
+use Rattle.engine.proofs.Kept.{good-book}
 use Rattle.lines.proofs.Streams.{begun}
 use Rattle.lines.proofs.Whole.{any-cutting}
 
@@ -44,4 +44,4 @@ program {s} {b} {cs} g r = reads-fed r ∙ ap (λ (p : Point). fed p cs .out) (b
 
 -- behind a good settings line the book's words are those of the machine's state
 pub book-shown : {s : Stream} {b : List ℕ} → Going s b → s .phase ≡ Later → words (stateOf (take (s .size) b)) ≡ take (s .size) b
-book-shown g h = good-shows (g .sized .good h)
+book-shown g h = good-book (g .sized .good h)

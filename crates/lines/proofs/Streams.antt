@@ -1,6 +1,6 @@
 -- The functions of the stream, as turns.
 -- Assumes nothing.
-use Prim.Native.Nat.{ℕ, zero, suc, _+_, _-_, _*_, _≤_, _<_}
+use Prim.Native.Nat.{ℕ, _+_, _-_, _*_, _≤_, _<_}
 use native.Mathlib.Omega.{arith}
 use mathlib.Core.Path.{_≡_, refl, sym, _∙_, ap}
 use mathlib.Core.Bool.{Bool, true, false, cond}
@@ -12,17 +12,14 @@ use lib.Seq.{take-at, take-all, length-take-le}
 use Rattle.model.specs.declared.Settings.{Settings}
 use Rattle.model.specs.declared.Answer.{Answer}
 use Rattle.model.specs.State.{State}
-use Rattle.model.specs.Machine.{Outcome}
 use Rattle.model.specs.Reading.{settingsOf, stateOf}
 use Rattle.model.specs.Calls.{Called, called}
 use Rattle.model.specs.Lines.{answerLine, lineOutcome}
 use Rattle.model.proofs.Search.{both}
 use Rattle.book.specs.Good.{Good, answered}
-use Rattle.book.specs.Ranges.{Ranges}
-use Rattle.book.proofs.Goods.{good-laid}
 use Rattle.lines.specs.Digits.{Put, LineEnd}
-use Rattle.lines.specs.Stream.{kept, Turn, Point, opening, later, over, silent, behind, opened, told, ended, longer, byte, run, closed}
-use Rattle.lines.specs.Post.{heldOf, Holds, pointAt, pointOf, Sized, Going, Moved, Begun, endPoint, EndSized, EndedOf, isLater, Free, Leads, Told}
+use Rattle.lines.specs.Stream.{kept, Turn, opening, later, over, silent, behind, opened, told, ended, longer, byte, run, closed}
+use Rattle.lines.specs.Post.{heldOf, Holds, pointAt, pointOf, Going, Moved, Begun, endPoint, EndedOf, isLater, Told}
 use Rattle.lines.specs.declared.stream.Held.{Held}
 use Rattle.lines.specs.declared.stream.Phase.{Phase}
 use Rattle.lines.specs.declared.stream.Phase.the-variants.{Opening, Later, Over}
@@ -30,7 +27,7 @@ use Rattle.lines.specs.declared.stream.Stream.{Stream}
 use Rattle.lines.specs.declared.stream.Ended.{Ended}
 use Rattle.lines.proofs.Looking.{all-free, end-leads}
 use Rattle.lines.proofs.Whole.{byte-end, byte-in}
-use Rattle.lines.proofs.Books.{After, after-line}
+use Rattle.lines.proofs.Books.{after-line}
 use Rattle.lines.proofs.Turns.{grown, Kept, later-kept, run-free, run-leads, tail-is, put-wrote}
 
 -- a good book by its own settings
@@ -266,7 +263,3 @@ begun {s} b g =
   where
     not-later : Opening ≡ Later → ⊥
     not-later z = let q : _≡_ {A = ℕ} 0 1 = cc in omega arith
-
--- the ranges of a good book's settings
-pub own-ranges : {S : Settings} {b : List ℕ} → S ≡ settingsOf b → Good (settingsOf b) b → Ranges S
-own-ranges e g = rw e (good-laid g .ranges)

@@ -7,8 +7,6 @@ use crate::line::frame;
 use crate::line::line_end;
 use crate::line::look;
 use crate::line::put_answer;
-use book::grid::Grids;
-use book::grid::grids_of;
 use book::settings::settings;
 use engine::step::step;
 use model::Answer;
@@ -21,7 +19,6 @@ ghost use Rattle.model.specs.Reading.{settingsOf, stateOf};
 ghost use Rattle.model.specs.Calls.{called};
 ghost use Rattle.model.specs.Lines.{lineOutcome};
 ghost use Rattle.book.specs.Good.{Good, answered};
-ghost use Rattle.book.specs.Grids.{gridsOf};
 ghost use Rattle.lines.specs.Stream.{kept, behind, opened, told, ended, run, closed};
 ghost use Rattle.lines.specs.Post.{heldOf, Holds, pointAt, pointOf, Sized, Going, EndSized, endPoint, EndedOf, Moved, TakenOf, Told, Begun, isLater};
 
@@ -94,13 +91,12 @@ fn hold(held: Held, piece: &[u8]) -> Held
 }
 
 // The answer of a later line, and the book after it.
-fn answer(book: &mut [u32], s: Settings, g: Grids, line: &[u8]) -> Answer
+fn answer(book: &mut [u32], s: Settings, line: &[u8]) -> Answer
     requires { ⌜ Good s (now book) ⌝ }
-    requires { ⌜ g ≡ gridsOf s ⌝ }
     ensures { λ a. ⌜ answered a (now (book .exit)) ≡ called (lineOutcome (stateOf (now (book .entry))) (now (line .entry))) ⌝ }
 {
     match frame(line) {
-        Framed::Frame(r) => step(book, s, g, r),
+        Framed::Frame(r) => step(book, s, r),
         Framed::Other => Answer::Refused {
             number: 23,
             place: 0,
@@ -109,15 +105,14 @@ fn answer(book: &mut [u32], s: Settings, g: Grids, line: &[u8]) -> Answer
 }
 
 // The answer of the first line of a chunk, and the book after it.
-fn answer_next(book: &mut [u32], s: Settings, g: Grids, chunk: &[u8]) -> Taken
+fn answer_next(book: &mut [u32], s: Settings, chunk: &[u8]) -> Taken
     requires { ⌜ Good s (now book) ⌝ }
-    requires { ⌜ g ≡ gridsOf s ⌝ }
     ensures { λ r. ⌜ TakenOf (now (chunk .entry)) (now (book .entry)) r (now (book .exit)) ⌝ }
 {
     match look(chunk) {
         Next::Frame(r) => Taken {
             used: 57,
-            answer: step(book, s, g, r),
+            answer: step(book, s, r),
         },
         Next::Other(n) => Taken {
             used: n + 1,
@@ -134,16 +129,8 @@ fn answer_next(book: &mut [u32], s: Settings, g: Grids, chunk: &[u8]) -> Taken
 }
 
 // The answers of all whole lines of a chunk that begins with a line.
-fn answers(
-    book: &mut [u32],
-    s: Settings,
-    g: Grids,
-    chunk: &[u8],
-    out: &mut [u8],
-    from: usize,
-) -> Progress
+fn answers(book: &mut [u32], s: Settings, chunk: &[u8], out: &mut [u8], from: usize) -> Progress
     requires { ⌜ Good s (now book) ⌝ }
-    requires { ⌜ g ≡ gridsOf s ⌝ }
     requires { ⌜ from + 25 * length (now chunk) ≤ length (now out) ⌝ }
     ensures { λ r. ⌜ Told s (now (book .entry)) (now (chunk .entry)) (now (out .entry)) from (now (book .exit)) (now (out .exit)) (r .used) (r .wrote) ⌝ }
 {
@@ -151,7 +138,7 @@ fn answers(
     let mut i = 0;
     while i < chunk.len() {
         let rest = &chunk[i..];
-        let t = answer_next(book, s, g, rest);
+        let t = answer_next(book, s, rest);
         let used = t.used;
         if used == 0 {
             return Progress { used: i, wrote: at };
@@ -171,8 +158,7 @@ fn answer_lines(book: &mut [u32], chunk: &[u8], out: &mut [u8], from: usize) -> 
     ensures { λ r. ⌜ Told (settingsOf (now (book .entry))) (now (book .entry)) (now (chunk .entry)) (now (out .entry)) from (now (book .exit)) (now (out .exit)) (r .used) (r .wrote) ⌝ }
 {
     let s = settings(book);
-    let g = grids_of(s);
-    answers(book, s, g, chunk, out, from)
+    answers(book, s, chunk, out, from)
 }
 
 fn answer_line(book: &mut [u32], line: &[u8]) -> Answer
@@ -180,8 +166,7 @@ fn answer_line(book: &mut [u32], line: &[u8]) -> Answer
     ensures { λ a. ⌜ answered a (now (book .exit)) ≡ called (lineOutcome (stateOf (now (book .entry))) (now (line .entry))) ⌝ }
 {
     let s = settings(book);
-    let g = grids_of(s);
-    answer(book, s, g, line)
+    answer(book, s, line)
 }
 
 // The end of a later line.

@@ -2,7 +2,6 @@
 -- Assumes nothing.
 use mathlib.Core.Path.{sym, _∙_}
 use borrow.Author.Needs.{needs}
-use Rattle.book.proofs.Goods.{good-laid}
 use Rattle.engine.proofs.Kept.{good-call}
 use Rattle.checking.proofs.Verdicts.{done-good}
 use Rattle.engine.proofs.Whole.{request-refused, with-removal}
@@ -30,24 +29,19 @@ enum-told c = search needs
 settings-requires : tie.Need-settings-requires
 settings-requires c κs = search needs
 
-grids-of-requires : tie.Need-grids-of-requires
-grids-of-requires c κs =
-    let a = c .before .before .before .before .before .before .before .before .args in
-    rw (c .before .settings .ensures) (good-laid (done-good (a .book .now) _ (sym (c .before .before .before .before .before .check .ensures) ∙ c .before .before .before .enum-told .given .1)) .ranges)
-
 step-requires : tie.Need-step-requires
 step-requires c κs =
-    let a = c .before .before .before .before .before .before .before .before .before .args in
-    (rw (c .before .before .settings .ensures) (done-good (a .book .now) _ (sym (c .before .before .before .before .before .before .check .ensures) ∙ c .before .before .before .before .enum-told .given .1)), c .grids-of .ensures)
+    let a = c .before .before .before .before .before .before .before .before .args in
+    rw (c .before .settings .ensures) (done-good (a .book .now) _ (sym (c .before .before .before .before .before .check .ensures) ∙ c .before .before .before .enum-told .given .1))
 
 same-length-2 : tie.Need-same-length-2
 same-length-2 c = search needs
 
 returns-2 : tie.Need-returns-2
 returns-2 c =
-    let a = c .before .before .before .before .before .before .before .before .before .before .before .before .args in
+    let a = c .before .before .before .before .before .before .before .before .before .before .before .args in
     with-removal (a .book .now) (a .r) _ _
-    (c .before .before .step .ensures ∙ sym (good-call (done-good (a .book .now) _ (sym (c .before .before .before .before .before .before .before .before .before .check .ensures) ∙ c .before .before .before .before .before .before .before .enum-told .given .1)) (a .r)))
+    (c .before .before .step .ensures ∙ sym (good-call (done-good (a .book .now) _ (sym (c .before .before .before .before .before .before .before .before .check .ensures) ∙ c .before .before .before .before .before .before .enum-told .given .1)) (a .r)))
 
 pub request-spec : {M : Type 1} → statement M
 request-spec =
@@ -59,7 +53,6 @@ request-spec =
     returns
     enum-told
     settings-requires
-    grids-of-requires
     step-requires
     same-length-2
     returns-2)

@@ -4,7 +4,6 @@ use Prim.Native.Nat.{_*_, _-_}
 use mathlib.Core.Path.{sym, _∙_, subst}
 use native.Mathlib.Omega.{arith}
 use lib.ListN.{drop}
-use borrow.Author.Needs.{needs}
 use Rattle.model.specs.Machine.{requestOf}
 use Rattle.book.specs.Good.{Good}
 use Rattle.book.proofs.Goods.{good-laid}
@@ -14,10 +13,10 @@ use Rattle.engine.proofs.list.answer_all.Statement.{statement}
 use Rattle.engine.proofs.list.answer_all.Tie as tie
 
 abbrev Inv-loop : tie.InvT-loop
-Inv-loop book₀ s g list answers₀ n i₀ book answers i = Good s book × Left list n book₀ answers₀ i book answers
+Inv-loop book₀ s list answers₀ n i₀ book answers i = Good s book × Left list n book₀ answers₀ i book answers
 
 abbrev μ-loop : tie.MeasureT-loop
-μ-loop book₀ s g list answers₀ n i₀ book answers i = n - i
+μ-loop book₀ s list answers₀ n i₀ book answers i = n - i
 
 loop-holds : tie.Need-loop-holds Inv-loop μ-loop
 loop-holds c = (c .before .before .before .pre .0, left-start _ _ _ _)
@@ -26,7 +25,7 @@ answer-at-requires : tie.Need-answer-at-requires Inv-loop μ-loop
 answer-at-requires c κs =
     let s = c .before .before .before .before .before .before .before in
     let l = c .before .before .before .loop in
-    (l .inv .0, (s .pre .1 .0, (omega (arith, s .pre .1 .1 .0), omega (arith, s .pre .1 .1 .1, l .inv .1 .long))))
+    (l .inv .0, (omega (arith, s .pre .1 .0), omega (arith, s .pre .1 .1, l .inv .1 .long)))
 
 add-i : tie.Need-add-i Inv-loop μ-loop
 add-i c = omega arith
@@ -41,7 +40,7 @@ loop-again c =
     let l = c .before .before .before .before .before .before .before .before .loop in
     let e = c .before .before .before .before .answer-at .ensures in (
       subst (Good (a .s)) (sym (e .book)) (good-step (l .inv .0) (requestOf (drop (l .i * 7) (a .list .now)))),
-      left-turn (a .s) (a .list .now) (a .n) _ _ (l .i) _ _ _ _ (l .inv .0) (c .before .before .before .before .before .before .before .loop-test .taken) (s .pre .1 .1 .1) (l .inv .1) e,
+      left-turn (a .s) (a .list .now) (a .n) _ _ (l .i) _ _ _ _ (l .inv .0) (c .before .before .before .before .before .before .before .loop-test .taken) (s .pre .1 .1) (l .inv .1) e,
     )
 
 same-length : tie.Need-same-length Inv-loop μ-loop

@@ -1,6 +1,6 @@
 -- `list::answer_at` meets its contract.
 -- Assumes nothing.
-use Prim.Native.Nat.{_*_, _-_}
+use Prim.Native.Nat.{_*_}
 use mathlib.Core.Path.{_∙_, ap}
 use borrow.Author.Needs.{needs}
 use Rattle.model.specs.declared.Request.{Request}

@@ -3,7 +3,6 @@
 use mathlib.Core.Path.{sym, _∙_}
 use native.Mathlib.Omega.{arith}
 use borrow.Author.Needs.{needs}
-use Rattle.book.proofs.Goods.{good-laid}
 use Rattle.checking.proofs.Verdicts.{done-good}
 use Rattle.engine.proofs.Whole.{requests-refused, requests-done}
 use Rattle.engine.proofs.list.requests.Statement.{statement}
@@ -32,21 +31,16 @@ settings-requires c κs = search needs
 answerable-in-requires : tie.Need-answerable-in-requires
 answerable-in-requires c κs = search needs
 
-grids-of-requires : tie.Need-grids-of-requires
-grids-of-requires c κs =
-    let a = c .before .before .before .before .before .before .before .before .before .before .before .args in
-    rw (c .before .before .settings .ensures) (good-laid (done-good (a .book .now) _ (sym (c .before .before .before .before .before .before .check .ensures) ∙ c .before .before .before .before .enum-told .given .1)) .ranges)
-
 answer-all-requires : tie.Need-answer-all-requires
 answer-all-requires c κs =
-    let a = c .before .before .before .before .before .before .before .before .before .before .before .before .before .args in
-    let n = c .before .before .before .answerable-in .ensures in (
-      rw (c .before .before .before .before .settings .ensures) (done-good (a .book .now) _ (sym (c .before .before .before .before .before .before .before .before .check .ensures) ∙ c .before .before .before .before .before .before .enum-told .given .1)),
-      (c .before .grids-of .ensures, (omega (arith, n), omega (arith, n))),
+    let a = c .before .before .before .before .before .before .before .before .before .before .before .before .args in
+    let n = c .before .before .answerable-in .ensures in (
+      rw (c .before .before .before .settings .ensures) (done-good (a .book .now) _ (sym (c .before .before .before .before .before .before .before .check .ensures) ∙ c .before .before .before .before .before .enum-told .given .1)),
+      (omega (arith, n), omega (arith, n)),
     )
 
-cast-t21 : tie.Need-cast-t21
-cast-t21 c = search needs
+cast-t20 : tie.Need-cast-t20
+cast-t20 c = search needs
 
 same-length-2 : tie.Need-same-length-2
 same-length-2 c = search needs
@@ -56,8 +50,8 @@ same-length-3 c = search needs
 
 returns-2 : tie.Need-returns-2
 returns-2 c =
-    let a = c .before .before .before .before .before .before .before .before .before .before .before .before .before .before .before .before .before .before .args in
-    requests-done (a .book .now) (a .list .now) (a .answers .now) (sym (c .before .before .before .before .before .before .before .before .before .before .before .before .before .check .ensures) ∙ c .before .before .before .before .before .before .before .before .before .before .before .enum-told .given .1) (c .before .before .before .before .before .before .before .before .answerable-in .ensures) (c .before .before .before .before .answer-all .ensures)
+    let a = c .before .before .before .before .before .before .before .before .before .before .before .before .before .before .before .before .before .args in
+    requests-done (a .book .now) (a .list .now) (a .answers .now) (sym (c .before .before .before .before .before .before .before .before .before .before .before .before .check .ensures) ∙ c .before .before .before .before .before .before .before .before .before .before .enum-told .given .1) (c .before .before .before .before .before .before .before .answerable-in .ensures) (c .before .before .before .before .answer-all .ensures)
 
 pub requests-spec : {M : Type 1} → statement M
 requests-spec =
@@ -70,9 +64,8 @@ requests-spec =
     enum-told
     settings-requires
     answerable-in-requires
-    grids-of-requires
     answer-all-requires
-    cast-t21
+    cast-t20
     same-length-2
     same-length-3
     returns-2)

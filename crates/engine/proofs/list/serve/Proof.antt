@@ -1,11 +1,9 @@
 -- `list::serve` meets its contract: laid, then each request in turn.
 -- Assumes nothing.
-use Prim.Native.Nat.{_-_}
 use mathlib.Core.Path.{refl, sym, _∙_, ap₂}
 use native.Mathlib.Omega.{arith}
 use borrow.Author.Needs.{needs}
 use Rattle.book.specs.Good.{answered}
-use Rattle.book.proofs.Goods.{good-laid}
 use Rattle.engine.proofs.Whole.{serve-refused, serve-laid, serve-done}
 use Rattle.engine.proofs.list.serve.Statement.{statement}
 use Rattle.engine.proofs.list.serve.Tie as tie
@@ -33,21 +31,16 @@ settings-requires c κs = search needs
 answerable-in-requires : tie.Need-answerable-in-requires
 answerable-in-requires c κs = search needs
 
-grids-of-requires : tie.Need-grids-of-requires
-grids-of-requires c κs =
-    let a = c .before .before .before .before .before .before .before .before .before .before .before .before .before .args in
-    rw (c .before .before .settings .ensures) (good-laid (serve-laid (a .words .now) (a .book .now) _ _ (ap₂ answered (sym (c .before .before .before .enum-told .given .1)) refl ∙ c .before .before .before .before .before .before .before .lay .ensures)) .ranges)
-
 answer-all-requires : tie.Need-answer-all-requires
 answer-all-requires c κs =
-    let a = c .before .before .before .before .before .before .before .before .before .before .before .before .before .before .before .args in
-    let n = c .before .before .before .answerable-in .ensures in (
-      rw (c .before .before .before .before .settings .ensures) (serve-laid (a .words .now) (a .book .now) _ _ (ap₂ answered (sym (c .before .before .before .before .before .enum-told .given .1)) refl ∙ c .before .before .before .before .before .before .before .before .before .lay .ensures)),
-      (c .before .grids-of .ensures, (omega (arith, n), omega (arith, n))),
+    let a = c .before .before .before .before .before .before .before .before .before .before .before .before .before .before .args in
+    let n = c .before .before .answerable-in .ensures in (
+      rw (c .before .before .before .settings .ensures) (serve-laid (a .words .now) (a .book .now) _ _ (ap₂ answered (sym (c .before .before .before .before .enum-told .given .1)) refl ∙ c .before .before .before .before .before .before .before .before .lay .ensures)),
+      (omega (arith, n), omega (arith, n)),
     )
 
-cast-t20 : tie.Need-cast-t20
-cast-t20 c = search needs
+cast-t19 : tie.Need-cast-t19
+cast-t19 c = search needs
 
 same-length-2 : tie.Need-same-length-2
 same-length-2 c = search needs
@@ -57,8 +50,8 @@ same-length-3 c = search needs
 
 returns-2 : tie.Need-returns-2
 returns-2 c =
-    let a = c .before .before .before .before .before .before .before .before .before .before .before .before .before .before .before .before .before .before .before .before .args in
-    serve-done (a .words .now) (a .book .now) (a .list .now) (a .answers .now) (ap₂ answered (sym (c .before .before .before .before .before .before .before .before .before .before .enum-told .given .1)) refl ∙ c .before .before .before .before .before .before .before .before .before .before .before .before .before .before .lay .ensures) (c .before .before .before .before .before .before .before .before .answerable-in .ensures) (c .before .before .before .before .answer-all .ensures)
+    let a = c .before .before .before .before .before .before .before .before .before .before .before .before .before .before .before .before .before .before .before .args in
+    serve-done (a .words .now) (a .book .now) (a .list .now) (a .answers .now) (ap₂ answered (sym (c .before .before .before .before .before .before .before .before .before .enum-told .given .1)) refl ∙ c .before .before .before .before .before .before .before .before .before .before .before .before .before .lay .ensures) (c .before .before .before .before .before .before .before .answerable-in .ensures) (c .before .before .before .before .answer-all .ensures)
 
 pub serve-spec : {M : Type 1} → statement M
 serve-spec =
@@ -71,9 +64,8 @@ serve-spec =
     enum-told
     settings-requires
     answerable-in-requires
-    grids-of-requires
     answer-all-requires
-    cast-t20
+    cast-t19
     same-length-2
     same-length-3
     returns-2)

@@ -1,13 +1,16 @@
 -- `step::step` meets its contract: judged, and written where it is done.
 -- Assumes nothing.
-use Prim.Native.Nat.{_-_}
 use mathlib.Core.Path.{sym, _∙_, ap, ap₂}
 use borrow.Author.Needs.{needs}
 use Rattle.book.specs.Good.{answered}
+use Rattle.book.proofs.Goods.{good-laid}
 use Rattle.apply.specs.Accepted.{accepted}
 use Rattle.engine.proofs.Outcomes.{refused-book}
 use Rattle.engine.proofs.step.step.Statement.{statement}
 use Rattle.engine.proofs.step.step.Tie as tie
+
+grids-of-requires : tie.Need-grids-of-requires
+grids-of-requires c κs = good-laid (c .before .pre) .ranges
 
 judge-requires : tie.Need-judge-requires
 judge-requires c κs = search needs
@@ -20,16 +23,16 @@ same-length c = search needs
 
 returns : tie.Need-returns
 returns c =
-    let s = c .before .before .before .before .before .before in
-    refused-book (s .pre .0) (s .args .r) (sym (c .before .before .before .judge .ensures) ∙ c .before .answer .given .1)
+    let s = c .before .before .before .before .before .before .before in
+    refused-book (s .pre) (s .args .r) (sym (c .before .before .before .judge .ensures) ∙ c .before .answer .given .1)
 
 enum-told : tie.Need-enum-told
 enum-told c = search needs
 
 apply-requires : tie.Need-apply-requires
 apply-requires c κs =
-    let s = c .before .before .before .before .before .before in
-    (s .pre .0, (s .pre .1, ap accepted (sym (c .before .before .before .judge .ensures) ∙ c .before .enum-told .given .1)))
+    let s = c .before .before .before .before .before .before .before in
+    (s .pre, (c .before .before .before .before .before .grids-of .ensures, ap accepted (sym (c .before .before .before .judge .ensures) ∙ c .before .enum-told .given .1)))
 
 same-length-2 : tie.Need-same-length-2
 same-length-2 c = search needs
@@ -41,6 +44,7 @@ pub step-spec : {M : Type 1} → statement M
 step-spec =
     tie.close
     (tie.spec
+    grids-of-requires
     judge-requires
     enum-known-answer
     same-length

@@ -1,3 +1,5 @@
+-- `stream::answer` meets its contract: a frame is one step, and any other line is refused.
+-- Assumes nothing.
 use mathlib.Core.Path.{sym, _∙_, ap}
 use Rattle.model.specs.Calls.{called}
 use Rattle.lines.proofs.Books.{framed-step, refused-23}
@@ -29,7 +31,7 @@ returns c =
 returns-2 : tie.Need-returns-2
 returns-2 c =
     let d = c .before .before in
-    refused-23 _ (d .before .before .before .pre .0) (sym (d .frame .ensures) ∙ c .enum-told .given .1)
+    refused-23 _ (d .before .before .before .pre) (sym (d .frame .ensures) ∙ c .enum-told .given .1)
 
 pub answer-spec : {M : Type 1} → statement M
 answer-spec =

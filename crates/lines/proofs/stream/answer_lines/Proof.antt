@@ -1,13 +1,11 @@
-use Rattle.lines.proofs.Streams.{own-ranges}
+-- `stream::answer_lines` meets its contract: the settings read are those of the book.
+-- Assumes nothing.
 use borrow.Author.Needs.{needs}
 use Rattle.lines.proofs.stream.answer_lines.Statement.{statement}
 use Rattle.lines.proofs.stream.answer_lines.Tie as tie
 
 settings-requires : tie.Need-settings-requires
 settings-requires c κs = search needs
-
-grids-of-requires : tie.Need-grids-of-requires
-grids-of-requires c κs = own-ranges (c .settings .ensures) (c .before .before .before .before .before .pre .0)
 
 answers-requires : tie.Need-answers-requires
 answers-requires c κs = search needs
@@ -19,14 +17,13 @@ same-length-2 : tie.Need-same-length-2
 same-length-2 c = search needs
 
 returns : tie.Need-returns
-returns c = rw (c .before .before .before .before .before .before .before .before .settings .ensures) at (c .before .before .before .before .answers .ensures)
+returns c = rw (c .before .before .before .before .before .before .before .settings .ensures) at (c .before .before .before .before .answers .ensures)
 
 pub answer-lines-spec : {M : Type 1} → statement M
 answer-lines-spec =
     tie.close
     (tie.spec
     settings-requires
-    grids-of-requires
     answers-requires
     same-length
     same-length-2

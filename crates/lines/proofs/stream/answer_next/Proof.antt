@@ -1,4 +1,5 @@
-use mathlib.Core.Path.{_≡_}
+-- `stream::answer_next` meets its contract: a frame is one step, any other whole line is refused, and a line that is not over gives nothing.
+-- Assumes nothing.
 use native.Mathlib.Omega.{arith}
 use Rattle.lines.specs.Post.{NextOf}
 use Rattle.lines.specs.declared.line.Next.the-variants.{Other}
@@ -22,8 +23,8 @@ enum-known-n c = search needs
 next-other : (c : tie.After-known-told2) → NextOf (c .before .before .before .before .before .before .args .chunk .now) (Other (c .before .n .given .0 .0))
 next-other c = next-is _ (c .before .before .before .look .ensures) (c .before .n .given .1)
 
-add-t12 : tie.Need-add-t12
-add-t12 c = let n = next-other c .0 .inside in omega (arith, c .before .before .before .before .before .before .good)
+add-t11 : tie.Need-add-t11
+add-t11 c = let n = next-other c .0 .inside in omega (arith, c .before .before .before .before .before .before .good)
 
 enum-told : tie.Need-enum-told
 enum-told c = search needs
@@ -32,10 +33,10 @@ same-length : tie.Need-same-length
 same-length c = search needs
 
 returns : tie.Need-returns
-returns c = taken-frame _ (c .before .before .before .before .before .before .before .before .before .before .pre .0) (next-is _ (c .before .before .before .before .before .before .before .look .ensures) (c .before .before .before .before .before .r .given .1)) (c .before .before .step .ensures)
+returns c = taken-frame _ (c .before .before .before .before .before .before .before .before .before .before .pre) (next-is _ (c .before .before .before .before .before .before .before .look .ensures) (c .before .before .before .before .before .r .given .1)) (c .before .before .step .ensures)
 
 returns-2 : tie.Need-returns-2
-returns-2 c = taken-other _ (c .before .before .before .before .before .before .pre .0) _ (next-other c)
+returns-2 c = taken-other _ (c .before .before .before .before .before .before .pre) _ (next-other c)
 
 returns-3 : tie.Need-returns-3
 returns-3 c = taken-none _ (next-is _ (c .before .before .look .ensures) (c .enum-told .given .1))
@@ -48,7 +49,7 @@ answer-next-spec =
     enum-known-r
     step-requires
     enum-known-n
-    add-t12
+    add-t11
     enum-told
     same-length
     returns

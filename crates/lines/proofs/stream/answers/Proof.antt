@@ -1,6 +1,8 @@
+-- `stream::answers` meets its contract: each turn answers the first line of what is left.
+-- Assumes nothing.
 use borrow.Author.Needs.{needs}
-use Prim.Native.Nat.{ℕ, _+_, _-_, _≤_, _<_}
-use mathlib.Core.Path.{_≡_, _∙_, sym, refl}
+use Prim.Native.Nat.{_+_, _-_, _≤_, _<_}
+use mathlib.Core.Path.{_∙_}
 use native.Mathlib.Omega.{arith}
 use lib.ListN.{length}
 use Rattle.lines.proofs.Turns.{So, start, all-told, end-told, more-so, in-reach}
@@ -8,10 +10,10 @@ use Rattle.lines.proofs.stream.answers.Statement.{statement}
 use Rattle.lines.proofs.stream.answers.Tie as tie
 
 abbrev Inv-loop : tie.InvT-loop
-Inv-loop book₀ s g chunk out₀ from at₀ i₀ book out at i = So s book₀ chunk out₀ from book out at i
+Inv-loop book₀ s chunk out₀ from at₀ i₀ book out at i = So s book₀ chunk out₀ from book out at i
 
 abbrev μ-loop : tie.MeasureT-loop
-μ-loop book₀ s g chunk out₀ from at₀ i₀ book out at i = length chunk - i
+μ-loop book₀ s chunk out₀ from at₀ i₀ book out at i = length chunk - i
 
 loop-holds : tie.Need-loop-holds Inv-loop μ-loop
 loop-holds c = start _ _ _ _ (c .before .before .before .pre .0)
@@ -26,7 +28,7 @@ part-rest-end : tie.Need-part-rest-end Inv-loop μ-loop
 part-rest-end c = search needs
 
 answer-next-requires : tie.Need-answer-next-requires Inv-loop μ-loop
-answer-next-requires c κs = (c .before .before .before .loop .inv .good, c .before .before .before .before .before .before .before .pre .1 .0)
+answer-next-requires c κs = c .before .before .before .loop .inv .good
 
 same-length : tie.Need-same-length Inv-loop μ-loop
 same-length c = c .before .before .before .answer-next .kept .0 ∙ c .before .before .before .before .before .before .before .loop .inv .book-kept
@@ -49,10 +51,10 @@ reach c =
     in-reach (c .before .before .before .before .before .before .before .before .before .before .before .before .args .chunk .now) (l .i) (c .before .before .before .before .answer-next .result) (l .inv .within) (l .inv .good) (c .before .before .before .before .answer-next .ensures) (used c)
 
 put-answer-requires : tie.Need-put-answer-requires Inv-loop μ-loop
-put-answer-requires c κs = let r = reach c in let v = c .before .before .before .before .before .before .before .before .loop .inv in omega (arith, v .short, v .out-kept, c .before .before .before .before .before .before .before .before .before .before .before .before .pre .1 .1)
+put-answer-requires c κs = let r = reach c in let v = c .before .before .before .before .before .before .before .before .loop .inv in omega (arith, v .short, v .out-kept, c .before .before .before .before .before .before .before .before .before .before .before .before .pre .1)
 
 add-at : tie.Need-add-at Inv-loop μ-loop
-add-at c = let r = reach (c .before .before .before) in let v = c .before .before .before .before .before .before .before .before .before .before .before .loop .inv in omega (arith, v .short, v .out-kept, c .before .before .before .before .before .before .before .before .before .before .before .before .before .before .before .pre .1 .1, c .before .before .before .before .before .before .before .before .before .before .before .before .before .before .before .good)
+add-at c = let r = reach (c .before .before .before) in let v = c .before .before .before .before .before .before .before .before .before .before .before .loop .inv in omega (arith, v .short, v .out-kept, c .before .before .before .before .before .before .before .before .before .before .before .before .before .before .before .pre .1, c .before .before .before .before .before .before .before .before .before .before .before .before .before .before .before .good)
 
 add-i : tie.Need-add-i Inv-loop μ-loop
 add-i c = let r = reach (c .before .before .before) in omega (arith, c .before .before .before .before .before .before .before .before .before .before .before .before .before .before .before .good)
