@@ -8,22 +8,23 @@ use Rattle.model.specs.Kinds.{kindOf}
 use Rattle.model.specs.Kinds.{Kind.addLeave, Kind.endLeave, Kind.removeVisitor, Kind.addHotel, Kind.eraseHotel, Kind.addRide, Kind.eraseRide}
 use Rattle.model.specs.Kinds.{Kind.addStanding, Kind.endStanding, Kind.addAttend, Kind.eraseAttend, Kind.addConf, Kind.eraseConf}
 use Rattle.model.specs.Kinds.{Kind.addLunch, Kind.eraseLunch, Kind.eraseConfAndLunch, Kind.whichMeeting, Kind.countLeave, Kind.seatsLeft, Kind.freeRoom}
-use Rattle.model.specs.Words.{hotelCells, attendCells, lunchTriples, rideCells}
+use Rattle.model.specs.Words.{hotelCells, attendCells, confPairs, lunchTriples, rideCells}
 use Rattle.model.specs.declared.Answer.the-variants.{Done}
 use Rattle.judge.specs.Chains.{asked, foundOr, inWords}
 use Rattle.judge.proofs.Numbers.{last-kind}
-use Rattle.judge.proofs.Grounds.{ground}
+use Rattle.judge.proofs.Grounds.{ground, row-ground}
+use Rattle.judge.proofs.Shown.{conf-fail}
 use Rattle.judge.proofs.Meanings.{answer-is, ready-at}
 use borrow.Author.Needs.{needs}
 use Rattle.judge.proofs.answers.answer.Statement.{statement}
 use Rattle.judge.proofs.answers.answer.Tie as tie
 
-first-without-requires : tie.Need-first-without-requires
+first-booked-requires : tie.Need-first-booked-requires
 unfolding kindOf
-first-without-requires c κs =
+first-booked-requires c κs =
     let p = c .before .before .pre in
     let h = ready-at 2 (c .match .keys2) (p .1 .1 .1 .1) in
-    (p .0, (p .1 .0, (h .slot, (h .b, omega arith))))
+    (p .0, (p .1 .0, (h .slot, h .b)))
 
 settled-requires : tie.Need-settled-requires
 settled-requires c κs = search needs
@@ -38,45 +39,45 @@ bookings-requires c κs =
 add-stay-requires : tie.Need-add-stay-requires
 unfolding kindOf
 add-stay-requires c κs =
-    let p = c .before .before .pre in
-    let h = ready-at 4 (c .match .keys4) (p .1 .1 .1 .1) in
+    let p = c .before .before .before .before .pre in
+    let h = ready-at 4 (c .before .before .match .keys4) (p .1 .1 .1 .1) in
     let q = ground (p .0) hotelCells (ap (λ (g : Grids). g .hotel) (p .1 .0)) (h .slot) (h .a) in
-    (p .0, (p .1 .0, (q .0, (h .slot, (q .1 .0, (q .1 .1, h .b))))))
+    (p .0, (ap (λ (g : Grids). g .leave) (p .1 .0), (q .0, (h .slot, (q .1 .0, (q .1 .1, h .b))))))
 
 add-erase : tie.Need-add-erase
 unfolding kindOf
 add-erase c =
-    let p = c .before .before .before .pre in
-    let h = ready-at 5 (c .before .match .keys5) (p .1 .1 .1 .1) in
+    let p = c .before .before .before .before .pre in
+    let h = ready-at 5 (c .before .before .match .keys5) (p .1 .1 .1 .1) in
     omega (arith, good-laid (p .0) .ranges .visitors, h .b)
 
 erase-requires : tie.Need-erase-requires
 unfolding kindOf
 erase-requires c κs =
-    let p = c .before .before .before .pre in
-    let h = ready-at 5 (c .before .match .keys5) (p .1 .1 .1 .1) in
+    let p = c .before .before .before .before .pre in
+    let h = ready-at 5 (c .before .before .match .keys5) (p .1 .1 .1 .1) in
     ground (p .0) hotelCells (ap (λ (g : Grids). g .hotel) (p .1 .0)) (omega (arith, h .order, h .slot)) (h .a)
 
 add-stay-requires-2 : tie.Need-add-stay-requires-2
 unfolding kindOf
 add-stay-requires-2 c κs =
-    let p = c .before .before .pre in
-    let h = ready-at 6 (c .match .keys6) (p .1 .1 .1 .1) in
+    let p = c .before .before .before .before .pre in
+    let h = ready-at 6 (c .before .before .match .keys6) (p .1 .1 .1 .1) in
     let q = ground (p .0) rideCells (ap (λ (g : Grids). g .ride) (p .1 .0)) (h .slot) (h .a) in
-    (p .0, (p .1 .0, (q .0, (h .slot, (q .1 .0, (q .1 .1, h .b))))))
+    (p .0, (ap (λ (g : Grids). g .leave) (p .1 .0), (q .0, (h .slot, (q .1 .0, (q .1 .1, h .b))))))
 
 add-erase-2 : tie.Need-add-erase-2
 unfolding kindOf
 add-erase-2 c =
-    let p = c .before .before .before .pre in
-    let h = ready-at 7 (c .before .match .keys7) (p .1 .1 .1 .1) in
+    let p = c .before .before .before .before .pre in
+    let h = ready-at 7 (c .before .before .match .keys7) (p .1 .1 .1 .1) in
     omega (arith, good-laid (p .0) .ranges .visitors, h .b)
 
 erase-requires-2 : tie.Need-erase-requires-2
 unfolding kindOf
 erase-requires-2 c κs =
-    let p = c .before .before .before .pre in
-    let h = ready-at 7 (c .before .match .keys7) (p .1 .1 .1 .1) in
+    let p = c .before .before .before .before .pre in
+    let h = ready-at 7 (c .before .before .match .keys7) (p .1 .1 .1 .1) in
     ground (p .0) rideCells (ap (λ (g : Grids). g .ride) (p .1 .0)) (omega (arith, h .order, h .slot)) (h .a)
 
 end-standing-requires : tie.Need-end-standing-requires
@@ -96,15 +97,15 @@ add-attend-requires c κs =
 add-erase-3 : tie.Need-add-erase-3
 unfolding kindOf
 add-erase-3 c =
-    let p = c .before .before .before .pre in
-    let h = ready-at 11 (c .before .match .keys11) (p .1 .1 .1 .1) in
+    let p = c .before .before .before .before .pre in
+    let h = ready-at 11 (c .before .before .match .keys11) (p .1 .1 .1 .1) in
     omega (arith, good-laid (p .0) .ranges .meetings, h .a)
 
 erase-requires-3 : tie.Need-erase-requires-3
 unfolding kindOf
 erase-requires-3 c κs =
-    let p = c .before .before .before .pre in
-    let h = ready-at 11 (c .before .match .keys11) (p .1 .1 .1 .1) in
+    let p = c .before .before .before .before .pre in
+    let h = ready-at 11 (c .before .before .match .keys11) (p .1 .1 .1 .1) in
     ground (p .0) attendCells (ap (λ (g : Grids). g .attend) (p .1 .0)) (omega (arith, h .order, h .slot)) (h .b)
 
 add-conf-requires : tie.Need-add-conf-requires
@@ -114,12 +115,19 @@ add-conf-requires c κs =
     let h = ready-at 12 (c .match .keys12) (p .1 .1 .1 .1) in
     (p .0, (p .1 .0, (h .slot, (h .a, h .b))))
 
-first-without-requires-2 : tie.Need-first-without-requires-2
+add-first-row-without : tie.Need-add-first-row-without
 unfolding kindOf
-first-without-requires-2 c κs =
-    let p = c .before .before .pre in
-    let h = ready-at 13 (c .match .keys13) (p .1 .1 .1 .1) in
-    (p .0, (p .1 .0, (h .slot, (h .b, omega arith))))
+add-first-row-without c =
+    let p = c .before .before .before .before .pre in
+    let h = ready-at 13 (c .before .before .match .keys13) (p .1 .1 .1 .1) in
+    omega (arith, good-laid (p .0) .ranges .meetings, h .b)
+
+first-row-without-requires : tie.Need-first-row-without-requires
+unfolding kindOf
+first-row-without-requires c κs =
+    let p = c .before .before .before .before .pre in
+    let h = ready-at 13 (c .before .before .match .keys13) (p .1 .1 .1 .1) in
+    row-ground (p .0) confPairs (ap (λ (g : Grids). g .conf) (p .1 .0)) (omega (arith, h .slot))
 
 settled-requires-2 : tie.Need-settled-requires-2
 settled-requires-2 c κs = search needs
@@ -134,15 +142,15 @@ lunch-fits-requires c κs =
 add-erase-4 : tie.Need-add-erase-4
 unfolding kindOf
 add-erase-4 c =
-    let p = c .before .before .before .pre in
-    let h = ready-at 15 (c .before .match .keys15) (p .1 .1 .1 .1) in
+    let p = c .before .before .before .before .pre in
+    let h = ready-at 15 (c .before .before .match .keys15) (p .1 .1 .1 .1) in
     omega (arith, good-laid (p .0) .ranges .dining, h .a)
 
 erase-requires-4 : tie.Need-erase-requires-4
 unfolding kindOf
 erase-requires-4 c κs =
-    let p = c .before .before .before .pre in
-    let h = ready-at 15 (c .before .match .keys15) (p .1 .1 .1 .1) in
+    let p = c .before .before .before .before .pre in
+    let h = ready-at 15 (c .before .before .match .keys15) (p .1 .1 .1 .1) in
     ground (p .0) lunchTriples (ap (λ (g : Grids). g .lunch) (p .1 .0)) (omega (arith, h .order, h .slot)) (h .b)
 
 erase-all-requires : tie.Need-erase-all-requires
@@ -197,7 +205,7 @@ unfolding kindOf inWords
 returns-2 c =
     let p = c .before .before .before .before .pre in
     c .settled .ensures
-    ∙ ap (λ f. asked 18 f (Done 0)) (c .before .first-without .ensures)
+    ∙ ap (λ f. asked 18 f (Done 0)) (c .before .first-booked .ensures)
     ∙ answer-is (p .0) (p .1 .0) (c .before .before .before .before .args .r) 2 endLeave (c .before .before .match .keys2) refl (p .1 .1 .1 .1)
 
 returns-3 : tie.Need-returns-3
@@ -210,28 +218,28 @@ returns-3 c =
 returns-4 : tie.Need-returns-4
 unfolding kindOf inWords
 returns-4 c =
-    let p = c .before .before .before .pre in
-    c .add-stay .ensures ∙ answer-is (p .0) (p .1 .0) (c .before .before .before .args .r) 4 addHotel (c .before .match .keys4) refl (p .1 .1 .1 .1)
+    let p = c .before .before .before .before .before .pre in
+    c .add-stay .ensures ∙ answer-is (p .0) (p .1 .0) (c .before .before .before .before .before .args .r) 4 addHotel (c .before .before .before .match .keys4) refl (p .1 .1 .1 .1)
 
 returns-5 : tie.Need-returns-5
 unfolding kindOf inWords
 returns-5 c =
-    let p = c .before .before .before .before .pre in
+    let p = c .before .before .before .before .before .pre in
     c .erase .ensures
-    ∙ answer-is (p .0) (p .1 .0) (c .before .before .before .before .args .r) 5 eraseHotel (c .before .before .match .keys5) refl (p .1 .1 .1 .1)
+    ∙ answer-is (p .0) (p .1 .0) (c .before .before .before .before .before .args .r) 5 eraseHotel (c .before .before .before .match .keys5) refl (p .1 .1 .1 .1)
 
 returns-6 : tie.Need-returns-6
 unfolding kindOf inWords
 returns-6 c =
-    let p = c .before .before .before .pre in
-    c .add-stay2 .ensures ∙ answer-is (p .0) (p .1 .0) (c .before .before .before .args .r) 6 addRide (c .before .match .keys6) refl (p .1 .1 .1 .1)
+    let p = c .before .before .before .before .before .pre in
+    c .add-stay2 .ensures ∙ answer-is (p .0) (p .1 .0) (c .before .before .before .before .before .args .r) 6 addRide (c .before .before .before .match .keys6) refl (p .1 .1 .1 .1)
 
 returns-7 : tie.Need-returns-7
 unfolding kindOf inWords
 returns-7 c =
-    let p = c .before .before .before .before .pre in
+    let p = c .before .before .before .before .before .pre in
     c .erase2 .ensures
-    ∙ answer-is (p .0) (p .1 .0) (c .before .before .before .before .args .r) 7 eraseRide (c .before .before .match .keys7) refl (p .1 .1 .1 .1)
+    ∙ answer-is (p .0) (p .1 .0) (c .before .before .before .before .before .args .r) 7 eraseRide (c .before .before .before .match .keys7) refl (p .1 .1 .1 .1)
 
 returns-8 : tie.Need-returns-8
 unfolding kindOf inWords
@@ -256,9 +264,9 @@ returns-10 c =
 returns-11 : tie.Need-returns-11
 unfolding kindOf inWords
 returns-11 c =
-    let p = c .before .before .before .before .pre in
+    let p = c .before .before .before .before .before .pre in
     c .erase3 .ensures
-    ∙ answer-is (p .0) (p .1 .0) (c .before .before .before .before .args .r) 11 eraseAttend (c .before .before .match .keys11) refl (p .1 .1 .1 .1)
+    ∙ answer-is (p .0) (p .1 .0) (c .before .before .before .before .before .args .r) 11 eraseAttend (c .before .before .before .match .keys11) refl (p .1 .1 .1 .1)
 
 returns-12 : tie.Need-returns-12
 unfolding kindOf inWords
@@ -269,10 +277,12 @@ returns-12 c =
 returns-13 : tie.Need-returns-13
 unfolding kindOf inWords
 returns-13 c =
-    let p = c .before .before .before .before .pre in
+    let p = c .before .before .before .before .before .before .pre in
+    let r = c .before .before .before .before .before .before .args .r in
+    let h = ready-at 13 (c .before .before .before .before .match .keys13) (p .1 .1 .1 .1) in
     c .settled2 .ensures
-    ∙ ap (λ f. asked 16 f (Done 0)) (c .before .first-without2 .ensures)
-    ∙ answer-is (p .0) (p .1 .0) (c .before .before .before .before .args .r) 13 eraseConf (c .before .before .match .keys13) refl (p .1 .1 .1 .1)
+    ∙ ap (λ f. asked 16 f (Done 0)) (c .before .first-row-without .ensures ∙ conf-fail (p .0) (r .b) (r .first) (r .last) (h .b) (ap (λ (g : Grids). g .conf) (p .1 .0)) (omega (arith, h .slot)))
+    ∙ answer-is (p .0) (p .1 .0) (c .before .before .before .before .before .before .args .r) 13 eraseConf (c .before .before .before .before .match .keys13) refl (p .1 .1 .1 .1)
 
 returns-14 : tie.Need-returns-14
 unfolding kindOf inWords
@@ -284,9 +294,9 @@ returns-14 c =
 returns-15 : tie.Need-returns-15
 unfolding kindOf inWords
 returns-15 c =
-    let p = c .before .before .before .before .pre in
+    let p = c .before .before .before .before .before .pre in
     c .erase4 .ensures
-    ∙ answer-is (p .0) (p .1 .0) (c .before .before .before .before .args .r) 15 eraseLunch (c .before .before .match .keys15) refl (p .1 .1 .1 .1)
+    ∙ answer-is (p .0) (p .1 .0) (c .before .before .before .before .before .args .r) 15 eraseLunch (c .before .before .before .match .keys15) refl (p .1 .1 .1 .1)
 
 returns-16 : tie.Need-returns-16
 unfolding kindOf inWords
@@ -329,7 +339,7 @@ pub answer-spec : {M : Type 1} → statement M
 answer-spec =
     tie.close
     (tie.spec
-    first-without-requires
+    first-booked-requires
     settled-requires
     bookings-requires
     add-stay-requires
@@ -343,7 +353,8 @@ answer-spec =
     add-erase-3
     erase-requires-3
     add-conf-requires
-    first-without-requires-2
+    add-first-row-without
+    first-row-without-requires
     settled-requires-2
     lunch-fits-requires
     add-erase-4
