@@ -267,12 +267,12 @@ fn seats_left(book: &[u32], s: Settings, g: Grids, date: u32, room: u32) -> u32
     capacity(s, room) - reserved(book, s, g, date, room)
 }
 
-// The answer of a request whose questions up to 7 are answered yes; the last kind is 20.
-pub fn answer(book: &[u32], s: Settings, g: Grids, r: Request) -> Answer
+// Kinds 1 to 7: a visitor's leave, hotel rooms and rides.
+fn of_visitor(book: &[u32], s: Settings, g: Grids, r: Request) -> Answer
     requires { ⌜ Good s (now book) ⌝ }
     requires { ⌜ g ≡ gridsOf s ⌝ }
     requires { ⌜ 1 ≤ r .kind ⌝ }
-    requires { ⌜ r .kind ≤ 20 ⌝ }
+    requires { ⌜ r .kind ≤ 7 ⌝ }
     requires { ⌜ Ready s (rowAt (r .kind)) r ⌝ }
     ensures { λ a. ⌜ a ≡ answerAt (now (book .entry)) r ⌝ }
 {
@@ -283,18 +283,8 @@ pub fn answer(book: &[u32], s: Settings, g: Grids, r: Request) -> Answer
         3 => Answer::Done(bookings(book, s, g, r.b, r.first, r.last)),
         4 => {
             let leave = g.leave;
-            let cells = g.hotel;
-            add_stay(
-                book,
-                s,
-                leave,
-                cells,
-                Slot::Dates,
-                r.a,
-                r.b,
-                r.first,
-                r.last,
-            )
+            let set = g.hotel;
+            add_stay(book, s, leave, set, Slot::Dates, r.a, r.b, r.first, r.last)
         }
         5 => {
             let cells = g.hotel;
@@ -302,23 +292,30 @@ pub fn answer(book: &[u32], s: Settings, g: Grids, r: Request) -> Answer
         }
         6 => {
             let leave = g.leave;
-            let cells = g.ride;
-            add_stay(
-                book,
-                s,
-                leave,
-                cells,
-                Slot::Times,
-                r.a,
-                r.b,
-                r.first,
-                r.last,
-            )
+            let set = g.ride;
+            add_stay(book, s, leave, set, Slot::Times, r.a, r.b, r.first, r.last)
         }
-        7 => {
+        _ => {
             let cells = g.ride;
             erase(book, cells, r.a, r.b + 1, r.first, r.last)
         }
+    }
+}
+
+// The answer of a request whose questions up to 7 are answered yes; the last kind is 20.
+pub fn answer(book: &[u32], s: Settings, g: Grids, r: Request) -> Answer
+    requires { ⌜ Good s (now book) ⌝ }
+    requires { ⌜ g ≡ gridsOf s ⌝ }
+    requires { ⌜ 1 ≤ r .kind ⌝ }
+    requires { ⌜ r .kind ≤ 20 ⌝ }
+    requires { ⌜ Ready s (rowAt (r .kind)) r ⌝ }
+    ensures { λ a. ⌜ a ≡ answerAt (now (book .entry)) r ⌝ }
+{
+    let kind = r.kind;
+    if kind < 8 {
+        return of_visitor(book, s, g, r);
+    }
+    match kind {
         8 => Answer::Done(0),
         9 => end_standing(book, s, g, r.a, r.first, r.last),
         10 => add_attend(book, s, g, r.a, r.b, r.first, r.last),
