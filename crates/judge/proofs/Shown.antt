@@ -7,9 +7,10 @@ use mathlib.Core.List.{List}
 use native.Mathlib.Omega.{arith}
 use lib.Dec.{eqb}
 use Rattle.book.specs.declared.grid.Grid.{Grid}
+use Rattle.book.specs.declared.grid.Grids.{Grids}
 use Rattle.book.specs.declared.units.Slot.{Slot}
 use Rattle.book.specs.Founds.{foundOf}
-use Rattle.book.specs.Grids.{cellAt, gridOf}
+use Rattle.book.specs.Grids.{cellAt, gridOf, gridsOf}
 use Rattle.book.specs.Rows.{rowHas}
 use Rattle.book.specs.Good.{Good}
 use Rattle.book.specs.Units.{unitOf}
@@ -23,40 +24,40 @@ use Rattle.model.specs.Bounded.{bit, failing}
 use Rattle.model.specs.Kinds.{slotsOf, dateOf}
 use Rattle.model.specs.Reading.{stateOf}
 use Rattle.model.specs.Site.{allSessions}
-use Rattle.model.specs.Words.{leaves, standings, attendCells, confPairs, lunchTriples}
+use Rattle.model.specs.Words.{leaves}
 use Rattle.queries.proofs.Shows.{leave-is, standing-is, conf-held-is, attended-is, lunch-held-is}
 
-module _ {S : Settings} {b : List ℕ} {g : Grid} (good : Good S b) where
+module _ {S : Settings} {b : List ℕ} (good : Good S b) where
   -- the bit of a visitor on the date of a slot
-  pub leave-at : (u : Slot) {i d v : ℕ} → g ≡ gridOf S leaves → d ≡ dateOf S (unitOf u) i → i < slotsOf S (unitOf u) → v < S .visitors
+  pub leave-at : {g : Grid} (u : Slot) {i d v : ℕ} → g ≡ gridOf S leaves → d ≡ dateOf S (unitOf u) i → i < slotsOf S (unitOf u) → v < S .visitors
       → bit (cellAt g b d (v / 32)) (v % 32) ≡ holdsIn S (stateOf b) (OnLeave u) v 0 i
   unfolding holdsIn
-  leave-at u {i} {d} {v} e f h k =
+  leave-at {g} u {i} {d} {v} e f h k =
       ap₂ (λ (g : Grid) (d : ℕ). bit (cellAt g b d (v / 32)) (v % 32)) e f
       ∙ sym (leave-is S b good (dateOf S (unitOf u) i) v (date-lt S (good-laid good .ranges) u i h) k)
 
   -- the sets of a meeting
-  module _ (m first last : ℕ) (k : m < S .meetings) where
-    pub stands-fail : g ≡ gridOf S standings → last < allSessions S
-        → foundOf (failing (λ i. bit (cellAt g b i (m / 32)) (m % 32)) first last) ≡ slotsFail S b Stands m 0 first last
+  module _ {g : Grids} (e : g ≡ gridsOf S) (m first last : ℕ) (k : m < S .meetings) where
+    pub stands-fail : last < allSessions S
+        → foundOf (failing (λ i. bit (cellAt (g .standing) b i (m / 32)) (m % 32)) first last) ≡ slotsFail S b Stands m 0 first last
     unfolding holdsIn
-    stands-fail e h =
-        ap foundOf (failing-same _ _ first last (λ i l j. ap (λ (g : Grid). bit (cellAt g b i (m / 32)) (m % 32)) e ∙ sym (standing-is S b good i m (omega (arith, j, h)) k)))
+    stands-fail h =
+        ap foundOf (failing-same _ _ first last (λ i l j. ap (λ (g : Grids). bit (cellAt (g .standing) b i (m / 32)) (m % 32)) e ∙ sym (standing-is S b good i m (omega (arith, j, h)) k)))
 
-    pub conf-fail : g ≡ gridOf S confPairs → last < allSessions S
-        → foundOf (failing (λ i. rowHas g b i (m + 1)) first last) ≡ slotsFail S b HasConf m 0 first last
+    pub conf-fail : last < allSessions S
+        → foundOf (failing (λ i. rowHas (g .conf) b i (m + 1)) first last) ≡ slotsFail S b HasConf m 0 first last
     unfolding holdsIn
-    conf-fail e h =
-        ap foundOf (failing-same _ _ first last (λ i l j. ap (λ (g : Grid). rowHas g b i (m + 1)) e ∙ sym (conf-held-is S b good i m (omega (arith, j, h)) k)))
+    conf-fail h =
+        ap foundOf (failing-same _ _ first last (λ i l j. ap (λ (g : Grids). rowHas (g .conf) b i (m + 1)) e ∙ sym (conf-held-is S b good i m (omega (arith, j, h)) k)))
 
-    pub attended-fail : g ≡ gridOf S attendCells → last < allSessions S
-        → foundOf (failing (λ i. rowHas g b i (m + 1)) first last) ≡ slotsFail S b Attended m 0 first last
+    pub attended-fail : last < allSessions S
+        → foundOf (failing (λ i. rowHas (g .attend) b i (m + 1)) first last) ≡ slotsFail S b Attended m 0 first last
     unfolding holdsIn
-    attended-fail e h =
-        ap foundOf (failing-same _ _ first last (λ i l j. ap (λ (g : Grid). rowHas g b i (m + 1)) e ∙ sym (attended-is S b good i m (omega (arith, j, h)) k)))
+    attended-fail h =
+        ap foundOf (failing-same _ _ first last (λ i l j. ap (λ (g : Grids). rowHas (g .attend) b i (m + 1)) e ∙ sym (attended-is S b good i m (omega (arith, j, h)) k)))
 
-    pub lunch-fail : g ≡ gridOf S lunchTriples → last < S .dates
-        → foundOf (failing (λ i. not (eqb (cellAt g b i m) 0)) first last) ≡ slotsFail S b HasLunch m 0 first last
+    pub lunch-fail : last < S .dates
+        → foundOf (failing (λ i. not (eqb (cellAt (g .lunch) b i m) 0)) first last) ≡ slotsFail S b HasLunch m 0 first last
     unfolding holdsIn
-    lunch-fail e h =
-        ap foundOf (failing-same _ _ first last (λ i l j. ap (λ (g : Grid). not (eqb (cellAt g b i m) 0)) e ∙ sym (lunch-held-is S b good i m (omega (arith, j, h)) k)))
+    lunch-fail h =
+        ap foundOf (failing-same _ _ first last (λ i l j. ap (λ (g : Grids). not (eqb (cellAt (g .lunch) b i m) 0)) e ∙ sym (lunch-held-is S b good i m (omega (arith, j, h)) k)))

@@ -1,4 +1,5 @@
-// The questions of a visitor, a meeting or a dining room in each slot: 9, 10, 14 and 16 to 20.
+// The questions of a visitor, a meeting or a dining room in each slot: 9, 10, 14 and 16 to 20. Each is a loop of its own, over the one grid
+// that it reads where there is one: a struct passed to a function that is not inlined is copied at each call.
 use book::found::Found;
 use book::grid::Grid;
 use book::grid::Grids;
@@ -119,7 +120,7 @@ pub fn first_off_leave(
     Found::Nothing
 }
 
-// Question 10 of kinds 10 and 12: the lowest slot in which v is not in the pool.
+// Question 10 of kinds 10 and 12: the lowest slot of first..last in which v is not in the pool.
 pub fn first_not_member(book: &[u32], pool: Grid, v: u32, first: u32, last: u32) -> Found
     requires { ⌜ Fits pool (length (now book)) ⌝ }
     requires { ⌜ last < pool .slots ⌝ }
@@ -136,7 +137,7 @@ pub fn first_not_member(book: &[u32], pool: Grid, v: u32, first: u32, last: u32)
     Found::Nothing
 }
 
-// Question 10 of kind 14: the lowest date on which the meeting stands in no session.
+// Question 10 of kind 14: the lowest date of first..last on which the meeting stands in no session.
 pub fn first_date_not_standing(
     book: &[u32],
     s: Settings,
@@ -161,7 +162,7 @@ pub fn first_date_not_standing(
     Found::Nothing
 }
 
-// Question 14: the lowest date on which n seats more are too many for the dining room.
+// Question 14: the lowest date of first..last on which n seats more are too many for the dining room.
 pub fn first_over(
     book: &[u32],
     s: Settings,
@@ -188,7 +189,7 @@ pub fn first_over(
     Found::Nothing
 }
 
-// Questions 16 and 20: the lowest slot in which no cell holds w.
+// Questions 16 and 20: the lowest slot of first..last in which no cell holds w.
 pub fn first_row_without(book: &[u32], cells: Grid, w: u32, first: u32, last: u32) -> Found
     requires { ⌜ Fits cells (length (now book)) ⌝ }
     requires { ⌜ last < cells .slots ⌝ }
@@ -204,7 +205,7 @@ pub fn first_row_without(book: &[u32], cells: Grid, w: u32, first: u32, last: u3
     Found::Nothing
 }
 
-// Question 17: the lowest date on which the meeting has no lunch.
+// Question 17: the lowest date of first..last on which the meeting has no lunch.
 pub fn first_without_lunch(
     book: &[u32],
     triples: Grid,
@@ -227,7 +228,7 @@ pub fn first_without_lunch(
     Found::Nothing
 }
 
-// Question 18: the lowest date on which the visitor has a hotel, ride or attend entry.
+// Question 18: the lowest date of first..last on which the visitor has a hotel, ride or attend entry.
 pub fn first_booked(
     book: &[u32],
     s: Settings,
@@ -252,7 +253,7 @@ pub fn first_booked(
     Found::Nothing
 }
 
-// Question 19: the lowest session in which the meeting has a conference room, or a lunch on its date.
+// Question 19: the lowest session of first..last in which the meeting has a conference room, or a lunch on its date.
 pub fn first_held(book: &[u32], s: Settings, g: Grids, meeting: u32, first: u32, last: u32) -> Found
     requires { ⌜ Good s (now book) ⌝ }
     requires { ⌜ g ≡ gridsOf s ⌝ }

@@ -51,7 +51,7 @@ returns-2 c =
     rw (
       ← (c .before .before .before .before .before .before .before .before .first-off-leave .ensures),
       c .before .before .before .before .before .before .enum-told .given .1,
-      ← (c .before .before .before .before .first-not-member .ensures ∙ stands-fail (p .0) (a .a) (a .first) (a .last) (p .1 .1 .1 .0) (ap (λ (g : Grids). g .standing) (p .1 .0)) (p .1 .1 .0)),
+      ← (c .before .before .before .before .first-not-member .ensures ∙ stands-fail (p .0) (p .1 .0) (a .a) (a .first) (a .last) (p .1 .1 .1 .0) (p .1 .1 .0)),
       c .before .before .i2 .given .1,
     ) (c .refused2 .ensures)
 
@@ -85,7 +85,7 @@ returns-3 c =
     rw (
       ← (c .before .before .before .before .before .before .before .before .before .before .before .before .first-off-leave .ensures),
       c .before .before .before .before .before .before .before .before .before .before .enum-told .given .1,
-      ← (c .before .before .before .before .before .before .before .before .first-not-member .ensures ∙ stands-fail (p .0) (a .a) (a .first) (a .last) (p .1 .1 .1 .0) (ap (λ (g : Grids). g .standing) (p .1 .0)) (p .1 .1 .0)),
+      ← (c .before .before .before .before .before .before .before .before .first-not-member .ensures ∙ stands-fail (p .0) (p .1 .0) (a .a) (a .first) (a .last) (p .1 .1 .1 .0) (p .1 .1 .0)),
       c .before .before .before .before .before .before .enum-told2 .given .1,
       ← (c .before .before .before .before .first-failing .ensures),
       c .before .before .i3 .given .1,
@@ -118,7 +118,7 @@ returns-4 c =
     rw (
       ← (c .before .before .before .before .before .before .before .before .before .before .before .before .first-off-leave .ensures),
       c .before .before .before .before .before .before .before .before .before .before .enum-told .given .1,
-      ← (c .before .before .before .before .before .before .before .before .first-not-member .ensures ∙ stands-fail (p .0) (a .a) (a .first) (a .last) (p .1 .1 .1 .0) (ap (λ (g : Grids). g .standing) (p .1 .0)) (p .1 .1 .0)),
+      ← (c .before .before .before .before .before .before .before .before .first-not-member .ensures ∙ stands-fail (p .0) (p .1 .0) (a .a) (a .first) (a .last) (p .1 .1 .1 .0) (p .1 .1 .0)),
       c .before .before .before .before .before .before .enum-told2 .given .1,
       ← (c .before .before .before .before .first-failing .ensures),
       c .before .before .enum-told3 .given .1,

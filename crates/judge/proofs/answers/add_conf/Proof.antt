@@ -30,7 +30,10 @@ unfolding confAdds
 returns c =
     let p = c .before .before .before .before .before .before .before .pre in
     let a = c .before .before .before .before .before .before .before .args in
-    rw (← (c .before .before .before .before .first-not-member .ensures ∙ stands-fail (p .0) (a .b) (a .first) (a .last) (p .1 .1 .1 .1) (ap (λ (g : Grids). g .standing) (p .1 .0)) (p .1 .1 .0)), c .before .before .i .given .1) (c .refused .ensures)
+    rw (
+      ← (c .before .before .before .before .first-not-member .ensures ∙ stands-fail (p .0) (p .1 .0) (a .b) (a .first) (a .last) (p .1 .1 .1 .1) (p .1 .1 .0)),
+      c .before .before .i .given .1,
+    ) (c .refused .ensures)
 
 enum-told : tie.Need-enum-told
 enum-told c = search needs
@@ -60,7 +63,7 @@ returns-2 c =
     let p = c .before .before .before .before .before .before .before .before .before .before .before .pre in
     let a = c .before .before .before .before .before .before .before .before .before .before .before .args in
     rw (
-      ← (c .before .before .before .before .before .before .before .before .first-not-member .ensures ∙ stands-fail (p .0) (a .b) (a .first) (a .last) (p .1 .1 .1 .1) (ap (λ (g : Grids). g .standing) (p .1 .0)) (p .1 .1 .0)),
+      ← (c .before .before .before .before .before .before .before .before .first-not-member .ensures ∙ stands-fail (p .0) (p .1 .0) (a .b) (a .first) (a .last) (p .1 .1 .1 .1) (p .1 .1 .0)),
       c .before .before .before .before .before .before .enum-told .given .1,
       ← (c .before .before .before .before .first-failing .ensures),
       c .before .before .i2 .given .1,
@@ -91,7 +94,7 @@ returns-3 c =
     let p = c .before .before .before .before .before .before .before .before .before .before .before .pre in
     let a = c .before .before .before .before .before .before .before .before .before .before .before .args in
     rw (
-      ← (c .before .before .before .before .before .before .before .before .first-not-member .ensures ∙ stands-fail (p .0) (a .b) (a .first) (a .last) (p .1 .1 .1 .1) (ap (λ (g : Grids). g .standing) (p .1 .0)) (p .1 .1 .0)),
+      ← (c .before .before .before .before .before .before .before .before .first-not-member .ensures ∙ stands-fail (p .0) (p .1 .0) (a .b) (a .first) (a .last) (p .1 .1 .1 .1) (p .1 .1 .0)),
       c .before .before .before .before .before .before .enum-told .given .1,
       ← (c .before .before .before .before .first-failing .ensures),
       c .before .before .enum-told2 .given .1,

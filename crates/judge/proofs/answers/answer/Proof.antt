@@ -178,7 +178,7 @@ returns-7 c =
     let r = c .before .before .before .before .before .before .before .args .r in
     let h = ready-at 13 (c .before .before .before .before .match .keys6) (p .1 .1 .1 .1) in
     c .settled .ensures
-    ∙ ap (λ f. asked 16 f (Done 0)) (c .before .first-row-without .ensures ∙ conf-fail (p .0) (r .b) (r .first) (r .last) (h .b) (ap (λ (g : Grids). g .conf) (p .1 .0)) (omega (arith, h .slot)))
+    ∙ ap (λ f. asked 16 f (Done 0)) (c .before .first-row-without .ensures ∙ conf-fail (p .0) (p .1 .0) (r .b) (r .first) (r .last) (h .b) (omega (arith, h .slot)))
     ∙ answer-is (p .0) (p .1 .0) (c .before .before .before .before .before .before .before .args .r) 13 eraseConf (c .before .before .before .before .match .keys6) refl (p .1 .1 .1 .1)
 
 returns-8 : tie.Need-returns-8

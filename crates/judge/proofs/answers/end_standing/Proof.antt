@@ -45,7 +45,7 @@ returns-2 c =
     rw (
       ← (c .before .before .before .before .before .first-held .ensures),
       c .before .before .before .enum-told .given .1,
-      ← (c .before .first-row-without .ensures ∙ attended-fail (p .0) (a .a) (a .first) (a .last) (p .1 .1 .1) (ap (λ (g : Grids). g .attend) (p .1 .0)) (p .1 .1 .0)),
+      ← (c .before .first-row-without .ensures ∙ attended-fail (p .0) (p .1 .0) (a .a) (a .first) (a .last) (p .1 .1 .1) (p .1 .1 .0)),
     ) (c .settled .ensures)
 
 pub end-standing-spec : {M : Type 1} → statement M

@@ -32,7 +32,10 @@ unfolding eraseAll
 returns c =
     let p = c .before .before .before .before .before .before .before .pre in
     let a = c .before .before .before .before .before .before .before .args in
-    rw (← (c .before .before .before .before .first-row-without .ensures ∙ conf-fail (p .0) (a .b) (a .first) (a .last) (p .1 .1 .1) (ap (λ (g : Grids). g .conf) (p .1 .0)) (p .1 .1 .0)), c .before .before .i .given .1) (c .refused .ensures)
+    rw (
+      ← (c .before .before .before .before .first-row-without .ensures ∙ conf-fail (p .0) (p .1 .0) (a .b) (a .first) (a .last) (p .1 .1 .1) (p .1 .1 .0)),
+      c .before .before .i .given .1,
+    ) (c .refused .ensures)
 
 enum-told : tie.Need-enum-told
 enum-told c = search needs
@@ -62,11 +65,11 @@ returns-2 c =
     let to = c .before .before .before .date-of-session2 in
     let d : to .result .0 < a .s .dates = rw (to .ensures) (date-lt (a .s) (good-laid (p .0) .ranges) Sessions (a .last) (p .1 .1 .0)) in
     rw (
-      ← (c .before .before .before .before .before .before .before .first-row-without .ensures ∙ conf-fail (p .0) (a .b) (a .first) (a .last) (p .1 .1 .1) (ap (λ (g : Grids). g .conf) (p .1 .0)) (p .1 .1 .0)),
+      ← (c .before .before .before .before .before .before .before .first-row-without .ensures ∙ conf-fail (p .0) (p .1 .0) (a .b) (a .first) (a .last) (p .1 .1 .1) (p .1 .1 .0)),
       c .before .before .before .before .before .enum-told .given .1,
       ← (from .ensures),
       ← (to .ensures),
-      ← (c .before .first-without-lunch .ensures ∙ lunch-fail (p .0) (a .b) (from .result .0) (to .result .0) (p .1 .1 .1) (ap (λ (g : Grids). g .lunch) (p .1 .0)) d),
+      ← (c .before .first-without-lunch .ensures ∙ lunch-fail (p .0) (p .1 .0) (a .b) (from .result .0) (to .result .0) (p .1 .1 .1) d),
     ) (c .settled .ensures)
 
 pub erase-all-spec : {M : Type 1} → statement M

@@ -38,12 +38,14 @@ returns : tie.Need-returns Inv-loop μ-loop
 returns c =
     let s = c .before .before .before .before .before .before in
     let p = s .pre in
-    let i = c .before .before .before .loop-test .taken in
-    let e = c .before .member .ensures ∙ leave-at (p .0) (s .args .u) (p .1 .0) (c .before .before .date-of .ensures) (omega (arith, p .1 .1 .0, i)) (p .1 .1 .1) in
-    passed-at (c .before .before .before .before .loop .inv) (c .before .before .before .loop-test .taken) (e) (c .if1 .taken)
+    let l = c .before .before .before .loop-test .taken in
+    let e = leave-at (p .0) (s .args .u) (p .1 .0) (c .before .before .date-of .ensures) (omega (arith, p .1 .1 .0, l)) (p .1 .1 .1) in
+    passed-at (c .before .before .before .before .loop .inv) l (c .before .member .ensures ∙ e) (c .if1 .taken)
 
 add-i : tie.Need-add-i Inv-loop μ-loop
-add-i c = let s = c .before .before .before .before .before .before in omega (arith, s .pre .1 .1 .0, c .before .before .before .loop-test .taken, unit-le (s .args .s) (good-laid (s .pre .0) .ranges) (s .args .u))
+add-i c =
+    let s = c .before .before .before .before .before .before in
+    omega (arith, s .pre .1 .1 .0, c .before .before .before .loop-test .taken, unit-le (s .args .s) (good-laid (s .pre .0) .ranges) (s .args .u))
 
 loop-less : tie.Need-loop-less Inv-loop μ-loop
 loop-less c = search needs
@@ -52,9 +54,9 @@ loop-again : tie.Need-loop-again Inv-loop μ-loop
 loop-again c =
     let s = c .before .before .before .before .before .before in
     let p = s .pre in
-    let i = c .before .before .before .loop-test .taken in
-    let e = c .before .member .ensures ∙ leave-at (p .0) (s .args .u) (p .1 .0) (c .before .before .date-of .ensures) (omega (arith, p .1 .1 .0, i)) (p .1 .1 .1) in
-    passed-next (c .before .before .before .before .loop .inv) (e) (c .if1 .left)
+    let l = c .before .before .before .loop-test .taken in
+    let e = leave-at (p .0) (s .args .u) (p .1 .0) (c .before .before .date-of .ensures) (omega (arith, p .1 .1 .0, l)) (p .1 .1 .1) in
+    passed-next (c .before .before .before .before .loop .inv) (c .before .member .ensures ∙ e) (c .if1 .left)
 
 returns-2 : tie.Need-returns-2 Inv-loop μ-loop
 returns-2 c = passed-all (c .before .loop .inv) (c .loop-test .left)

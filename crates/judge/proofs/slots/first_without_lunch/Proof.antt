@@ -24,7 +24,9 @@ cell-requires : tie.Need-cell-requires Inv-loop μ-loop
 cell-requires c κs = search needs
 
 returns : tie.Need-returns Inv-loop μ-loop
-returns c = passed-at (c .before .before .before .loop .inv) (c .before .before .loop-test .taken) (ap (λ (w : ℕ). not (eqb w 0)) (c .before .cell .ensures)) (ap (λ (w : ℕ). not (not (eqb w 0))) (c .if1 .taken))
+returns c =
+    passed-at (c .before .before .before .loop .inv) (c .before .before .loop-test .taken) (ap (λ (w : ℕ). not (eqb w 0)) (c .before .cell .ensures))
+    (ap (λ (w : ℕ). not (not (eqb w 0))) (c .if1 .taken))
 
 add-i : tie.Need-add-i Inv-loop μ-loop
 add-i c = search needs
@@ -33,7 +35,8 @@ loop-less : tie.Need-loop-less Inv-loop μ-loop
 loop-less c = search needs
 
 loop-again : tie.Need-loop-again Inv-loop μ-loop
-loop-again c = passed-next (c .before .before .before .loop .inv) (ap (λ (w : ℕ). not (eqb w 0)) (c .before .cell .ensures)) (ap (λ (e : Bool). not (not e)) (ne-eqb _ 0 (c .if1 .left)))
+loop-again c =
+    passed-next (c .before .before .before .loop .inv) (ap (λ (w : ℕ). not (eqb w 0)) (c .before .cell .ensures)) (ap (λ (e : Bool). not (not e)) (ne-eqb _ 0 (c .if1 .left)))
 
 returns-2 : tie.Need-returns-2 Inv-loop μ-loop
 returns-2 c = passed-all (c .before .loop .inv) (c .loop-test .left)
