@@ -16,3 +16,7 @@ pub ground : {S : Settings} {b : List ℕ} {g : Grid} {i j : ℕ} → Good S b �
     → (Fits g (length b)) × ((i < g .slots) × (j < g .items))
 ground {S} {b} {g} {i} {j} good p e h k =
     subst (λ (g : Grid). (Fits g (length b)) × ((i < g .slots) × (j < g .items))) (sym e) (fits S b (good-laid good) p, (h, k))
+
+-- the same of a question of whole rows
+pub row-ground : {S : Settings} {b : List ℕ} {g : Grid} {i : ℕ} → Good S b → (p : Region) → g ≡ gridOf S p → i < slots S p → (Fits g (length b)) × (i < g .slots)
+row-ground {S} {b} {g} {i} good p e h = subst (λ (g : Grid). (Fits g (length b)) × (i < g .slots)) (sym e) (fits S b (good-laid good) p, h)

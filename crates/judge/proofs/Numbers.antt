@@ -1,18 +1,17 @@
--- Kinds by number: the last one is what is left when the others are excluded, and past it there is none.
+-- Kinds by number: the last one is what is left when the others are excluded.
 -- Assumes nothing.
-use Prim.Native.Nat.{ℕ, zero, suc, _≤_, _<_}
+use Prim.Native.Nat.{ℕ, zero, suc, _+_, _≤_, _<_}
 use mathlib.Core.Path.{_≡_}
-use mathlib.Core.Option.{none}
 use native.Mathlib.Omega.{arith}
 
--- k is none of 1 to n
-abbrev pub Others : ℕ → ℕ → Type 0
-Others k zero = Unit {0}
-Others k (suc n) = Others k n × (k ≡ suc n → ⊥)
+-- k is none of the n numbers after m
+abbrev pub Others : ℕ → ℕ → ℕ → Type 0
+Others k m zero = Unit {0}
+Others k m (suc n) = Others k m n × (k ≡ suc (m + n) → ⊥)
 
-past : (k n : ℕ) → 1 ≤ k → Others k n → n < k
-past k zero l h = l
-past k (suc n) l h = let p : n < k = past k n l (h .0) in let q : k ≡ suc n → ⊥ = h .1 in omega arith
+past : (k m n : ℕ) → m < k → Others k m n → m + n < k
+past k m zero l h = omega (arith, l)
+past k m (suc n) l h = let p : m + n < k = past k m n l (h .0) in let q : k ≡ suc (m + n) → ⊥ = h .1 in omega arith
 
-pub last-kind : (k n : ℕ) → 1 ≤ k → k ≤ suc n → Others k n → k ≡ suc n
-last-kind k n l m h = omega (arith, past k n l h)
+pub last-kind : (k m n : ℕ) → m < k → k ≤ suc (m + n) → Others k m n → k ≡ suc (m + n)
+last-kind k m n l h o = omega (arith, past k m n l o)

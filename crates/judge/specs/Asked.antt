@@ -6,14 +6,11 @@ use mathlib.Core.List.{List}
 use lib.Dec.{leb, eqb}
 use Rattle.book.specs.declared.grid.Grid.{Grid}
 use Rattle.book.specs.declared.units.Slot.{Slot}
-use Rattle.book.specs.declared.units.Slot.the-variants.{Dates, Sessions}
 use Rattle.book.specs.Grids.{cellAt}
 use Rattle.book.specs.Rows.{rowHasOther}
 use Rattle.book.specs.Units.{unitOf}
 use Rattle.judge.specs.declared.cells.Ask.{Ask}
 use Rattle.judge.specs.declared.cells.Ask.the-variants.{Absent, Empty, Alone, Own, Present}
-use Rattle.judge.specs.declared.slots.Test.{Test}
-use Rattle.judge.specs.declared.slots.Test.the-variants.{OnLeave, Stands, StandsThatDate, RoomLeft, HasConf, HasLunch, NoBookings, NotHeld, Attended}
 use Rattle.model.specs.declared.Settings.{Settings}
 use Rattle.model.specs.Bounded.{any}
 use Rattle.model.specs.Site.{capacity, dateOfSession}
@@ -29,28 +26,20 @@ holdsAt g b Alone j w i = not (rowHasOther g b i w j)
 holdsAt g b Own j w i = eqb (cellAt g b i j) 0 || eqb (cellAt g b i j) w
 holdsAt g b Present j w i = eqb (cellAt g b i j) w
 
--- the unit of a test's slots, and how many there are of those that it asks of
-abbrev pub unitFor : Test → Slot
-unitFor (OnLeave u) = u
-unitFor Stands = Sessions
-unitFor StandsThatDate = Dates
-unitFor RoomLeft = Dates
-unitFor HasConf = Sessions
-unitFor HasLunch = Dates
-unitFor NoBookings = Dates
-unitFor NotHeld = Sessions
-unitFor Attended = Sessions
-
-abbrev pub limitFor : Settings → Test → ℕ
-limitFor S (OnLeave u) = S .visitors
-limitFor S Stands = S .meetings
-limitFor S StandsThatDate = S .meetings
-limitFor S RoomLeft = S .dining
-limitFor S HasConf = S .meetings
-limitFor S HasLunch = S .meetings
-limitFor S NoBookings = S .visitors
-limitFor S NotHeld = S .meetings
-limitFor S Attended = S .meetings
+-- what is asked of one visitor, meeting or dining room in a slot: questions 9, 10, 14 and 16 to 20
+pub data Test : Type 0 where
+  -- the visitor has leave on the date of the slot, of that unit
+  OnLeave : Slot → Test
+  -- the meeting stands in the session; it stands in some session of the date
+  Stands StandsThatDate : Test
+  -- n seats more leave the dining room within its capacity on the date
+  RoomLeft : Test
+  -- the meeting has a conference room in the session; it has a lunch on the date
+  HasConf HasLunch : Test
+  -- the visitor has no hotel, ride or attend entry on the date
+  NoBookings : Test
+  -- the meeting has no conference room in the session and no lunch on its date; somebody attends it in the session
+  NotHeld Attended : Test
 
 -- questions 14 and 19 in slot i
 unfoldable pub roomLeft : Settings → State → ℕ → ℕ → ℕ → Bool

@@ -13,9 +13,8 @@ use Rattle.book.specs.declared.units.Slot.the-variants.{Dates, Sessions, Times}
 use Rattle.book.specs.Founds.{foundOf}
 use Rattle.judge.specs.declared.cells.Ask.{Ask}
 use Rattle.judge.specs.declared.cells.Ask.the-variants.{Absent, Empty, Alone, Own, Present}
-use Rattle.judge.specs.declared.slots.Test.{Test}
-use Rattle.judge.specs.declared.slots.Test.the-variants.{OnLeave, Stands, StandsThatDate, RoomLeft, HasConf, HasLunch, NoBookings, NotHeld, Attended}
-use Rattle.judge.specs.Asked.{holdsAt, holdsIn}
+use Rattle.judge.specs.Asked.{holdsAt, holdsIn, Test}
+use Rattle.judge.specs.Asked.{OnLeave, Stands, StandsThatDate, RoomLeft, HasConf, HasLunch, NoBookings, NotHeld, Attended}
 use Rattle.model.specs.declared.Settings.{Settings}
 use Rattle.model.specs.declared.Request.{Request}
 use Rattle.model.specs.declared.Answer.{Answer}

@@ -1,9 +1,17 @@
 // The questions of each kind past 7, in order, and the value of a request that is done.
+//
+// A grid is copied by `let` before it is passed on: passed as a field of `g` it would make every call lay out all the grids in memory.
 use crate::cells::Ask;
 use crate::cells::first_failing;
-use crate::slots::Test;
 use crate::slots::capacity;
-use crate::slots::first_without;
+use crate::slots::first_booked;
+use crate::slots::first_date_not_standing;
+use crate::slots::first_held;
+use crate::slots::first_not_member;
+use crate::slots::first_off_leave;
+use crate::slots::first_over;
+use crate::slots::first_row_without;
+use crate::slots::first_without_lunch;
 use book::found::Found;
 use book::grid::Grid;
 use book::grid::Grids;
@@ -51,7 +59,7 @@ fn refused(number: u32, place: u32) -> Answer
 fn add_stay(
     book: &[u32],
     s: Settings,
-    g: Grids,
+    leave: Grid,
     cells: Grid,
     u: Slot,
     a: u32,
@@ -60,7 +68,7 @@ fn add_stay(
     last: u32,
 ) -> Answer
     requires { ⌜ Good s (now book) ⌝ }
-    requires { ⌜ g ≡ gridsOf s ⌝ }
+    requires { ⌜ leave ≡ gridsOf s .leave ⌝ }
     requires { ⌜ Fits cells (length (now book)) ⌝ }
     requires { ⌜ last < slotsOf s (unitOf u) ⌝ }
     requires { ⌜ last < cells .slots ⌝ }
@@ -68,7 +76,7 @@ fn add_stay(
     requires { ⌜ b < s .visitors ⌝ }
     ensures { λ r. ⌜ r ≡ addStay s (now (book .entry)) cells u a b first last ⌝ }
 {
-    if let Found::At(i) = first_without(book, s, g, Test::OnLeave(u), b, 0, first, last) {
+    if let Found::At(i) = first_off_leave(book, s, leave, u, b, first, last) {
         return refused(9, i);
     }
     if let Found::At(i) = first_failing(book, cells, Ask::Absent, a, b + 1, first, last) {
@@ -92,19 +100,12 @@ fn add_attend(book: &[u32], s: Settings, g: Grids, a: u32, b: u32, first: u32, l
     requires { ⌜ b < s .visitors ⌝ }
     ensures { λ r. ⌜ r ≡ attendAdds s (now (book .entry)) (g .attend) a b first last ⌝ }
 {
-    if let Found::At(i) = first_without(
-        book,
-        s,
-        g,
-        Test::OnLeave(Slot::Sessions),
-        b,
-        0,
-        first,
-        last,
-    ) {
+    let leave = g.leave;
+    if let Found::At(i) = first_off_leave(book, s, leave, Slot::Sessions, b, first, last) {
         return refused(9, i);
     }
-    if let Found::At(i) = first_without(book, s, g, Test::Stands, a, 0, first, last) {
+    let standing = g.standing;
+    if let Found::At(i) = first_not_member(book, standing, a, first, last) {
         return refused(10, i);
     }
     let cells = g.attend;
@@ -126,7 +127,8 @@ fn add_conf(book: &[u32], s: Settings, g: Grids, a: u32, b: u32, first: u32, las
     requires { ⌜ b < s .meetings ⌝ }
     ensures { λ r. ⌜ r ≡ confAdds s (now (book .entry)) (g .conf) a b first last ⌝ }
 {
-    if let Found::At(i) = first_without(book, s, g, Test::Stands, b, 0, first, last) {
+    let standing = g.standing;
+    if let Found::At(i) = first_not_member(book, standing, b, first, last) {
         return refused(10, i);
     }
     let pairs = g.conf;
@@ -158,7 +160,7 @@ fn add_lunch(
     requires { ⌜ n ≤ 1000 ⌝ }
     ensures { λ r. ⌜ r ≡ lunchAdds s (now (book .entry)) (g .lunch) a b n first last ⌝ }
 {
-    if let Found::At(i) = first_without(book, s, g, Test::StandsThatDate, b, 0, first, last) {
+    if let Found::At(i) = first_date_not_standing(book, s, g, b, first, last) {
         return refused(10, i);
     }
     let triples = g.lunch;
@@ -168,10 +170,7 @@ fn add_lunch(
     if let Found::At(i) = first_failing(book, triples, Ask::Own, b, a + 1, first, last) {
         return refused(13, i);
     }
-    settled(
-        14,
-        first_without(book, s, g, Test::RoomLeft, a, n, first, last),
-    )
+    settled(14, first_over(book, s, g, a, n, first, last))
 }
 
 // Kind 14.
@@ -209,13 +208,11 @@ fn end_standing(book: &[u32], s: Settings, g: Grids, a: u32, first: u32, last: u
     requires { ⌜ a < s .meetings ⌝ }
     ensures { λ r. ⌜ r ≡ standingEnds s (now (book .entry)) a first last ⌝ }
 {
-    if let Found::At(i) = first_without(book, s, g, Test::NotHeld, a, 0, first, last) {
+    if let Found::At(i) = first_held(book, s, g, a, first, last) {
         return refused(19, i);
     }
-    settled(
-        20,
-        first_without(book, s, g, Test::Attended, a, 0, first, last),
-    )
+    let cells = g.attend;
+    settled(20, first_row_without(book, cells, a + 1, first, last))
 }
 
 // Kind 16: a conference room in each session, and a lunch on each date from first's to last's.
@@ -226,15 +223,14 @@ fn erase_all(book: &[u32], s: Settings, g: Grids, b: u32, first: u32, last: u32)
     requires { ⌜ b < s .meetings ⌝ }
     ensures { λ r. ⌜ r ≡ eraseAll s (now (book .entry)) b first last ⌝ }
 {
-    if let Found::At(i) = first_without(book, s, g, Test::HasConf, b, 0, first, last) {
+    let pairs = g.conf;
+    if let Found::At(i) = first_row_without(book, pairs, b + 1, first, last) {
         return refused(16, i);
     }
     let from = date_of_session(s, Session(first));
     let to = date_of_session(s, Session(last));
-    settled(
-        17,
-        first_without(book, s, g, Test::HasLunch, b, 0, from.0, to.0),
-    )
+    let triples = g.lunch;
+    settled(17, first_without_lunch(book, triples, b, from.0, to.0))
 }
 
 // Kinds 5, 7, 11 and 15: the item's cell holds w in each slot.
@@ -271,6 +267,41 @@ fn seats_left(book: &[u32], s: Settings, g: Grids, date: u32, room: u32) -> u32
     capacity(s, room) - reserved(book, s, g, date, room)
 }
 
+// Kinds 1 to 7: a visitor's leave, hotel rooms and rides.
+fn of_visitor(book: &[u32], s: Settings, g: Grids, r: Request) -> Answer
+    requires { ⌜ Good s (now book) ⌝ }
+    requires { ⌜ g ≡ gridsOf s ⌝ }
+    requires { ⌜ 1 ≤ r .kind ⌝ }
+    requires { ⌜ r .kind ≤ 7 ⌝ }
+    requires { ⌜ Ready s (rowAt (r .kind)) r ⌝ }
+    ensures { λ a. ⌜ a ≡ answerAt (now (book .entry)) r ⌝ }
+{
+    let kind = r.kind;
+    match kind {
+        1 => Answer::Done(0),
+        2 => settled(18, first_booked(book, s, g, r.b, r.first, r.last)),
+        3 => Answer::Done(bookings(book, s, g, r.b, r.first, r.last)),
+        4 => {
+            let leave = g.leave;
+            let set = g.hotel;
+            add_stay(book, s, leave, set, Slot::Dates, r.a, r.b, r.first, r.last)
+        }
+        5 => {
+            let cells = g.hotel;
+            erase(book, cells, r.a, r.b + 1, r.first, r.last)
+        }
+        6 => {
+            let leave = g.leave;
+            let set = g.ride;
+            add_stay(book, s, leave, set, Slot::Times, r.a, r.b, r.first, r.last)
+        }
+        _ => {
+            let cells = g.ride;
+            erase(book, cells, r.a, r.b + 1, r.first, r.last)
+        }
+    }
+}
+
 // The answer of a request whose questions up to 7 are answered yes; the last kind is 20.
 pub fn answer(book: &[u32], s: Settings, g: Grids, r: Request) -> Answer
     requires { ⌜ Good s (now book) ⌝ }
@@ -281,28 +312,27 @@ pub fn answer(book: &[u32], s: Settings, g: Grids, r: Request) -> Answer
     ensures { λ a. ⌜ a ≡ answerAt (now (book .entry)) r ⌝ }
 {
     let kind = r.kind;
+    if kind < 8 {
+        return of_visitor(book, s, g, r);
+    }
     match kind {
-        1 => Answer::Done(0),
-        2 => settled(
-            18,
-            first_without(book, s, g, Test::NoBookings, r.b, 0, r.first, r.last),
-        ),
-        3 => Answer::Done(bookings(book, s, g, r.b, r.first, r.last)),
-        4 => add_stay(book, s, g, g.hotel, Slot::Dates, r.a, r.b, r.first, r.last),
-        5 => erase(book, g.hotel, r.a, r.b + 1, r.first, r.last),
-        6 => add_stay(book, s, g, g.ride, Slot::Times, r.a, r.b, r.first, r.last),
-        7 => erase(book, g.ride, r.a, r.b + 1, r.first, r.last),
         8 => Answer::Done(0),
         9 => end_standing(book, s, g, r.a, r.first, r.last),
         10 => add_attend(book, s, g, r.a, r.b, r.first, r.last),
-        11 => erase(book, g.attend, r.b, r.a + 1, r.first, r.last),
+        11 => {
+            let cells = g.attend;
+            erase(book, cells, r.b, r.a + 1, r.first, r.last)
+        }
         12 => add_conf(book, s, g, r.a, r.b, r.first, r.last),
-        13 => settled(
-            16,
-            first_without(book, s, g, Test::HasConf, r.b, 0, r.first, r.last),
-        ),
+        13 => {
+            let pairs = g.conf;
+            settled(16, first_row_without(book, pairs, r.b + 1, r.first, r.last))
+        }
         14 => lunch_fits(book, s, g, r.a, r.b, r.n, r.first, r.last),
-        15 => erase(book, g.lunch, r.b, r.a + 1, r.first, r.last),
+        15 => {
+            let triples = g.lunch;
+            erase(book, triples, r.b, r.a + 1, r.first, r.last)
+        }
         16 => erase_all(book, s, g, r.b, r.first, r.last),
         17 => found_or(21, r.first, meeting_of(book, s, g, r.first, r.b)),
         18 => Answer::Done(members(book, s, g, r.first)),

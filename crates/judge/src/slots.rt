@@ -1,55 +1,39 @@
-// The questions of a visitor, a meeting or a dining room in each slot: 9, 10, 14 and 16 to 20.
+// The questions of a visitor, a meeting or a dining room in each slot: 9, 10, 14 and 16 to 20. Each is a loop of its own, over the one grid
+// that it reads where there is one: a struct passed to a function that is not inlined is copied at each call.
 use book::found::Found;
+use book::grid::Grid;
 use book::grid::Grids;
+use book::grid::cell;
 use book::rows::row_has;
 use book::units::Slot;
+use book::units::date_of;
 use book::units::date_of_session;
 use model::Session;
 use model::Settings;
 use queries::bookings::bookings;
 use queries::dates::stands_on;
-use queries::entries::attended;
 use queries::entries::conf_held;
 use queries::entries::lunch_held;
+use queries::entries::member;
 use queries::entries::on_leave;
-use queries::entries::stands;
 use queries::rooms::reserved;
 ghost use mathlib.Core.Path.{_≡_};
-ghost use Prim.Native.Nat.{_≤_, _<_};
+ghost use mathlib.Core.Bool.{not};
+ghost use Prim.Native.Nat.{_/_, _%_, _≤_, _<_};
 ghost use lib.Dec.{eqb};
-ghost use Rattle.model.specs.Bounded.{failing};
+ghost use lib.ListN.{length};
+ghost use Rattle.model.specs.Bounded.{bit, failing};
 ghost use Rattle.model.specs.Kinds.{slotsOf};
 ghost use Rattle.model.specs.Questions.{bookings as bookingsIn};
 ghost use Rattle.model.specs.Reading.{stateOf};
 ghost use Rattle.model.specs.Site.{allSessions, capacity as capacityOf};
 ghost use Rattle.book.specs.Founds.{foundOf};
 ghost use Rattle.book.specs.Good.{Good};
-ghost use Rattle.book.specs.Grids.{gridsOf};
+ghost use Rattle.book.specs.Grids.{Fits, cellAt, gridsOf};
 ghost use Rattle.book.specs.Ranges.{Ranges};
+ghost use Rattle.book.specs.Rows.{rowHas};
 ghost use Rattle.book.specs.Units.{unitOf};
-ghost use Rattle.judge.specs.Asked.{holdsIn, unitFor, limitFor, roomLeft, notHeld};
-
-// What is asked of one visitor, meeting or dining room in a slot.
-pub enum Test {
-    // The visitor has leave on the slot's date.
-    OnLeave(Slot),
-    // The meeting stands in the session.
-    Stands,
-    // The meeting stands in some session of the date.
-    StandsThatDate,
-    // n seats more leave the dining room within its capacity on the date.
-    RoomLeft,
-    // The meeting has a conference room in the session.
-    HasConf,
-    // The meeting has a lunch on the date.
-    HasLunch,
-    // The visitor has no hotel, ride or attend entry on the date.
-    NoBookings,
-    // The meeting has no conference room in the session and no lunch on its date.
-    NotHeld,
-    // Somebody attends the meeting in the session.
-    Attended,
-}
+ghost use Rattle.judge.specs.Asked.{OnLeave, StandsThatDate, RoomLeft, NoBookings, NotHeld, holdsIn, roomLeft, notHeld};
 
 // The seat capacity of a dining room.
 pub fn capacity(s: Settings, room: u32) -> u32
@@ -91,7 +75,7 @@ fn not_held(book: &[u32], s: Settings, g: Grids, session: u32, meeting: u32) -> 
     !lunch
 }
 
-// Question 18 on one date. A hotel room is looked for first: most visitors with an entry have one.
+// Question 18 on one date. There is no entry without leave, and most visitors with an entry have a hotel room.
 fn no_bookings(book: &[u32], s: Settings, g: Grids, date: u32, visitor: u32) -> bool
     requires { ⌜ Good s (now book) ⌝ }
     requires { ⌜ g ≡ gridsOf s ⌝ }
@@ -99,54 +83,187 @@ fn no_bookings(book: &[u32], s: Settings, g: Grids, date: u32, visitor: u32) -> 
     requires { ⌜ visitor < s .visitors ⌝ }
     ensures { λ r. ⌜ r ≡ eqb (bookingsIn (stateOf (now (book .entry))) visitor date date) 0 ⌝ }
 {
-    if row_has(book, g.hotel, date, visitor + 1) {
+    if !on_leave(book, s, g, Slot::Dates, date, visitor) {
+        return true;
+    }
+    let cells = g.hotel;
+    if row_has(book, cells, date, visitor + 1) {
         return false;
     }
     bookings(book, s, g, visitor, date, date) == 0
 }
 
-fn holds(book: &[u32], s: Settings, g: Grids, t: Test, who: u32, n: u32, slot: u32) -> bool
+// Question 9: the lowest slot of first..last on whose date the visitor has no leave.
+pub fn first_off_leave(
+    book: &[u32],
+    s: Settings,
+    leave: Grid,
+    u: Slot,
+    visitor: u32,
+    first: u32,
+    last: u32,
+) -> Found
     requires { ⌜ Good s (now book) ⌝ }
-    requires { ⌜ g ≡ gridsOf s ⌝ }
-    requires { ⌜ slot < slotsOf s (unitOf (unitFor t)) ⌝ }
-    requires { ⌜ who < limitFor s t ⌝ }
-    requires { ⌜ n ≤ 1000 ⌝ }
-    ensures { λ r. ⌜ r ≡ holdsIn s (stateOf (now (book .entry))) t who n slot ⌝ }
+    requires { ⌜ leave ≡ gridsOf s .leave ⌝ }
+    requires { ⌜ last < slotsOf s (unitOf u) ⌝ }
+    requires { ⌜ visitor < s .visitors ⌝ }
+    ensures { λ r. ⌜ r ≡ foundOf (failing (holdsIn s (stateOf (now (book .entry))) (OnLeave u) visitor 0) first last) ⌝ }
 {
-    match t {
-        Test::OnLeave(u) => on_leave(book, s, g, u, slot, who),
-        Test::Stands => stands(book, s, g, slot, who),
-        Test::StandsThatDate => stands_on(book, s, g, slot, who),
-        Test::RoomLeft => room_left(book, s, g, slot, who, n),
-        Test::HasConf => conf_held(book, s, g, slot, who),
-        Test::HasLunch => lunch_held(book, s, g, slot, who),
-        Test::NoBookings => no_bookings(book, s, g, slot, who),
-        Test::NotHeld => not_held(book, s, g, slot, who),
-        Test::Attended => attended(book, s, g, slot, who),
+    let mut i = first;
+    while i <= last {
+        let date = date_of(s, u, i);
+        if !member(book, leave, date.0, visitor) {
+            return Found::At(i);
+        }
+        i += 1;
     }
+    Found::Nothing
 }
 
-// The lowest slot of first..last that fails the test.
-pub fn first_without(
+// Question 10 of kinds 10 and 12: the lowest slot of first..last in which v is not in the pool.
+pub fn first_not_member(book: &[u32], pool: Grid, v: u32, first: u32, last: u32) -> Found
+    requires { ⌜ Fits pool (length (now book)) ⌝ }
+    requires { ⌜ last < pool .slots ⌝ }
+    requires { ⌜ v / 32 < pool .items ⌝ }
+    ensures { λ r. ⌜ r ≡ foundOf (failing (λ i. bit (cellAt pool (now (book .entry)) i (v / 32)) (v % 32)) first last) ⌝ }
+{
+    let mut i = first;
+    while i <= last {
+        if !member(book, pool, i, v) {
+            return Found::At(i);
+        }
+        i += 1;
+    }
+    Found::Nothing
+}
+
+// Question 10 of kind 14: the lowest date of first..last on which the meeting stands in no session.
+pub fn first_date_not_standing(
     book: &[u32],
     s: Settings,
     g: Grids,
-    t: Test,
-    who: u32,
+    meeting: u32,
+    first: u32,
+    last: u32,
+) -> Found
+    requires { ⌜ Good s (now book) ⌝ }
+    requires { ⌜ g ≡ gridsOf s ⌝ }
+    requires { ⌜ last < s .dates ⌝ }
+    requires { ⌜ meeting < s .meetings ⌝ }
+    ensures { λ r. ⌜ r ≡ foundOf (failing (holdsIn s (stateOf (now (book .entry))) StandsThatDate meeting 0) first last) ⌝ }
+{
+    let mut i = first;
+    while i <= last {
+        if !stands_on(book, s, g, i, meeting) {
+            return Found::At(i);
+        }
+        i += 1;
+    }
+    Found::Nothing
+}
+
+// Question 14: the lowest date of first..last on which n seats more are too many for the dining room.
+pub fn first_over(
+    book: &[u32],
+    s: Settings,
+    g: Grids,
+    room: u32,
     n: u32,
     first: u32,
     last: u32,
 ) -> Found
     requires { ⌜ Good s (now book) ⌝ }
     requires { ⌜ g ≡ gridsOf s ⌝ }
-    requires { ⌜ last < slotsOf s (unitOf (unitFor t)) ⌝ }
-    requires { ⌜ who < limitFor s t ⌝ }
+    requires { ⌜ last < s .dates ⌝ }
+    requires { ⌜ room < s .dining ⌝ }
     requires { ⌜ n ≤ 1000 ⌝ }
-    ensures { λ r. ⌜ r ≡ foundOf (failing (holdsIn s (stateOf (now (book .entry))) t who n) first last) ⌝ }
+    ensures { λ r. ⌜ r ≡ foundOf (failing (holdsIn s (stateOf (now (book .entry))) RoomLeft room n) first last) ⌝ }
 {
     let mut i = first;
     while i <= last {
-        if !holds(book, s, g, t, who, n, i) {
+        if !room_left(book, s, g, i, room, n) {
+            return Found::At(i);
+        }
+        i += 1;
+    }
+    Found::Nothing
+}
+
+// Questions 16 and 20: the lowest slot of first..last in which no cell holds w.
+pub fn first_row_without(book: &[u32], cells: Grid, w: u32, first: u32, last: u32) -> Found
+    requires { ⌜ Fits cells (length (now book)) ⌝ }
+    requires { ⌜ last < cells .slots ⌝ }
+    ensures { λ r. ⌜ r ≡ foundOf (failing (λ i. rowHas cells (now (book .entry)) i w) first last) ⌝ }
+{
+    let mut i = first;
+    while i <= last {
+        if !row_has(book, cells, i, w) {
+            return Found::At(i);
+        }
+        i += 1;
+    }
+    Found::Nothing
+}
+
+// Question 17: the lowest date of first..last on which the meeting has no lunch.
+pub fn first_without_lunch(
+    book: &[u32],
+    triples: Grid,
+    meeting: u32,
+    first: u32,
+    last: u32,
+) -> Found
+    requires { ⌜ Fits triples (length (now book)) ⌝ }
+    requires { ⌜ last < triples .slots ⌝ }
+    requires { ⌜ meeting < triples .items ⌝ }
+    ensures { λ r. ⌜ r ≡ foundOf (failing (λ i. not (eqb (cellAt triples (now (book .entry)) i meeting) 0)) first last) ⌝ }
+{
+    let mut i = first;
+    while i <= last {
+        if cell(book, triples, i, meeting) == 0 {
+            return Found::At(i);
+        }
+        i += 1;
+    }
+    Found::Nothing
+}
+
+// Question 18: the lowest date of first..last on which the visitor has a hotel, ride or attend entry.
+pub fn first_booked(
+    book: &[u32],
+    s: Settings,
+    g: Grids,
+    visitor: u32,
+    first: u32,
+    last: u32,
+) -> Found
+    requires { ⌜ Good s (now book) ⌝ }
+    requires { ⌜ g ≡ gridsOf s ⌝ }
+    requires { ⌜ last < s .dates ⌝ }
+    requires { ⌜ visitor < s .visitors ⌝ }
+    ensures { λ r. ⌜ r ≡ foundOf (failing (holdsIn s (stateOf (now (book .entry))) NoBookings visitor 0) first last) ⌝ }
+{
+    let mut i = first;
+    while i <= last {
+        if !no_bookings(book, s, g, i, visitor) {
+            return Found::At(i);
+        }
+        i += 1;
+    }
+    Found::Nothing
+}
+
+// Question 19: the lowest session of first..last in which the meeting has a conference room, or a lunch on its date.
+pub fn first_held(book: &[u32], s: Settings, g: Grids, meeting: u32, first: u32, last: u32) -> Found
+    requires { ⌜ Good s (now book) ⌝ }
+    requires { ⌜ g ≡ gridsOf s ⌝ }
+    requires { ⌜ last < allSessions s ⌝ }
+    requires { ⌜ meeting < s .meetings ⌝ }
+    ensures { λ r. ⌜ r ≡ foundOf (failing (holdsIn s (stateOf (now (book .entry))) NotHeld meeting 0) first last) ⌝ }
+{
+    let mut i = first;
+    while i <= last {
+        if !not_held(book, s, g, i, meeting) {
             return Found::At(i);
         }
         i += 1;

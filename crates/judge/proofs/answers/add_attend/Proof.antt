@@ -1,18 +1,22 @@
 -- `answers::add_attend` meets its contract: the questions of kind 10, one after the other.
 -- Assumes nothing.
-use mathlib.Core.Path.{ap}
+use mathlib.Core.Path.{_∙_, ap}
 use Rattle.judge.specs.Chains.{attendAdds}
 use Rattle.book.specs.declared.grid.Grids.{Grids}
 use Rattle.judge.proofs.Grounds.{ground}
 use native.Mathlib.Omega.{arith}
 use Rattle.book.proofs.Goods.{good-laid}
-use Rattle.model.specs.Words.{attendCells}
+use Rattle.model.specs.Words.{attendCells, standings}
+use Rattle.book.proofs.Regions.{group-lt}
+use Rattle.judge.proofs.Shown.{stands-fail}
 use borrow.Author.Needs.{needs}
 use Rattle.judge.proofs.answers.add_attend.Statement.{statement}
 use Rattle.judge.proofs.answers.add_attend.Tie as tie
 
-first-without-requires : tie.Need-first-without-requires
-first-without-requires c κs = let p = c .before .pre in (p .0, (p .1 .0, (p .1 .1 .0, (p .1 .1 .1 .1, omega arith))))
+first-off-leave-requires : tie.Need-first-off-leave-requires
+first-off-leave-requires c κs =
+    let p = c .before .before .pre in
+    (p .0, (ap (λ (g : Grids). g .leave) (p .1 .0), (p .1 .1 .0, p .1 .1 .1 .1)))
 
 enum-known-i : tie.Need-enum-known-i
 enum-known-i c = search needs
@@ -22,13 +26,16 @@ refused-requires c κs = search needs
 
 returns : tie.Need-returns
 unfolding attendAdds
-returns c = rw (← (c .before .before .before .before .first-without .ensures), c .before .before .i .given .1) (c .refused .ensures)
+returns c = rw (← (c .before .before .before .before .first-off-leave .ensures), c .before .before .i .given .1) (c .refused .ensures)
 
 enum-told : tie.Need-enum-told
 enum-told c = search needs
 
-first-without-requires-2 : tie.Need-first-without-requires-2
-first-without-requires-2 c κs = let p = c .before .before .before .before .pre in (p .0, (p .1 .0, (p .1 .1 .0, (p .1 .1 .1 .0, omega arith))))
+first-not-member-requires : tie.Need-first-not-member-requires
+first-not-member-requires c κs =
+    let p = c .before .before .before .before .before .before .pre in
+    let a = c .before .before .before .before .before .before .args in
+    ground (p .0) standings (ap (λ (g : Grids). g .standing) (p .1 .0)) (p .1 .1 .0) (group-lt (a .s .meetings) (a .a) (p .1 .1 .1 .0))
 
 enum-known-i-2 : tie.Need-enum-known-i-2
 enum-known-i-2 c = search needs
@@ -39,10 +46,12 @@ refused-requires-2 c κs = search needs
 returns-2 : tie.Need-returns-2
 unfolding attendAdds
 returns-2 c =
+    let p = c .before .before .before .before .before .before .before .before .before .before .before .pre in
+    let a = c .before .before .before .before .before .before .before .before .before .before .before .args in
     rw (
-      ← (c .before .before .before .before .before .before .before .first-without .ensures),
-      c .before .before .before .before .before .enum-told .given .1,
-      ← (c .before .before .before .before .first-without2 .ensures),
+      ← (c .before .before .before .before .before .before .before .before .first-off-leave .ensures),
+      c .before .before .before .before .before .before .enum-told .given .1,
+      ← (c .before .before .before .before .first-not-member .ensures ∙ stands-fail (p .0) (p .1 .0) (a .a) (a .first) (a .last) (p .1 .1 .1 .0) (p .1 .1 .0)),
       c .before .before .i2 .given .1,
     ) (c .refused2 .ensures)
 
@@ -53,13 +62,13 @@ add-first-failing : tie.Need-add-first-failing
 add-first-failing c =
     omega (
       arith,
-      good-laid (c .before .before .before .before .before .before .before .before .pre .0) .ranges .meetings,
-      c .before .before .before .before .before .before .before .before .pre .1 .1 .1 .0,
+      good-laid (c .before .before .before .before .before .before .before .before .before .before .pre .0) .ranges .meetings,
+      c .before .before .before .before .before .before .before .before .before .before .pre .1 .1 .1 .0,
     )
 
 first-failing-requires : tie.Need-first-failing-requires
 first-failing-requires c κs =
-    let p = c .before .before .before .before .before .before .before .before .pre in
+    let p = c .before .before .before .before .before .before .before .before .before .before .pre in
     ground (p .0) attendCells (ap (λ (g : Grids). g .attend) (p .1 .0)) (p .1 .1 .0) (p .1 .1 .1 .1)
 
 enum-known-i-3 : tie.Need-enum-known-i-3
@@ -71,10 +80,12 @@ refused-requires-3 c κs = search needs
 returns-3 : tie.Need-returns-3
 unfolding attendAdds
 returns-3 c =
+    let p = c .before .before .before .before .before .before .before .before .before .before .before .before .before .before .before .pre in
+    let a = c .before .before .before .before .before .before .before .before .before .before .before .before .before .before .before .args in
     rw (
-      ← (c .before .before .before .before .before .before .before .before .before .before .before .first-without .ensures),
-      c .before .before .before .before .before .before .before .before .before .enum-told .given .1,
-      ← (c .before .before .before .before .before .before .before .before .first-without2 .ensures),
+      ← (c .before .before .before .before .before .before .before .before .before .before .before .before .first-off-leave .ensures),
+      c .before .before .before .before .before .before .before .before .before .before .enum-told .given .1,
+      ← (c .before .before .before .before .before .before .before .before .first-not-member .ensures ∙ stands-fail (p .0) (p .1 .0) (a .a) (a .first) (a .last) (p .1 .1 .1 .0) (p .1 .1 .0)),
       c .before .before .before .before .before .before .enum-told2 .given .1,
       ← (c .before .before .before .before .first-failing .ensures),
       c .before .before .i3 .given .1,
@@ -87,13 +98,13 @@ add-first-failing-2 : tie.Need-add-first-failing-2
 add-first-failing-2 c =
     omega (
       arith,
-      good-laid (c .before .before .before .before .before .before .before .before .before .before .before .pre .0) .ranges .meetings,
-      c .before .before .before .before .before .before .before .before .before .before .before .pre .1 .1 .1 .0,
+      good-laid (c .before .before .before .before .before .before .before .before .before .before .before .before .before .pre .0) .ranges .meetings,
+      c .before .before .before .before .before .before .before .before .before .before .before .before .before .pre .1 .1 .1 .0,
     )
 
 first-failing-requires-2 : tie.Need-first-failing-requires-2
 first-failing-requires-2 c κs =
-    let p = c .before .before .before .before .before .before .before .before .before .before .before .pre in
+    let p = c .before .before .before .before .before .before .before .before .before .before .before .before .before .pre in
     ground (p .0) attendCells (ap (λ (g : Grids). g .attend) (p .1 .0)) (p .1 .1 .0) (p .1 .1 .1 .1)
 
 settled-requires : tie.Need-settled-requires
@@ -102,10 +113,12 @@ settled-requires c κs = search needs
 returns-4 : tie.Need-returns-4
 unfolding attendAdds
 returns-4 c =
+    let p = c .before .before .before .before .before .before .before .before .before .before .before .before .before .before .before .pre in
+    let a = c .before .before .before .before .before .before .before .before .before .before .before .before .before .before .before .args in
     rw (
-      ← (c .before .before .before .before .before .before .before .before .before .before .before .first-without .ensures),
-      c .before .before .before .before .before .before .before .before .before .enum-told .given .1,
-      ← (c .before .before .before .before .before .before .before .before .first-without2 .ensures),
+      ← (c .before .before .before .before .before .before .before .before .before .before .before .before .first-off-leave .ensures),
+      c .before .before .before .before .before .before .before .before .before .before .enum-told .given .1,
+      ← (c .before .before .before .before .before .before .before .before .first-not-member .ensures ∙ stands-fail (p .0) (p .1 .0) (a .a) (a .first) (a .last) (p .1 .1 .1 .0) (p .1 .1 .0)),
       c .before .before .before .before .before .before .enum-told2 .given .1,
       ← (c .before .before .before .before .first-failing .ensures),
       c .before .before .enum-told3 .given .1,
@@ -116,12 +129,12 @@ pub add-attend-spec : {M : Type 1} → statement M
 add-attend-spec =
     tie.close
     (tie.spec
-    first-without-requires
+    first-off-leave-requires
     enum-known-i
     refused-requires
     returns
     enum-told
-    first-without-requires-2
+    first-not-member-requires
     enum-known-i-2
     refused-requires-2
     returns-2

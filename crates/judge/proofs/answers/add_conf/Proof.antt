@@ -1,18 +1,23 @@
 -- `answers::add_conf` meets its contract: the questions of kind 12, one after the other.
 -- Assumes nothing.
-use mathlib.Core.Path.{ap}
+use mathlib.Core.Path.{_∙_, ap}
 use Rattle.judge.specs.Chains.{confAdds}
 use Rattle.book.specs.declared.grid.Grids.{Grids}
 use Rattle.judge.proofs.Grounds.{ground}
 use native.Mathlib.Omega.{arith}
 use Rattle.book.proofs.Goods.{good-laid}
-use Rattle.model.specs.Words.{confPairs}
+use Rattle.model.specs.Words.{confPairs, standings}
+use Rattle.book.proofs.Regions.{group-lt}
+use Rattle.judge.proofs.Shown.{stands-fail}
 use borrow.Author.Needs.{needs}
 use Rattle.judge.proofs.answers.add_conf.Statement.{statement}
 use Rattle.judge.proofs.answers.add_conf.Tie as tie
 
-first-without-requires : tie.Need-first-without-requires
-first-without-requires c κs = let p = c .before .pre in (p .0, (p .1 .0, (p .1 .1 .0, (p .1 .1 .1 .1, omega arith))))
+first-not-member-requires : tie.Need-first-not-member-requires
+first-not-member-requires c κs =
+    let p = c .before .before .pre in
+    let a = c .before .before .args in
+    ground (p .0) standings (ap (λ (g : Grids). g .standing) (p .1 .0)) (p .1 .1 .0) (group-lt (a .s .meetings) (a .b) (p .1 .1 .1 .1))
 
 enum-known-i : tie.Need-enum-known-i
 enum-known-i c = search needs
@@ -22,7 +27,13 @@ refused-requires c κs = search needs
 
 returns : tie.Need-returns
 unfolding confAdds
-returns c = rw (← (c .before .before .before .before .first-without .ensures), c .before .before .i .given .1) (c .refused .ensures)
+returns c =
+    let p = c .before .before .before .before .before .before .before .pre in
+    let a = c .before .before .before .before .before .before .before .args in
+    rw (
+      ← (c .before .before .before .before .first-not-member .ensures ∙ stands-fail (p .0) (p .1 .0) (a .b) (a .first) (a .last) (p .1 .1 .1 .1) (p .1 .1 .0)),
+      c .before .before .i .given .1,
+    ) (c .refused .ensures)
 
 enum-told : tie.Need-enum-told
 enum-told c = search needs
@@ -31,13 +42,13 @@ add-first-failing : tie.Need-add-first-failing
 add-first-failing c =
     omega (
       arith,
-      good-laid (c .before .before .before .before .before .pre .0) .ranges .meetings,
-      c .before .before .before .before .before .pre .1 .1 .1 .1,
+      good-laid (c .before .before .before .before .before .before .pre .0) .ranges .meetings,
+      c .before .before .before .before .before .before .pre .1 .1 .1 .1,
     )
 
 first-failing-requires : tie.Need-first-failing-requires
 first-failing-requires c κs =
-    let p = c .before .before .before .before .before .pre in
+    let p = c .before .before .before .before .before .before .pre in
     ground (p .0) confPairs (ap (λ (g : Grids). g .conf) (p .1 .0)) (p .1 .1 .0) (p .1 .1 .1 .0)
 
 enum-known-i-2 : tie.Need-enum-known-i-2
@@ -49,8 +60,10 @@ refused-requires-2 c κs = search needs
 returns-2 : tie.Need-returns-2
 unfolding confAdds
 returns-2 c =
+    let p = c .before .before .before .before .before .before .before .before .before .before .before .pre in
+    let a = c .before .before .before .before .before .before .before .before .before .before .before .args in
     rw (
-      ← (c .before .before .before .before .before .before .before .before .first-without .ensures),
+      ← (c .before .before .before .before .before .before .before .before .first-not-member .ensures ∙ stands-fail (p .0) (p .1 .0) (a .b) (a .first) (a .last) (p .1 .1 .1 .1) (p .1 .1 .0)),
       c .before .before .before .before .before .before .enum-told .given .1,
       ← (c .before .before .before .before .first-failing .ensures),
       c .before .before .i2 .given .1,
@@ -63,13 +76,13 @@ add-first-failing-2 : tie.Need-add-first-failing-2
 add-first-failing-2 c =
     omega (
       arith,
-      good-laid (c .before .before .before .before .before .before .before .before .pre .0) .ranges .meetings,
-      c .before .before .before .before .before .before .before .before .pre .1 .1 .1 .1,
+      good-laid (c .before .before .before .before .before .before .before .before .before .pre .0) .ranges .meetings,
+      c .before .before .before .before .before .before .before .before .before .pre .1 .1 .1 .1,
     )
 
 first-failing-requires-2 : tie.Need-first-failing-requires-2
 first-failing-requires-2 c κs =
-    let p = c .before .before .before .before .before .before .before .before .pre in
+    let p = c .before .before .before .before .before .before .before .before .before .pre in
     ground (p .0) confPairs (ap (λ (g : Grids). g .conf) (p .1 .0)) (p .1 .1 .0) (p .1 .1 .1 .0)
 
 settled-requires : tie.Need-settled-requires
@@ -78,8 +91,10 @@ settled-requires c κs = search needs
 returns-3 : tie.Need-returns-3
 unfolding confAdds
 returns-3 c =
+    let p = c .before .before .before .before .before .before .before .before .before .before .before .pre in
+    let a = c .before .before .before .before .before .before .before .before .before .before .before .args in
     rw (
-      ← (c .before .before .before .before .before .before .before .before .first-without .ensures),
+      ← (c .before .before .before .before .before .before .before .before .first-not-member .ensures ∙ stands-fail (p .0) (p .1 .0) (a .b) (a .first) (a .last) (p .1 .1 .1 .1) (p .1 .1 .0)),
       c .before .before .before .before .before .before .enum-told .given .1,
       ← (c .before .before .before .before .first-failing .ensures),
       c .before .before .enum-told2 .given .1,
@@ -90,7 +105,7 @@ pub add-conf-spec : {M : Type 1} → statement M
 add-conf-spec =
     tie.close
     (tie.spec
-    first-without-requires
+    first-not-member-requires
     enum-known-i
     refused-requires
     returns

@@ -11,8 +11,8 @@ use borrow.Author.Needs.{needs}
 use Rattle.judge.proofs.answers.add_lunch.Statement.{statement}
 use Rattle.judge.proofs.answers.add_lunch.Tie as tie
 
-first-without-requires : tie.Need-first-without-requires
-first-without-requires c κs = let p = c .before .pre in (p .0, (p .1 .0, (p .1 .1 .0, (p .1 .1 .1 .1 .0, omega arith))))
+first-date-not-standing-requires : tie.Need-first-date-not-standing-requires
+first-date-not-standing-requires c κs = let p = c .before .pre in (p .0, (p .1 .0, (p .1 .1 .0, p .1 .1 .1 .1 .0)))
 
 enum-known-i : tie.Need-enum-known-i
 enum-known-i c = search needs
@@ -22,7 +22,7 @@ refused-requires c κs = search needs
 
 returns : tie.Need-returns
 unfolding lunchAdds
-returns c = rw (← (c .before .before .before .before .first-without .ensures), c .before .before .i .given .1) (c .refused .ensures)
+returns c = rw (← (c .before .before .before .before .first-date-not-standing .ensures), c .before .before .i .given .1) (c .refused .ensures)
 
 enum-told : tie.Need-enum-told
 enum-told c = search needs
@@ -50,7 +50,7 @@ returns-2 : tie.Need-returns-2
 unfolding lunchAdds
 returns-2 c =
     rw (
-      ← (c .before .before .before .before .before .before .before .before .first-without .ensures),
+      ← (c .before .before .before .before .before .before .before .before .first-date-not-standing .ensures),
       c .before .before .before .before .before .before .enum-told .given .1,
       ← (c .before .before .before .before .first-failing .ensures),
       c .before .before .i2 .given .1,
@@ -82,7 +82,7 @@ returns-3 : tie.Need-returns-3
 unfolding lunchAdds
 returns-3 c =
     rw (
-      ← (c .before .before .before .before .before .before .before .before .before .before .before .first-without .ensures),
+      ← (c .before .before .before .before .before .before .before .before .before .before .before .first-date-not-standing .ensures),
       c .before .before .before .before .before .before .before .before .before .enum-told .given .1,
       ← (c .before .before .before .before .before .before .before .first-failing .ensures),
       c .before .before .before .before .before .enum-told2 .given .1,
@@ -93,8 +93,8 @@ returns-3 c =
 enum-told-3 : tie.Need-enum-told-3
 enum-told-3 c = search needs
 
-first-without-requires-2 : tie.Need-first-without-requires-2
-first-without-requires-2 c κs =
+first-over-requires : tie.Need-first-over-requires
+first-over-requires c κs =
     let p = c .before .before .before .before .before .before .before .before .before .before .before .pre in
     (p .0, (p .1 .0, (p .1 .1 .0, (p .1 .1 .1 .0, p .1 .1 .1 .1 .1))))
 
@@ -105,20 +105,20 @@ returns-4 : tie.Need-returns-4
 unfolding lunchAdds
 returns-4 c =
     rw (
-      ← (c .before .before .before .before .before .before .before .before .before .before .before .first-without .ensures),
+      ← (c .before .before .before .before .before .before .before .before .before .before .before .first-date-not-standing .ensures),
       c .before .before .before .before .before .before .before .before .before .enum-told .given .1,
       ← (c .before .before .before .before .before .before .before .first-failing .ensures),
       c .before .before .before .before .before .enum-told2 .given .1,
       ← (c .before .before .before .before .first-failing2 .ensures),
       c .before .before .enum-told3 .given .1,
-      ← (c .before .first-without2 .ensures),
+      ← (c .before .first-over .ensures),
     ) (c .settled .ensures)
 
 pub add-lunch-spec : {M : Type 1} → statement M
 add-lunch-spec =
     tie.close
     (tie.spec
-    first-without-requires
+    first-date-not-standing-requires
     enum-known-i
     refused-requires
     returns
@@ -135,6 +135,6 @@ add-lunch-spec =
     refused-requires-3
     returns-3
     enum-told-3
-    first-without-requires-2
+    first-over-requires
     settled-requires
     returns-4)

@@ -7,8 +7,8 @@ use borrow.Author.Needs.{needs}
 use Rattle.judge.proofs.answers.add_stay.Statement.{statement}
 use Rattle.judge.proofs.answers.add_stay.Tie as tie
 
-first-without-requires : tie.Need-first-without-requires
-first-without-requires c κs = let p = c .before .pre in (p .0, (p .1 .0, (p .1 .1 .1 .0, (p .1 .1 .1 .1 .1 .1, omega arith))))
+first-off-leave-requires : tie.Need-first-off-leave-requires
+first-off-leave-requires c κs = let p = c .before .pre in (p .0, (p .1 .0, (p .1 .1 .1 .0, p .1 .1 .1 .1 .1 .1)))
 
 enum-known-i : tie.Need-enum-known-i
 enum-known-i c = search needs
@@ -18,7 +18,7 @@ refused-requires c κs = search needs
 
 returns : tie.Need-returns
 unfolding addStay
-returns c = rw (← (c .before .before .before .before .first-without .ensures), c .before .before .i .given .1) (c .refused .ensures)
+returns c = rw (← (c .before .before .before .before .first-off-leave .ensures), c .before .before .i .given .1) (c .refused .ensures)
 
 enum-told : tie.Need-enum-told
 enum-told c = search needs
@@ -39,7 +39,7 @@ returns-2 : tie.Need-returns-2
 unfolding addStay
 returns-2 c =
     rw (
-      ← (c .before .before .before .before .before .before .before .first-without .ensures),
+      ← (c .before .before .before .before .before .before .before .first-off-leave .ensures),
       c .before .before .before .before .before .enum-told .given .1,
       ← (c .before .before .before .before .first-failing .ensures),
       c .before .before .i2 .given .1,
@@ -69,7 +69,7 @@ returns-3 : tie.Need-returns-3
 unfolding addStay
 returns-3 c =
     rw (
-      ← (c .before .before .before .before .before .before .before .before .before .before .first-without .ensures),
+      ← (c .before .before .before .before .before .before .before .before .before .before .first-off-leave .ensures),
       c .before .before .before .before .before .before .before .before .enum-told .given .1,
       ← (c .before .before .before .before .before .before .before .first-failing .ensures),
       c .before .before .before .before .before .enum-told2 .given .1,
@@ -98,7 +98,7 @@ returns-4 : tie.Need-returns-4
 unfolding addStay
 returns-4 c =
     rw (
-      ← (c .before .before .before .before .before .before .before .before .before .before .first-without .ensures),
+      ← (c .before .before .before .before .before .before .before .before .before .before .first-off-leave .ensures),
       c .before .before .before .before .before .before .before .before .enum-told .given .1,
       ← (c .before .before .before .before .before .before .before .first-failing .ensures),
       c .before .before .before .before .before .enum-told2 .given .1,
@@ -111,7 +111,7 @@ pub add-stay-spec : {M : Type 1} → statement M
 add-stay-spec =
     tie.close
     (tie.spec
-    first-without-requires
+    first-off-leave-requires
     enum-known-i
     refused-requires
     returns

@@ -5,158 +5,110 @@ use native.Mathlib.Omega.{arith}
 use Rattle.book.specs.declared.grid.Grids.{Grids}
 use Rattle.book.proofs.Goods.{good-laid}
 use Rattle.model.specs.Kinds.{kindOf}
-use Rattle.model.specs.Kinds.{Kind.addLeave, Kind.endLeave, Kind.removeVisitor, Kind.addHotel, Kind.eraseHotel, Kind.addRide, Kind.eraseRide}
 use Rattle.model.specs.Kinds.{Kind.addStanding, Kind.endStanding, Kind.addAttend, Kind.eraseAttend, Kind.addConf, Kind.eraseConf}
 use Rattle.model.specs.Kinds.{Kind.addLunch, Kind.eraseLunch, Kind.eraseConfAndLunch, Kind.whichMeeting, Kind.countLeave, Kind.seatsLeft, Kind.freeRoom}
-use Rattle.model.specs.Words.{hotelCells, attendCells, lunchTriples, rideCells}
+use Rattle.model.specs.Words.{attendCells, confPairs, lunchTriples}
 use Rattle.model.specs.declared.Answer.the-variants.{Done}
 use Rattle.judge.specs.Chains.{asked, foundOr, inWords}
 use Rattle.judge.proofs.Numbers.{last-kind}
-use Rattle.judge.proofs.Grounds.{ground}
+use Rattle.judge.proofs.Grounds.{ground, row-ground}
+use Rattle.judge.proofs.Shown.{conf-fail}
 use Rattle.judge.proofs.Meanings.{answer-is, ready-at}
 use borrow.Author.Needs.{needs}
 use Rattle.judge.proofs.answers.answer.Statement.{statement}
 use Rattle.judge.proofs.answers.answer.Tie as tie
 
-first-without-requires : tie.Need-first-without-requires
-unfolding kindOf
-first-without-requires c κs =
-    let p = c .before .before .pre in
-    let h = ready-at 2 (c .match .keys2) (p .1 .1 .1 .1) in
-    (p .0, (p .1 .0, (h .slot, (h .b, omega arith))))
+of-visitor-requires : tie.Need-of-visitor-requires
+of-visitor-requires c κs = let p = c .before .before .pre in (p .0, (p .1 .0, (p .1 .1 .0, (omega (arith, c .if1 .taken), p .1 .1 .1 .1))))
 
-settled-requires : tie.Need-settled-requires
-settled-requires c κs = search needs
-
-bookings-requires : tie.Need-bookings-requires
-unfolding kindOf
-bookings-requires c κs =
-    let p = c .before .before .pre in
-    let h = ready-at 3 (c .match .keys3) (p .1 .1 .1 .1) in
-    (p .0, (p .1 .0, (h .b, (omega (arith, h .order), omega (arith, h .order, h .slot)))))
-
-add-stay-requires : tie.Need-add-stay-requires
-unfolding kindOf
-add-stay-requires c κs =
-    let p = c .before .before .pre in
-    let h = ready-at 4 (c .match .keys4) (p .1 .1 .1 .1) in
-    let q = ground (p .0) hotelCells (ap (λ (g : Grids). g .hotel) (p .1 .0)) (h .slot) (h .a) in
-    (p .0, (p .1 .0, (q .0, (h .slot, (q .1 .0, (q .1 .1, h .b))))))
-
-add-erase : tie.Need-add-erase
-unfolding kindOf
-add-erase c =
-    let p = c .before .before .before .pre in
-    let h = ready-at 5 (c .before .match .keys5) (p .1 .1 .1 .1) in
-    omega (arith, good-laid (p .0) .ranges .visitors, h .b)
-
-erase-requires : tie.Need-erase-requires
-unfolding kindOf
-erase-requires c κs =
-    let p = c .before .before .before .pre in
-    let h = ready-at 5 (c .before .match .keys5) (p .1 .1 .1 .1) in
-    ground (p .0) hotelCells (ap (λ (g : Grids). g .hotel) (p .1 .0)) (omega (arith, h .order, h .slot)) (h .a)
-
-add-stay-requires-2 : tie.Need-add-stay-requires-2
-unfolding kindOf
-add-stay-requires-2 c κs =
-    let p = c .before .before .pre in
-    let h = ready-at 6 (c .match .keys6) (p .1 .1 .1 .1) in
-    let q = ground (p .0) rideCells (ap (λ (g : Grids). g .ride) (p .1 .0)) (h .slot) (h .a) in
-    (p .0, (p .1 .0, (q .0, (h .slot, (q .1 .0, (q .1 .1, h .b))))))
-
-add-erase-2 : tie.Need-add-erase-2
-unfolding kindOf
-add-erase-2 c =
-    let p = c .before .before .before .pre in
-    let h = ready-at 7 (c .before .match .keys7) (p .1 .1 .1 .1) in
-    omega (arith, good-laid (p .0) .ranges .visitors, h .b)
-
-erase-requires-2 : tie.Need-erase-requires-2
-unfolding kindOf
-erase-requires-2 c κs =
-    let p = c .before .before .before .pre in
-    let h = ready-at 7 (c .before .match .keys7) (p .1 .1 .1 .1) in
-    ground (p .0) rideCells (ap (λ (g : Grids). g .ride) (p .1 .0)) (omega (arith, h .order, h .slot)) (h .a)
+returns : tie.Need-returns
+returns c = c .of-visitor .ensures
 
 end-standing-requires : tie.Need-end-standing-requires
 unfolding kindOf
 end-standing-requires c κs =
-    let p = c .before .before .pre in
-    let h = ready-at 9 (c .match .keys9) (p .1 .1 .1 .1) in
+    let p = c .before .before .before .pre in
+    let h = ready-at 9 (c .match .keys2) (p .1 .1 .1 .1) in
     (p .0, (p .1 .0, (h .slot, h .a)))
 
 add-attend-requires : tie.Need-add-attend-requires
 unfolding kindOf
 add-attend-requires c κs =
-    let p = c .before .before .pre in
-    let h = ready-at 10 (c .match .keys10) (p .1 .1 .1 .1) in
+    let p = c .before .before .before .pre in
+    let h = ready-at 10 (c .match .keys3) (p .1 .1 .1 .1) in
     (p .0, (p .1 .0, (h .slot, (h .a, h .b))))
 
-add-erase-3 : tie.Need-add-erase-3
+add-erase : tie.Need-add-erase
 unfolding kindOf
-add-erase-3 c =
-    let p = c .before .before .before .pre in
-    let h = ready-at 11 (c .before .match .keys11) (p .1 .1 .1 .1) in
+add-erase c =
+    let p = c .before .before .before .before .before .pre in
+    let h = ready-at 11 (c .before .before .match .keys4) (p .1 .1 .1 .1) in
     omega (arith, good-laid (p .0) .ranges .meetings, h .a)
 
-erase-requires-3 : tie.Need-erase-requires-3
+erase-requires : tie.Need-erase-requires
 unfolding kindOf
-erase-requires-3 c κs =
-    let p = c .before .before .before .pre in
-    let h = ready-at 11 (c .before .match .keys11) (p .1 .1 .1 .1) in
+erase-requires c κs =
+    let p = c .before .before .before .before .before .pre in
+    let h = ready-at 11 (c .before .before .match .keys4) (p .1 .1 .1 .1) in
     ground (p .0) attendCells (ap (λ (g : Grids). g .attend) (p .1 .0)) (omega (arith, h .order, h .slot)) (h .b)
 
 add-conf-requires : tie.Need-add-conf-requires
 unfolding kindOf
 add-conf-requires c κs =
-    let p = c .before .before .pre in
-    let h = ready-at 12 (c .match .keys12) (p .1 .1 .1 .1) in
+    let p = c .before .before .before .pre in
+    let h = ready-at 12 (c .match .keys5) (p .1 .1 .1 .1) in
     (p .0, (p .1 .0, (h .slot, (h .a, h .b))))
 
-first-without-requires-2 : tie.Need-first-without-requires-2
+add-first-row-without : tie.Need-add-first-row-without
 unfolding kindOf
-first-without-requires-2 c κs =
-    let p = c .before .before .pre in
-    let h = ready-at 13 (c .match .keys13) (p .1 .1 .1 .1) in
-    (p .0, (p .1 .0, (h .slot, (h .b, omega arith))))
+add-first-row-without c =
+    let p = c .before .before .before .before .before .pre in
+    let h = ready-at 13 (c .before .before .match .keys6) (p .1 .1 .1 .1) in
+    omega (arith, good-laid (p .0) .ranges .meetings, h .b)
 
-settled-requires-2 : tie.Need-settled-requires-2
-settled-requires-2 c κs = search needs
+first-row-without-requires : tie.Need-first-row-without-requires
+unfolding kindOf
+first-row-without-requires c κs =
+    let p = c .before .before .before .before .before .pre in
+    let h = ready-at 13 (c .before .before .match .keys6) (p .1 .1 .1 .1) in
+    row-ground (p .0) confPairs (ap (λ (g : Grids). g .conf) (p .1 .0)) (omega (arith, h .slot))
+
+settled-requires : tie.Need-settled-requires
+settled-requires c κs = search needs
 
 lunch-fits-requires : tie.Need-lunch-fits-requires
 unfolding kindOf
 lunch-fits-requires c κs =
-    let p = c .before .before .pre in
-    let h = ready-at 14 (c .match .keys14) (p .1 .1 .1 .1) in
+    let p = c .before .before .before .pre in
+    let h = ready-at 14 (c .match .keys7) (p .1 .1 .1 .1) in
     (p .0, (p .1 .0, (h .slot, (h .a, h .b))))
 
-add-erase-4 : tie.Need-add-erase-4
+add-erase-2 : tie.Need-add-erase-2
 unfolding kindOf
-add-erase-4 c =
-    let p = c .before .before .before .pre in
-    let h = ready-at 15 (c .before .match .keys15) (p .1 .1 .1 .1) in
+add-erase-2 c =
+    let p = c .before .before .before .before .before .pre in
+    let h = ready-at 15 (c .before .before .match .keys8) (p .1 .1 .1 .1) in
     omega (arith, good-laid (p .0) .ranges .dining, h .a)
 
-erase-requires-4 : tie.Need-erase-requires-4
+erase-requires-2 : tie.Need-erase-requires-2
 unfolding kindOf
-erase-requires-4 c κs =
-    let p = c .before .before .before .pre in
-    let h = ready-at 15 (c .before .match .keys15) (p .1 .1 .1 .1) in
+erase-requires-2 c κs =
+    let p = c .before .before .before .before .before .pre in
+    let h = ready-at 15 (c .before .before .match .keys8) (p .1 .1 .1 .1) in
     ground (p .0) lunchTriples (ap (λ (g : Grids). g .lunch) (p .1 .0)) (omega (arith, h .order, h .slot)) (h .b)
 
 erase-all-requires : tie.Need-erase-all-requires
 unfolding kindOf
 erase-all-requires c κs =
-    let p = c .before .before .pre in
-    let h = ready-at 16 (c .match .keys16) (p .1 .1 .1 .1) in
+    let p = c .before .before .before .pre in
+    let h = ready-at 16 (c .match .keys9) (p .1 .1 .1 .1) in
     (p .0, (p .1 .0, (h .slot, h .b)))
 
 meeting-of-requires : tie.Need-meeting-of-requires
 unfolding kindOf
 meeting-of-requires c κs =
-    let p = c .before .before .pre in
-    let h = ready-at 17 (c .match .keys17) (p .1 .1 .1 .1) in
+    let p = c .before .before .before .pre in
+    let h = ready-at 17 (c .match .keys10) (p .1 .1 .1 .1) in
     (p .0, (p .1 .0, (omega (arith, h .order, h .slot), h .b)))
 
 found-or-requires : tie.Need-found-or-requires
@@ -165,189 +117,138 @@ found-or-requires c κs = search needs
 members-requires : tie.Need-members-requires
 unfolding kindOf
 members-requires c κs =
-    let p = c .before .before .pre in
-    let h = ready-at 18 (c .match .keys18) (p .1 .1 .1 .1) in
+    let p = c .before .before .before .pre in
+    let h = ready-at 18 (c .match .keys11) (p .1 .1 .1 .1) in
     (p .0, (p .1 .0, omega (arith, h .order, h .slot)))
 
 seats-left-requires : tie.Need-seats-left-requires
 unfolding kindOf
 seats-left-requires c κs =
-    let p = c .before .before .pre in
-    let h = ready-at 19 (c .match .keys19) (p .1 .1 .1 .1) in
+    let p = c .before .before .before .pre in
+    let h = ready-at 19 (c .match .keys12) (p .1 .1 .1 .1) in
     (p .0, (p .1 .0, (omega (arith, h .order, h .slot), h .a)))
 
 lowest-free-requires : tie.Need-lowest-free-requires
 unfolding kindOf
 lowest-free-requires c κs =
-    let p = c .before .before .pre in
-    let h = ready-at 20 (last-kind _ 19 (c .before .before .pre .1 .1 .0) (c .before .before .pre .1 .1 .1 .0) (c .match .rest)) (p .1 .1 .1 .1) in
+    let p = c .before .before .before .pre in
+    let h = ready-at 20 (last-kind _ 7 12 (omega (arith, c .before .if1 .left)) (p .1 .1 .1 .0) (c .match .rest)) (p .1 .1 .1 .1) in
     (p .0, (p .1 .0, (omega (arith, h .order), h .slot)))
 
 found-or-requires-2 : tie.Need-found-or-requires-2
 found-or-requires-2 c κs = search needs
 
-returns : tie.Need-returns
-unfolding kindOf inWords
-returns c =
-    let p = c .before .before .pre in
-    answer-is (p .0) (p .1 .0) (c .before .before .args .r) 1 addLeave (c .match .keys1) refl (p .1 .1 .1 .1)
-
 returns-2 : tie.Need-returns-2
 unfolding kindOf inWords
 returns-2 c =
-    let p = c .before .before .before .before .pre in
-    c .settled .ensures
-    ∙ ap (λ f. asked 18 f (Done 0)) (c .before .first-without .ensures)
-    ∙ answer-is (p .0) (p .1 .0) (c .before .before .before .before .args .r) 2 endLeave (c .before .before .match .keys2) refl (p .1 .1 .1 .1)
+    let p = c .before .before .before .pre in
+    answer-is (p .0) (p .1 .0) (c .before .before .before .args .r) 8 addStanding (c .match .keys1) refl (p .1 .1 .1 .1)
 
 returns-3 : tie.Need-returns-3
 unfolding kindOf inWords
 returns-3 c =
-    let p = c .before .before .before .pre in
-    ap Done (c .bookings .ensures)
-    ∙ answer-is (p .0) (p .1 .0) (c .before .before .before .args .r) 3 removeVisitor (c .before .match .keys3) refl (p .1 .1 .1 .1)
+    let p = c .before .before .before .before .pre in
+    c .end-standing .ensures
+    ∙ answer-is (p .0) (p .1 .0) (c .before .before .before .before .args .r) 9 endStanding (c .before .match .keys2) refl (p .1 .1 .1 .1)
 
 returns-4 : tie.Need-returns-4
 unfolding kindOf inWords
 returns-4 c =
-    let p = c .before .before .before .pre in
-    c .add-stay .ensures ∙ answer-is (p .0) (p .1 .0) (c .before .before .before .args .r) 4 addHotel (c .before .match .keys4) refl (p .1 .1 .1 .1)
+    let p = c .before .before .before .before .pre in
+    c .add-attend .ensures
+    ∙ answer-is (p .0) (p .1 .0) (c .before .before .before .before .args .r) 10 addAttend (c .before .match .keys3) refl (p .1 .1 .1 .1)
 
 returns-5 : tie.Need-returns-5
 unfolding kindOf inWords
 returns-5 c =
-    let p = c .before .before .before .before .pre in
+    let p = c .before .before .before .before .before .before .pre in
     c .erase .ensures
-    ∙ answer-is (p .0) (p .1 .0) (c .before .before .before .before .args .r) 5 eraseHotel (c .before .before .match .keys5) refl (p .1 .1 .1 .1)
+    ∙ answer-is (p .0) (p .1 .0) (c .before .before .before .before .before .before .args .r) 11 eraseAttend (c .before .before .before .match .keys4) refl (p .1 .1 .1 .1)
 
 returns-6 : tie.Need-returns-6
 unfolding kindOf inWords
 returns-6 c =
-    let p = c .before .before .before .pre in
-    c .add-stay2 .ensures ∙ answer-is (p .0) (p .1 .0) (c .before .before .before .args .r) 6 addRide (c .before .match .keys6) refl (p .1 .1 .1 .1)
+    let p = c .before .before .before .before .pre in
+    c .add-conf .ensures ∙ answer-is (p .0) (p .1 .0) (c .before .before .before .before .args .r) 12 addConf (c .before .match .keys5) refl (p .1 .1 .1 .1)
 
 returns-7 : tie.Need-returns-7
 unfolding kindOf inWords
 returns-7 c =
-    let p = c .before .before .before .before .pre in
-    c .erase2 .ensures
-    ∙ answer-is (p .0) (p .1 .0) (c .before .before .before .before .args .r) 7 eraseRide (c .before .before .match .keys7) refl (p .1 .1 .1 .1)
+    let p = c .before .before .before .before .before .before .before .pre in
+    let r = c .before .before .before .before .before .before .before .args .r in
+    let h = ready-at 13 (c .before .before .before .before .match .keys6) (p .1 .1 .1 .1) in
+    c .settled .ensures
+    ∙ ap (λ f. asked 16 f (Done 0)) (c .before .first-row-without .ensures ∙ conf-fail (p .0) (p .1 .0) (r .b) (r .first) (r .last) (h .b) (omega (arith, h .slot)))
+    ∙ answer-is (p .0) (p .1 .0) (c .before .before .before .before .before .before .before .args .r) 13 eraseConf (c .before .before .before .before .match .keys6) refl (p .1 .1 .1 .1)
 
 returns-8 : tie.Need-returns-8
 unfolding kindOf inWords
 returns-8 c =
-    let p = c .before .before .pre in
-    answer-is (p .0) (p .1 .0) (c .before .before .args .r) 8 addStanding (c .match .keys8) refl (p .1 .1 .1 .1)
+    let p = c .before .before .before .before .pre in
+    c .lunch-fits .ensures
+    ∙ answer-is (p .0) (p .1 .0) (c .before .before .before .before .args .r) 14 addLunch (c .before .match .keys7) refl (p .1 .1 .1 .1)
 
 returns-9 : tie.Need-returns-9
 unfolding kindOf inWords
 returns-9 c =
-    let p = c .before .before .before .pre in
-    c .end-standing .ensures
-    ∙ answer-is (p .0) (p .1 .0) (c .before .before .before .args .r) 9 endStanding (c .before .match .keys9) refl (p .1 .1 .1 .1)
+    let p = c .before .before .before .before .before .before .pre in
+    c .erase2 .ensures
+    ∙ answer-is (p .0) (p .1 .0) (c .before .before .before .before .before .before .args .r) 15 eraseLunch (c .before .before .before .match .keys8) refl (p .1 .1 .1 .1)
 
 returns-10 : tie.Need-returns-10
 unfolding kindOf inWords
 returns-10 c =
-    let p = c .before .before .before .pre in
-    c .add-attend .ensures
-    ∙ answer-is (p .0) (p .1 .0) (c .before .before .before .args .r) 10 addAttend (c .before .match .keys10) refl (p .1 .1 .1 .1)
+    let p = c .before .before .before .before .pre in
+    c .erase-all .ensures
+    ∙ answer-is (p .0) (p .1 .0) (c .before .before .before .before .args .r) 16 eraseConfAndLunch (c .before .match .keys9) refl (p .1 .1 .1 .1)
 
 returns-11 : tie.Need-returns-11
 unfolding kindOf inWords
 returns-11 c =
-    let p = c .before .before .before .before .pre in
-    c .erase3 .ensures
-    ∙ answer-is (p .0) (p .1 .0) (c .before .before .before .before .args .r) 11 eraseAttend (c .before .before .match .keys11) refl (p .1 .1 .1 .1)
+    let p = c .before .before .before .before .before .pre in
+    c .found-or .ensures
+    ∙ ap (foundOr 21 (c .before .before .before .before .before .args .r .first)) (c .before .meeting-of .ensures)
+    ∙ answer-is (p .0) (p .1 .0) (c .before .before .before .before .before .args .r) 17 whichMeeting (c .before .before .match .keys10) refl (p .1 .1 .1 .1)
 
 returns-12 : tie.Need-returns-12
 unfolding kindOf inWords
 returns-12 c =
-    let p = c .before .before .before .pre in
-    c .add-conf .ensures ∙ answer-is (p .0) (p .1 .0) (c .before .before .before .args .r) 12 addConf (c .before .match .keys12) refl (p .1 .1 .1 .1)
+    let p = c .before .before .before .before .pre in
+    ap Done (c .members .ensures)
+    ∙ answer-is (p .0) (p .1 .0) (c .before .before .before .before .args .r) 18 countLeave (c .before .match .keys11) refl (p .1 .1 .1 .1)
 
 returns-13 : tie.Need-returns-13
 unfolding kindOf inWords
 returns-13 c =
     let p = c .before .before .before .before .pre in
-    c .settled2 .ensures
-    ∙ ap (λ f. asked 16 f (Done 0)) (c .before .first-without2 .ensures)
-    ∙ answer-is (p .0) (p .1 .0) (c .before .before .before .before .args .r) 13 eraseConf (c .before .before .match .keys13) refl (p .1 .1 .1 .1)
+    ap Done (c .seats-left .ensures)
+    ∙ answer-is (p .0) (p .1 .0) (c .before .before .before .before .args .r) 19 seatsLeft (c .before .match .keys12) refl (p .1 .1 .1 .1)
 
 returns-14 : tie.Need-returns-14
 unfolding kindOf inWords
 returns-14 c =
-    let p = c .before .before .before .pre in
-    c .lunch-fits .ensures
-    ∙ answer-is (p .0) (p .1 .0) (c .before .before .before .args .r) 14 addLunch (c .before .match .keys14) refl (p .1 .1 .1 .1)
-
-returns-15 : tie.Need-returns-15
-unfolding kindOf inWords
-returns-15 c =
-    let p = c .before .before .before .before .pre in
-    c .erase4 .ensures
-    ∙ answer-is (p .0) (p .1 .0) (c .before .before .before .before .args .r) 15 eraseLunch (c .before .before .match .keys15) refl (p .1 .1 .1 .1)
-
-returns-16 : tie.Need-returns-16
-unfolding kindOf inWords
-returns-16 c =
-    let p = c .before .before .before .pre in
-    c .erase-all .ensures
-    ∙ answer-is (p .0) (p .1 .0) (c .before .before .before .args .r) 16 eraseConfAndLunch (c .before .match .keys16) refl (p .1 .1 .1 .1)
-
-returns-17 : tie.Need-returns-17
-unfolding kindOf inWords
-returns-17 c =
-    let p = c .before .before .before .before .pre in
-    c .found-or .ensures
-    ∙ ap (foundOr 21 (c .before .before .before .before .args .r .first)) (c .before .meeting-of .ensures)
-    ∙ answer-is (p .0) (p .1 .0) (c .before .before .before .before .args .r) 17 whichMeeting (c .before .before .match .keys17) refl (p .1 .1 .1 .1)
-
-returns-18 : tie.Need-returns-18
-unfolding kindOf inWords
-returns-18 c =
-    let p = c .before .before .before .pre in
-    ap Done (c .members .ensures)
-    ∙ answer-is (p .0) (p .1 .0) (c .before .before .before .args .r) 18 countLeave (c .before .match .keys18) refl (p .1 .1 .1 .1)
-
-returns-19 : tie.Need-returns-19
-unfolding kindOf inWords
-returns-19 c =
-    let p = c .before .before .before .pre in
-    ap Done (c .seats-left .ensures)
-    ∙ answer-is (p .0) (p .1 .0) (c .before .before .before .args .r) 19 seatsLeft (c .before .match .keys19) refl (p .1 .1 .1 .1)
-
-returns-20 : tie.Need-returns-20
-unfolding kindOf inWords
-returns-20 c =
-    let p = c .before .before .before .before .pre in
+    let p = c .before .before .before .before .before .pre in
     c .found-or2 .ensures
     ∙ ap (foundOr 22 0) (c .before .lowest-free .ensures)
-    ∙ answer-is (p .0) (p .1 .0) (c .before .before .before .before .args .r) 20 freeRoom (last-kind _ 19 (c .before .before .before .before .pre .1 .1 .0) (c .before .before .before .before .pre .1 .1 .1 .0) (c .before .before .match .rest)) refl (p .1 .1 .1 .1)
+    ∙ answer-is (p .0) (p .1 .0) (c .before .before .before .before .before .args .r) 20 freeRoom (last-kind _ 7 12 (omega (arith, c .before .before .before .if1 .left)) (p .1 .1 .1 .0) (c .before .before .match .rest)) refl (p .1 .1 .1 .1)
 
 pub answer-spec : {M : Type 1} → statement M
 answer-spec =
     tie.close
     (tie.spec
-    first-without-requires
-    settled-requires
-    bookings-requires
-    add-stay-requires
-    add-erase
-    erase-requires
-    add-stay-requires-2
-    add-erase-2
-    erase-requires-2
+    of-visitor-requires
+    returns
     end-standing-requires
     add-attend-requires
-    add-erase-3
-    erase-requires-3
+    add-erase
+    erase-requires
     add-conf-requires
-    first-without-requires-2
-    settled-requires-2
+    add-first-row-without
+    first-row-without-requires
+    settled-requires
     lunch-fits-requires
-    add-erase-4
-    erase-requires-4
+    add-erase-2
+    erase-requires-2
     erase-all-requires
     meeting-of-requires
     found-or-requires
@@ -355,7 +256,6 @@ answer-spec =
     seats-left-requires
     lowest-free-requires
     found-or-requires-2
-    returns
     returns-2
     returns-3
     returns-4
@@ -368,10 +268,4 @@ answer-spec =
     returns-11
     returns-12
     returns-13
-    returns-14
-    returns-15
-    returns-16
-    returns-17
-    returns-18
-    returns-19
-    returns-20)
+    returns-14)

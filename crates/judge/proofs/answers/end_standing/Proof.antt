@@ -2,12 +2,18 @@
 -- Assumes nothing.
 use Rattle.judge.specs.Chains.{standingEnds}
 use native.Mathlib.Omega.{arith}
+use mathlib.Core.Path.{_∙_, ap}
+use Rattle.book.specs.declared.grid.Grids.{Grids}
+use Rattle.book.proofs.Goods.{good-laid}
+use Rattle.model.specs.Words.{attendCells}
+use Rattle.judge.proofs.Grounds.{row-ground}
+use Rattle.judge.proofs.Shown.{attended-fail}
 use borrow.Author.Needs.{needs}
 use Rattle.judge.proofs.answers.end_standing.Statement.{statement}
 use Rattle.judge.proofs.answers.end_standing.Tie as tie
 
-first-without-requires : tie.Need-first-without-requires
-first-without-requires c κs = let p = c .before .pre in (p .0, (p .1 .0, (p .1 .1 .0, (p .1 .1 .1, omega arith))))
+first-held-requires : tie.Need-first-held-requires
+first-held-requires c κs = search needs
 
 enum-known-i : tie.Need-enum-known-i
 enum-known-i c = search needs
@@ -17,13 +23,16 @@ refused-requires c κs = search needs
 
 returns : tie.Need-returns
 unfolding standingEnds
-returns c = rw (← (c .before .before .before .before .first-without .ensures), c .before .before .i .given .1) (c .refused .ensures)
+returns c = rw (← (c .before .before .before .before .first-held .ensures), c .before .before .i .given .1) (c .refused .ensures)
 
 enum-told : tie.Need-enum-told
 enum-told c = search needs
 
-first-without-requires-2 : tie.Need-first-without-requires-2
-first-without-requires-2 c κs = let p = c .before .before .before .before .pre in (p .0, (p .1 .0, (p .1 .1 .0, (p .1 .1 .1, omega arith))))
+add-first-row-without : tie.Need-add-first-row-without
+add-first-row-without c = let p = c .before .before .before .before .before .pre in omega (arith, good-laid (p .0) .ranges .meetings, p .1 .1 .1)
+
+first-row-without-requires : tie.Need-first-row-without-requires
+first-row-without-requires c κs = let p = c .before .before .before .before .before .pre in row-ground (p .0) attendCells (ap (λ (g : Grids). g .attend) (p .1 .0)) (p .1 .1 .0)
 
 settled-requires : tie.Need-settled-requires
 settled-requires c κs = search needs
@@ -31,21 +40,24 @@ settled-requires c κs = search needs
 returns-2 : tie.Need-returns-2
 unfolding standingEnds
 returns-2 c =
+    let p = c .before .before .before .before .before .before .before .pre in
+    let a = c .before .before .before .before .before .before .before .args in
     rw (
-      ← (c .before .before .before .before .first-without .ensures),
-      c .before .before .enum-told .given .1,
-      ← (c .before .first-without2 .ensures),
+      ← (c .before .before .before .before .before .first-held .ensures),
+      c .before .before .before .enum-told .given .1,
+      ← (c .before .first-row-without .ensures ∙ attended-fail (p .0) (p .1 .0) (a .a) (a .first) (a .last) (p .1 .1 .1) (p .1 .1 .0)),
     ) (c .settled .ensures)
 
 pub end-standing-spec : {M : Type 1} → statement M
 end-standing-spec =
     tie.close
     (tie.spec
-    first-without-requires
+    first-held-requires
     enum-known-i
     refused-requires
     returns
     enum-told
-    first-without-requires-2
+    add-first-row-without
+    first-row-without-requires
     settled-requires
     returns-2)

@@ -147,7 +147,7 @@ returns-19 c = ap rowOf (c .single3 .ensures) ∙ sym (ap rowAt (c .before .matc
 returns-20 : tie.Need-returns-20
 unfolding kindOf
 returns-20 c =
-    ap rowOf (c .plain15 .ensures) ∙ sym (ap rowAt (last-kind _ 19 (c .before .before .pre .0) (c .before .before .pre .1) (c .before .match .rest)))
+    ap rowOf (c .plain15 .ensures) ∙ sym (ap rowAt (last-kind _ 0 19 (c .before .before .pre .0) (c .before .before .pre .1) (c .before .match .rest)))
 
 pub row-of-spec : {M : Type 1} → statement M
 row-of-spec =

@@ -1,0 +1,146 @@
+-- `answers::of_visitor` meets its contract: in each arm the kind's number gives what questions 5 to 7 leave, and the answer is the model's.
+-- Assumes nothing.
+use mathlib.Core.Path.{refl, _∙_, ap}
+use native.Mathlib.Omega.{arith}
+use Rattle.book.specs.declared.grid.Grids.{Grids}
+use Rattle.book.proofs.Goods.{good-laid}
+use Rattle.model.specs.Kinds.{kindOf}
+use Rattle.model.specs.Kinds.{Kind.addLeave, Kind.endLeave, Kind.removeVisitor, Kind.addHotel, Kind.eraseHotel, Kind.addRide, Kind.eraseRide}
+use Rattle.model.specs.Words.{hotelCells, rideCells}
+use Rattle.model.specs.declared.Answer.the-variants.{Done}
+use Rattle.judge.specs.Chains.{asked, inWords}
+use Rattle.judge.proofs.Numbers.{last-kind}
+use Rattle.judge.proofs.Grounds.{ground}
+use Rattle.judge.proofs.Meanings.{answer-is, ready-at}
+use borrow.Author.Needs.{needs}
+use Rattle.judge.proofs.answers.of_visitor.Statement.{statement}
+use Rattle.judge.proofs.answers.of_visitor.Tie as tie
+
+first-booked-requires : tie.Need-first-booked-requires
+unfolding kindOf
+first-booked-requires c κs =
+    let p = c .before .before .pre in
+    let h = ready-at 2 (c .match .keys2) (p .1 .1 .1 .1) in
+    (p .0, (p .1 .0, (h .slot, h .b)))
+
+settled-requires : tie.Need-settled-requires
+settled-requires c κs = search needs
+
+bookings-requires : tie.Need-bookings-requires
+unfolding kindOf
+bookings-requires c κs =
+    let p = c .before .before .pre in
+    let h = ready-at 3 (c .match .keys3) (p .1 .1 .1 .1) in
+    (p .0, (p .1 .0, (h .b, (omega (arith, h .order), omega (arith, h .order, h .slot)))))
+
+add-stay-requires : tie.Need-add-stay-requires
+unfolding kindOf
+add-stay-requires c κs =
+    let p = c .before .before .before .before .pre in
+    let h = ready-at 4 (c .before .before .match .keys4) (p .1 .1 .1 .1) in
+    let q = ground (p .0) hotelCells (ap (λ (g : Grids). g .hotel) (p .1 .0)) (h .slot) (h .a) in
+    (p .0, (ap (λ (g : Grids). g .leave) (p .1 .0), (q .0, (h .slot, (q .1 .0, (q .1 .1, h .b))))))
+
+add-erase : tie.Need-add-erase
+unfolding kindOf
+add-erase c =
+    let p = c .before .before .before .before .pre in
+    let h = ready-at 5 (c .before .before .match .keys5) (p .1 .1 .1 .1) in
+    omega (arith, good-laid (p .0) .ranges .visitors, h .b)
+
+erase-requires : tie.Need-erase-requires
+unfolding kindOf
+erase-requires c κs =
+    let p = c .before .before .before .before .pre in
+    let h = ready-at 5 (c .before .before .match .keys5) (p .1 .1 .1 .1) in
+    ground (p .0) hotelCells (ap (λ (g : Grids). g .hotel) (p .1 .0)) (omega (arith, h .order, h .slot)) (h .a)
+
+add-stay-requires-2 : tie.Need-add-stay-requires-2
+unfolding kindOf
+add-stay-requires-2 c κs =
+    let p = c .before .before .before .before .pre in
+    let h = ready-at 6 (c .before .before .match .keys6) (p .1 .1 .1 .1) in
+    let q = ground (p .0) rideCells (ap (λ (g : Grids). g .ride) (p .1 .0)) (h .slot) (h .a) in
+    (p .0, (ap (λ (g : Grids). g .leave) (p .1 .0), (q .0, (h .slot, (q .1 .0, (q .1 .1, h .b))))))
+
+add-erase-2 : tie.Need-add-erase-2
+unfolding kindOf
+add-erase-2 c =
+    let p = c .before .before .before .before .pre in
+    let h = ready-at 7 (last-kind _ 0 6 (p .1 .1 .0) (p .1 .1 .1 .0) (c .before .before .match .rest)) (p .1 .1 .1 .1) in
+    omega (arith, good-laid (p .0) .ranges .visitors, h .b)
+
+erase-requires-2 : tie.Need-erase-requires-2
+unfolding kindOf
+erase-requires-2 c κs =
+    let p = c .before .before .before .before .pre in
+    let h = ready-at 7 (last-kind _ 0 6 (p .1 .1 .0) (p .1 .1 .1 .0) (c .before .before .match .rest)) (p .1 .1 .1 .1) in
+    ground (p .0) rideCells (ap (λ (g : Grids). g .ride) (p .1 .0)) (omega (arith, h .order, h .slot)) (h .a)
+
+returns : tie.Need-returns
+unfolding kindOf inWords
+returns c =
+    let p = c .before .before .pre in
+    answer-is (p .0) (p .1 .0) (c .before .before .args .r) 1 addLeave (c .match .keys1) refl (p .1 .1 .1 .1)
+
+returns-2 : tie.Need-returns-2
+unfolding kindOf inWords
+returns-2 c =
+    let p = c .before .before .before .before .pre in
+    c .settled .ensures
+    ∙ ap (λ f. asked 18 f (Done 0)) (c .before .first-booked .ensures)
+    ∙ answer-is (p .0) (p .1 .0) (c .before .before .before .before .args .r) 2 endLeave (c .before .before .match .keys2) refl (p .1 .1 .1 .1)
+
+returns-3 : tie.Need-returns-3
+unfolding kindOf inWords
+returns-3 c =
+    let p = c .before .before .before .pre in
+    ap Done (c .bookings .ensures)
+    ∙ answer-is (p .0) (p .1 .0) (c .before .before .before .args .r) 3 removeVisitor (c .before .match .keys3) refl (p .1 .1 .1 .1)
+
+returns-4 : tie.Need-returns-4
+unfolding kindOf inWords
+returns-4 c =
+    let p = c .before .before .before .before .before .pre in
+    c .add-stay .ensures ∙ answer-is (p .0) (p .1 .0) (c .before .before .before .before .before .args .r) 4 addHotel (c .before .before .before .match .keys4) refl (p .1 .1 .1 .1)
+
+returns-5 : tie.Need-returns-5
+unfolding kindOf inWords
+returns-5 c =
+    let p = c .before .before .before .before .before .pre in
+    c .erase .ensures
+    ∙ answer-is (p .0) (p .1 .0) (c .before .before .before .before .before .args .r) 5 eraseHotel (c .before .before .before .match .keys5) refl (p .1 .1 .1 .1)
+
+returns-6 : tie.Need-returns-6
+unfolding kindOf inWords
+returns-6 c =
+    let p = c .before .before .before .before .before .pre in
+    c .add-stay2 .ensures ∙ answer-is (p .0) (p .1 .0) (c .before .before .before .before .before .args .r) 6 addRide (c .before .before .before .match .keys6) refl (p .1 .1 .1 .1)
+
+returns-7 : tie.Need-returns-7
+unfolding kindOf inWords
+returns-7 c =
+    let p = c .before .before .before .before .before .pre in
+    c .erase2 .ensures
+    ∙ answer-is (p .0) (p .1 .0) (c .before .before .before .before .before .args .r) 7 eraseRide (last-kind _ 0 6 (p .1 .1 .0) (p .1 .1 .1 .0) (c .before .before .before .match .rest)) refl (p .1 .1 .1 .1)
+
+pub of-visitor-spec : {M : Type 1} → statement M
+of-visitor-spec =
+    tie.close
+    (tie.spec
+    first-booked-requires
+    settled-requires
+    bookings-requires
+    add-stay-requires
+    add-erase
+    erase-requires
+    add-stay-requires-2
+    add-erase-2
+    erase-requires-2
+    returns
+    returns-2
+    returns-3
+    returns-4
+    returns-5
+    returns-6
+    returns-7)

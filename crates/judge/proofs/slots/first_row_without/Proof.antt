@@ -1,0 +1,38 @@
+-- `slots::first_row_without` meets its contract: each slot passed so far passes the test.
+-- Assumes nothing.
+use Prim.Native.Nat.{suc, _-_}
+use Rattle.book.specs.Rows.{rowHas}
+use Rattle.judge.proofs.Passed.{Passed, passed-none, passed-next, passed-at, passed-all}
+use borrow.Author.Needs.{needs}
+use Rattle.judge.proofs.slots.first_row_without.Statement.{statement}
+use Rattle.judge.proofs.slots.first_row_without.Tie as tie
+
+abbrev Inv-loop : tie.InvT-loop
+Inv-loop book cells w first last i₀ i = Passed (λ k. rowHas cells book k w) first i
+
+abbrev μ-loop : tie.MeasureT-loop
+μ-loop book cells w first last i₀ i = suc last - i
+
+loop-holds : tie.Need-loop-holds Inv-loop μ-loop
+loop-holds c = passed-none _ _
+
+row-has-requires : tie.Need-row-has-requires Inv-loop μ-loop
+row-has-requires c κs = search needs
+
+returns : tie.Need-returns Inv-loop μ-loop
+returns c = passed-at (c .before .before .before .loop .inv) (c .before .before .loop-test .taken) (c .before .row-has .ensures) (c .if1 .taken)
+
+add-i : tie.Need-add-i Inv-loop μ-loop
+add-i c = search needs
+
+loop-less : tie.Need-loop-less Inv-loop μ-loop
+loop-less c = search needs
+
+loop-again : tie.Need-loop-again Inv-loop μ-loop
+loop-again c = passed-next (c .before .before .before .loop .inv) (c .before .row-has .ensures) (c .if1 .left)
+
+returns-2 : tie.Need-returns-2 Inv-loop μ-loop
+returns-2 c = passed-all (c .before .loop .inv) (c .loop-test .left)
+
+pub first-row-without-spec : {M : Type 1} → statement M
+first-row-without-spec = tie.close (tie.spec Inv-loop μ-loop loop-holds row-has-requires returns add-i loop-less loop-again returns-2)
