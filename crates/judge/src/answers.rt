@@ -5,7 +5,6 @@ use crate::cells::Ask;
 use crate::cells::first_failing;
 use crate::slots::capacity;
 use crate::slots::first_booked;
-use crate::slots::first_date_not_standing;
 use crate::slots::first_held;
 use crate::slots::first_not_member;
 use crate::slots::first_off_leave;
@@ -22,6 +21,7 @@ use model::Request;
 use model::Session;
 use model::Settings;
 use queries::bookings::bookings;
+use queries::dates::first_without_session;
 use queries::dates::members;
 use queries::entries::meeting_of;
 use queries::rooms::lowest_free;
@@ -160,7 +160,7 @@ fn add_lunch(
     requires { ⌜ n ≤ 1000 ⌝ }
     ensures { λ r. ⌜ r ≡ lunchAdds s (now (book .entry)) (g .lunch) a b n first last ⌝ }
 {
-    if let Found::At(i) = first_date_not_standing(book, s, g, b, first, last) {
+    if let Found::At(i) = first_without_session(book, s, g, b, first, last) {
         return refused(10, i);
     }
     let triples = g.lunch;
@@ -280,7 +280,7 @@ fn of_visitor(book: &[u32], s: Settings, g: Grids, r: Request) -> Answer
     match kind {
         1 => Answer::Done(0),
         2 => settled(18, first_booked(book, s, g, r.b, r.first, r.last)),
-        3 => Answer::Done(bookings(book, s, g, r.b, r.first, r.last)),
+        3 => Answer::Done(bookings(book, s, r.b, r.first, r.last)),
         4 => {
             let leave = g.leave;
             let set = g.hotel;

@@ -11,7 +11,6 @@ use book::units::date_of_session;
 use model::Session;
 use model::Settings;
 use queries::bookings::bookings;
-use queries::dates::stands_on;
 use queries::entries::conf_held;
 use queries::entries::lunch_held;
 use queries::entries::member;
@@ -33,7 +32,7 @@ ghost use Rattle.book.specs.Grids.{Fits, cellAt, gridsOf};
 ghost use Rattle.book.specs.Ranges.{Ranges};
 ghost use Rattle.book.specs.Rows.{rowHas};
 ghost use Rattle.book.specs.Units.{unitOf};
-ghost use Rattle.judge.specs.Asked.{OnLeave, StandsThatDate, RoomLeft, NoBookings, NotHeld, holdsIn, roomLeft, notHeld};
+ghost use Rattle.judge.specs.Asked.{OnLeave, RoomLeft, NoBookings, NotHeld, holdsIn, roomLeft, notHeld};
 
 // The seat capacity of a dining room.
 pub fn capacity(s: Settings, room: u32) -> u32
@@ -90,7 +89,7 @@ fn no_bookings(book: &[u32], s: Settings, g: Grids, date: u32, visitor: u32) -> 
     if row_has(book, cells, date, visitor + 1) {
         return false;
     }
-    bookings(book, s, g, visitor, date, date) == 0
+    bookings(book, s, visitor, date, date) == 0
 }
 
 // Question 9: the lowest slot of first..last on whose date the visitor has no leave.
@@ -130,31 +129,6 @@ pub fn first_not_member(book: &[u32], pool: Grid, v: u32, first: u32, last: u32)
     let mut i = first;
     while i <= last {
         if !member(book, pool, i, v) {
-            return Found::At(i);
-        }
-        i += 1;
-    }
-    Found::Nothing
-}
-
-// Question 10 of kind 14: the lowest date of first..last on which the meeting stands in no session.
-pub fn first_date_not_standing(
-    book: &[u32],
-    s: Settings,
-    g: Grids,
-    meeting: u32,
-    first: u32,
-    last: u32,
-) -> Found
-    requires { ⌜ Good s (now book) ⌝ }
-    requires { ⌜ g ≡ gridsOf s ⌝ }
-    requires { ⌜ last < s .dates ⌝ }
-    requires { ⌜ meeting < s .meetings ⌝ }
-    ensures { λ r. ⌜ r ≡ foundOf (failing (holdsIn s (stateOf (now (book .entry))) StandsThatDate meeting 0) first last) ⌝ }
-{
-    let mut i = first;
-    while i <= last {
-        if !stands_on(book, s, g, i, meeting) {
             return Found::At(i);
         }
         i += 1;

@@ -1,6 +1,7 @@
 -- `answers::add_lunch` meets its contract: the questions of kind 14 from 10 on, one after the other.
 -- Assumes nothing.
 use mathlib.Core.Path.{ap}
+use Rattle.judge.specs.Asked.{holdsIn}
 use Rattle.judge.specs.Chains.{lunchAdds}
 use Rattle.book.specs.declared.grid.Grids.{Grids}
 use Rattle.judge.proofs.Grounds.{ground}
@@ -11,8 +12,8 @@ use borrow.Author.Needs.{needs}
 use Rattle.judge.proofs.answers.add_lunch.Statement.{statement}
 use Rattle.judge.proofs.answers.add_lunch.Tie as tie
 
-first-date-not-standing-requires : tie.Need-first-date-not-standing-requires
-first-date-not-standing-requires c κs = let p = c .before .pre in (p .0, (p .1 .0, (p .1 .1 .0, p .1 .1 .1 .1 .0)))
+first-without-session-requires : tie.Need-first-without-session-requires
+first-without-session-requires c κs = let p = c .before .pre in (p .0, (p .1 .0, (p .1 .1 .1 .1 .0, p .1 .1 .0)))
 
 enum-known-i : tie.Need-enum-known-i
 enum-known-i c = search needs
@@ -21,8 +22,8 @@ refused-requires : tie.Need-refused-requires
 refused-requires c κs = search needs
 
 returns : tie.Need-returns
-unfolding lunchAdds
-returns c = rw (← (c .before .before .before .before .first-date-not-standing .ensures), c .before .before .i .given .1) (c .refused .ensures)
+unfolding lunchAdds holdsIn
+returns c = rw (← (c .before .before .before .before .first-without-session .ensures), c .before .before .i .given .1) (c .refused .ensures)
 
 enum-told : tie.Need-enum-told
 enum-told c = search needs
@@ -47,10 +48,10 @@ refused-requires-2 : tie.Need-refused-requires-2
 refused-requires-2 c κs = search needs
 
 returns-2 : tie.Need-returns-2
-unfolding lunchAdds
+unfolding lunchAdds holdsIn
 returns-2 c =
     rw (
-      ← (c .before .before .before .before .before .before .before .before .first-date-not-standing .ensures),
+      ← (c .before .before .before .before .before .before .before .before .first-without-session .ensures),
       c .before .before .before .before .before .before .enum-told .given .1,
       ← (c .before .before .before .before .first-failing .ensures),
       c .before .before .i2 .given .1,
@@ -79,10 +80,10 @@ refused-requires-3 : tie.Need-refused-requires-3
 refused-requires-3 c κs = search needs
 
 returns-3 : tie.Need-returns-3
-unfolding lunchAdds
+unfolding lunchAdds holdsIn
 returns-3 c =
     rw (
-      ← (c .before .before .before .before .before .before .before .before .before .before .before .first-date-not-standing .ensures),
+      ← (c .before .before .before .before .before .before .before .before .before .before .before .first-without-session .ensures),
       c .before .before .before .before .before .before .before .before .before .enum-told .given .1,
       ← (c .before .before .before .before .before .before .before .first-failing .ensures),
       c .before .before .before .before .before .enum-told2 .given .1,
@@ -102,10 +103,10 @@ settled-requires : tie.Need-settled-requires
 settled-requires c κs = search needs
 
 returns-4 : tie.Need-returns-4
-unfolding lunchAdds
+unfolding lunchAdds holdsIn
 returns-4 c =
     rw (
-      ← (c .before .before .before .before .before .before .before .before .before .before .before .first-date-not-standing .ensures),
+      ← (c .before .before .before .before .before .before .before .before .before .before .before .first-without-session .ensures),
       c .before .before .before .before .before .before .before .before .before .enum-told .given .1,
       ← (c .before .before .before .before .before .before .before .first-failing .ensures),
       c .before .before .before .before .before .enum-told2 .given .1,
@@ -118,7 +119,7 @@ pub add-lunch-spec : {M : Type 1} → statement M
 add-lunch-spec =
     tie.close
     (tie.spec
-    first-date-not-standing-requires
+    first-without-session-requires
     enum-known-i
     refused-requires
     returns

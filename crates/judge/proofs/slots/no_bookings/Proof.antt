@@ -10,7 +10,7 @@ use Rattle.book.specs.Rows.{rowHas}
 use Rattle.book.proofs.Goods.{good-laid}
 use Rattle.book.proofs.Regions.{fits}
 use Rattle.model.specs.Words.{hotelCells}
-use Rattle.queries.proofs.Spans.{bookings-none}
+use Rattle.queries.proofs.Spans.{bookings-none-on}
 use Rattle.judge.proofs.Nights.{night-counts}
 use borrow.Author.Needs.{needs}
 use Rattle.judge.proofs.slots.no_bookings.Statement.{statement}
@@ -22,7 +22,7 @@ on-leave-requires c κs = search needs
 returns : tie.Need-returns
 returns c =
     let s = c .before .before .before in
-    sym (eq-eqb _ 0 (bookings-none (s .pre .0) (s .args .visitor) (s .args .date) (sym (c .before .on-leave .ensures) ∙ not-true _ (c .if1 .taken))))
+    sym (eq-eqb _ 0 (bookings-none-on (s .pre .0) (s .args .visitor) (s .args .date) (sym (c .before .on-leave .ensures) ∙ not-true _ (c .if1 .taken))))
 
 add-row-has : tie.Need-add-row-has
 add-row-has c = let p = c .before .before .before .before .pre in omega (arith, good-laid (p .0) .ranges .visitors, p .1 .1 .1)
@@ -39,7 +39,7 @@ returns-2 c = let p = c .before .before .before .before .before .before .pre in 
     (sym (ap (λ (g : Grids). rowHas (g .hotel) (a .book .now) (a .date) (a .visitor + 1)) (p .1 .0)) ∙ sym (c .before .row-has .ensures) ∙ c .if2 .taken))
 
 bookings-requires : tie.Need-bookings-requires
-bookings-requires c κs = let p = c .before .before .before .before .before .before .pre in (p .0, (p .1 .0, (p .1 .1 .1, (omega arith, p .1 .1 .0))))
+bookings-requires c κs = let p = c .before .before .before .before .before .before .pre in (p .0, (p .1 .1 .1, (omega arith, p .1 .1 .0)))
 
 returns-3 : tie.Need-returns-3
 returns-3 c = ap (λ (n : ℕ). eqb n 0) (c .bookings .ensures)
