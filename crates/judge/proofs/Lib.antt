@@ -6,4 +6,3 @@ pub mod Pairs
 pub mod Shown
 pub mod Meanings
 pub mod Whole
-pub mod Nights

@@ -10,11 +10,10 @@ use book::units::date_of;
 use book::units::date_of_session;
 use model::Session;
 use model::Settings;
-use queries::bookings::bookings;
+use queries::bookings::has_bookings;
 use queries::entries::conf_held;
 use queries::entries::lunch_held;
 use queries::entries::member;
-use queries::entries::on_leave;
 use queries::rooms::reserved;
 ghost use mathlib.Core.Path.{_≡_};
 ghost use mathlib.Core.Bool.{not};
@@ -23,7 +22,6 @@ ghost use lib.Dec.{eqb};
 ghost use lib.ListN.{length};
 ghost use Rattle.model.specs.Bounded.{bit, failing};
 ghost use Rattle.model.specs.Kinds.{slotsOf};
-ghost use Rattle.model.specs.Questions.{bookings as bookingsIn};
 ghost use Rattle.model.specs.Reading.{stateOf};
 ghost use Rattle.model.specs.Site.{allSessions, capacity as capacityOf};
 ghost use Rattle.book.specs.Founds.{foundOf};
@@ -72,24 +70,6 @@ fn not_held(book: &[u32], s: Settings, g: Grids, session: u32, meeting: u32) -> 
         return false;
     }
     !lunch
-}
-
-// Question 18 on one date. There is no entry without leave, and most visitors with an entry have a hotel room.
-fn no_bookings(book: &[u32], s: Settings, g: Grids, date: u32, visitor: u32) -> bool
-    requires { ⌜ Good s (now book) ⌝ }
-    requires { ⌜ g ≡ gridsOf s ⌝ }
-    requires { ⌜ date < s .dates ⌝ }
-    requires { ⌜ visitor < s .visitors ⌝ }
-    ensures { λ r. ⌜ r ≡ eqb (bookingsIn (stateOf (now (book .entry))) visitor date date) 0 ⌝ }
-{
-    if !on_leave(book, s, g, Slot::Dates, date, visitor) {
-        return true;
-    }
-    let cells = g.hotel;
-    if row_has(book, cells, date, visitor + 1) {
-        return false;
-    }
-    bookings(book, s, visitor, date, date) == 0
 }
 
 // Question 9: the lowest slot of first..last on whose date the visitor has no leave.
@@ -219,7 +199,7 @@ pub fn first_booked(
 {
     let mut i = first;
     while i <= last {
-        if !no_bookings(book, s, g, i, visitor) {
+        if has_bookings(book, s, g, visitor, i) {
             return Found::At(i);
         }
         i += 1;

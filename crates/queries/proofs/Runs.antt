@@ -85,8 +85,7 @@ run-order S u first last from to r h = go (leb from to) refl
         absurd (omega (arith, r .begins .before to l, r .ends .after to (omega arith) (omega (arith, r .begins .most)), h))
 
 -- the bookings of a visitor on a run of dates, by its times and sessions
-module _ (S : Settings) (b : List ℕ) (good : Good S b) (v from to t0 t1 s0 s1 : ℕ) (hv : v < S .visitors) (hf : from ≤ to) (ht : to < S .dates)
-    (rt : OnDates S Times from to t0 t1) (rs : OnDates S Sessions from to s0 s1) where
+module _ (S : Settings) (b : List ℕ) (good : Good S b) (v from to : ℕ) (hv : v < S .visitors) (hf : from ≤ to) (ht : to < S .dates) where
   abbrev x : State
   x = readState S b
 
@@ -100,26 +99,35 @@ module _ (S : Settings) (b : List ℕ) (good : Good S b) (v from to t0 t1 s0 s1 
       last : (d : ℕ) → leb d to ≡ ltb d (to + 1)
       last d = bool-eq _ _ (λ e. lt-ltb d (to + 1) (omega (arith, leb-true d to e))) (λ e. le-leb d to (omega (arith, ltb-true d (to + 1) e)))
 
-  taxis : count2 (λ t k. within from to (dateOfTime S t) && x .ride t k v) (allTimes S) (S .transports) ≡ rowsCount (gridOf S rideCells) b (v + 1) t0 t1
+  taxis : (t0 t1 : ℕ) → OnDates S Times from to t0 t1 → count2 (λ t k. within from to (dateOfTime S t) && x .ride t k v) (allTimes S) (S .transports) ≡ rowsCount (gridOf S rideCells) b (v + 1) t0 t1
   unfolding rowsCount rowCount
-  taxis =
+  taxis t0 t1 rt =
       count-run (λ t. within from to (dateOfTime S t)) (λ t k. booked x rides t k v) (λ t. rowCount (gridOf S rideCells) b t (v + 1)) t0 t1 (allTimes S) (S .transports)
       (run-order S Times from to t0 t1 rt hf) (rt .ends .most) (λ t k. between-cuts S Times from to t0 t1 (rt .begins) (rt .ends) t k)
       (λ t k. count-same (λ r. booked x rides t r v) (λ r. eqb (cellAt (gridOf S rideCells) b t r) (v + 1)) (S .transports) (λ r g. booked-eqb S b rides t k g hv))
 
-  seated : count2 (λ s m. within from to (dateOfSession S s) && x .attend s m v) (allSessions S) (S .meetings) ≡ columnCount (gridOf S attendCells) b v s0 s1
+  seated : (s0 s1 : ℕ) → OnDates S Sessions from to s0 s1 → count2 (λ s m. within from to (dateOfSession S s) && x .attend s m v) (allSessions S) (S .meetings) ≡ columnCount (gridOf S attendCells) b v s0 s1
   unfolding columnCount
-  seated =
+  seated s0 s1 rs =
       count-run (λ s. within from to (dateOfSession S s)) (λ s m. booked x attends s m v) (λ s. one (not (eqb (cellAt (gridOf S attendCells) b s v) 0))) s0 s1 (allSessions S) (S .meetings)
       (run-order S Sessions from to s0 s1 rs hf) (rs .ends .most) (λ s k. between-cuts S Sessions from to s0 s1 (rs .begins) (rs .ends) s k)
       (λ s k. count-same (λ m. booked x attends s m v) (λ m. eqb (cellAt (gridOf S attendCells) b s v) (m + 1)) (S .meetings) (λ m g. booked-eqb S b attends s k g hv)
       ∙ count-cell (cellAt (gridOf S attendCells) b s v) (S .meetings) (good-cell good attends s v k hv))
 
-  pub bookings-is :
-      rowsCount (gridOf S hotelCells) b (v + 1) from (to + 1) + rowsCount (gridOf S rideCells) b (v + 1) t0 t1 + columnCount (gridOf S attendCells) b v s0 s1
+  pub bookings-is : (t0 t1 s0 s1 : ℕ) → OnDates S Times from to t0 t1 → OnDates S Sessions from to s0 s1
+      → rowsCount (gridOf S hotelCells) b (v + 1) from (to + 1) + rowsCount (gridOf S rideCells) b (v + 1) t0 t1 + columnCount (gridOf S attendCells) b v s0 s1
       ≡ bookings (stateOf b) v from to
   unfolding bookings readState
-  bookings-is = rw (good-state good) (sym (ap₂ _+_ (ap₂ _+_ nights taxis) seated))
+  bookings-is t0 t1 s0 s1 rt rs = rw (good-state good) (sym (ap₂ _+_ (ap₂ _+_ nights (taxis t0 t1 rt)) (seated s0 s1 rs)))
+
+  -- hotel rooms alone, and meetings alone, are no more than all
+  pub nights-le : rowsCount (gridOf S hotelCells) b (v + 1) from (to + 1) ≤ bookings (stateOf b) v from to
+  unfolding bookings readState
+  nights-le = rw (good-state good) (omega (arith, nights))
+
+  pub seated-le : (s0 s1 : ℕ) → OnDates S Sessions from to s0 s1 → columnCount (gridOf S attendCells) b v s0 s1 ≤ bookings (stateOf b) v from to
+  unfolding bookings readState
+  seated-le s0 s1 rs = rw (good-state good) (omega (arith, seated s0 s1 rs))
 
 -- the members of a date are the bits of its row
 module _ (S : Settings) (b : List ℕ) (good : Good S b) (d r : ℕ) (h : d < S .dates) (at : Index (gridOf S leaves) d 0 r) where

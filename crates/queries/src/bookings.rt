@@ -111,3 +111,26 @@ pub fn bookings(book: &[u32], s: Settings, visitor: u32, from: u32, to: u32) -> 
     }
     entries(book, s, g, visitor, from, to)
 }
+
+// Has the visitor an entry on the date? What costs least is asked first: leave, without which there is none, a hotel room, a meeting,
+// and a ride, whose times are many.
+pub fn has_bookings(book: &[u32], s: Settings, g: Grids, visitor: u32, date: u32) -> bool
+    requires { ⌜ Good s (now book) ⌝ }
+    requires { ⌜ g ≡ gridsOf s ⌝ }
+    requires { ⌜ visitor < s .visitors ⌝ }
+    requires { ⌜ date < s .dates ⌝ }
+    ensures { λ r. ⌜ r ≡ not (eqb (bookingsIn (stateOf (now (book .entry))) visitor date date) 0) ⌝ }
+{
+    if !on_leave(book, s, g, Slot::Dates, date, visitor) {
+        return false;
+    }
+    if rows_count(book, g.hotel, visitor + 1, date, date + 1) != 0 {
+        return true;
+    }
+    let sessions = slots_on(s, Slot::Sessions, g.attend.slots, date, date);
+    if column_count(book, g.attend, visitor, sessions.from, sessions.to) != 0 {
+        return true;
+    }
+    let times = slots_on(s, Slot::Times, g.ride.slots, date, date);
+    rows_count(book, g.ride, visitor + 1, times.from, times.to) != 0
+}

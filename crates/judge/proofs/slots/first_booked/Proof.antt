@@ -1,6 +1,8 @@
 -- `slots::first_booked` meets its contract: each slot passed so far passes the test.
 -- Assumes nothing.
 use Prim.Native.Nat.{suc, _-_}
+use mathlib.Core.Path.{_≡_, ap}
+use mathlib.Core.Bool.{Bool, true, false, not}
 use native.Mathlib.Omega.{arith}
 use Rattle.model.specs.Reading.{stateOf}
 use Rattle.book.proofs.Goods.{good-laid}
@@ -9,6 +11,10 @@ use Rattle.judge.proofs.Passed.{Passed, passed-none, passed-next, passe
 use borrow.Author.Needs.{needs}
 use Rattle.judge.proofs.slots.first_booked.Statement.{statement}
 use Rattle.judge.proofs.slots.first_booked.Tie as tie
+
+turned : (r b : Bool) → r ≡ not b → not r ≡ b
+turned r true e = ap not e
+turned r false e = ap not e
 
 abbrev Inv-loop : tie.InvT-loop
 Inv-loop book s g visitor first last i₀ i = Passed (holdsIn s (stateOf book) NoBookings visitor 0) first i
@@ -19,14 +25,14 @@ abbrev μ-loop : tie.MeasureT-loop
 loop-holds : tie.Need-loop-holds Inv-loop μ-loop
 loop-holds c = passed-none _ _
 
-no-bookings-requires : tie.Need-no-bookings-requires Inv-loop μ-loop
-no-bookings-requires c κs =
+has-bookings-requires : tie.Need-has-bookings-requires Inv-loop μ-loop
+has-bookings-requires c κs =
     let p = c .before .before .before .pre in
-    (p .0, (p .1 .0, (omega (arith, p .1 .1 .0, c .loop-test .taken), p .1 .1 .1)))
+    (p .0, (p .1 .0, (p .1 .1 .1, omega (arith, p .1 .1 .0, c .loop-test .taken))))
 
 returns : tie.Need-returns Inv-loop μ-loop
 unfolding holdsIn
-returns c = passed-at (c .before .before .before .loop .inv) (c .before .before .loop-test .taken) (c .before .no-bookings .ensures) (c .if1 .taken)
+returns c = passed-at (c .before .before .before .loop .inv) (c .before .before .loop-test .taken) (turned _ _ (c .before .has-bookings .ensures)) (ap (λ (b : Bool). not (not b)) (c .if1 .taken))
 
 add-i : tie.Need-add-i Inv-loop μ-loop
 add-i c =
@@ -38,10 +44,10 @@ loop-less c = search needs
 
 loop-again : tie.Need-loop-again Inv-loop μ-loop
 unfolding holdsIn
-loop-again c = passed-next (c .before .before .before .loop .inv) (c .before .no-bookings .ensures) (c .if1 .left)
+loop-again c = passed-next (c .before .before .before .loop .inv) (turned _ _ (c .before .has-bookings .ensures)) (ap (λ (b : Bool). not (not b)) (c .if1 .left))
 
 returns-2 : tie.Need-returns-2 Inv-loop μ-loop
 returns-2 c = passed-all (c .before .loop .inv) (c .loop-test .left)
 
 pub first-booked-spec : {M : Type 1} → statement M
-first-booked-spec = tie.close (tie.spec Inv-loop μ-loop loop-holds no-bookings-requires returns add-i loop-less loop-again returns-2)
+first-booked-spec = tie.close (tie.spec Inv-loop μ-loop loop-holds has-bookings-requires returns add-i loop-less loop-again returns-2)

@@ -100,7 +100,7 @@ returns c =
     let e2 = rw (s .pre .1 .0) at (c .before .rows-count2 .ensures) in
     let e3 = rw (s .pre .1 .0) at (c .column-count .ensures) in
     ap₂ _+_ (ap₂ _+_ e1 e2) e3
-    ∙ bookings-is (a .s) (a .book .now) (s .pre .0) (a .visitor) (a .from) (a .to) _ _ _ _ (s .pre .1 .1 .0) (s .pre .1 .1 .1 .0) (s .pre .1 .1 .1 .1) t p
+    ∙ bookings-is (a .s) (a .book .now) (s .pre .0) (a .visitor) (a .from) (a .to) (s .pre .1 .1 .0) (s .pre .1 .1 .1 .0) (s .pre .1 .1 .1 .1) _ _ _ _ t p
 
 pub entries-spec : {M : Type 1} → statement M
 entries-spec =

@@ -1,0 +1,123 @@
+-- `bookings::has_bookings` meets its contract: none without leave; else a hotel room, a meeting or a ride is one, and there is no other.
+-- Assumes nothing.
+use Prim.Native.Nat.{ℕ, _+_}
+use mathlib.Core.Path.{_≡_, refl, sym, _∙_, ap}
+use mathlib.Core.Bool.{not}
+use native.Mathlib.Omega.{arith}
+use lib.Dec.{eqb}
+use borrow.Author.Tests.{eq-eqb, ne-eqb, not-true}
+use borrow.Author.Needs.{needs}
+use Rattle.model.specs.Words.{attendCells, hotelCells, rideCells}
+use Rattle.model.specs.Questions.{bookings}
+use Rattle.model.specs.Reading.{stateOf}
+use Rattle.book.specs.declared.units.Slot.the-variants.{Sessions, Times}
+use Rattle.book.proofs.Regions.{fits, all-sessions}
+use Rattle.book.proofs.Goods.{good-laid}
+use Rattle.queries.proofs.Runs.{run-order, bookings-is, nights-le, seated-le}
+use Rattle.queries.proofs.Spans.{bookings-none-on}
+use Rattle.queries.proofs.bookings.has_bookings.Statement.{statement}
+use Rattle.queries.proofs.bookings.has_bookings.Tie as tie
+
+on-leave-requires : tie.Need-on-leave-requires
+on-leave-requires c κs = search needs
+
+returns : tie.Need-returns
+returns c =
+    let s = c .before .before .before in
+    sym (ap not (eq-eqb _ 0 (bookings-none-on (s .pre .0) (s .args .visitor) (s .args .date) (sym (c .before .on-leave .ensures) ∙ not-true _ (c .if1 .taken)))))
+
+add-rows-count : tie.Need-add-rows-count
+add-rows-count c = let p = c .before .before .before .pre in omega (arith, good-laid (p .0) .ranges .visitors, p .1 .1 .0)
+
+add-rows-count-2 : tie.Need-add-rows-count-2
+add-rows-count-2 c = let p = c .before .before .before .pre in omega (arith, good-laid (p .0) .ranges .dates, p .1 .1 .1)
+
+rows-count-requires : tie.Need-rows-count-requires
+rows-count-requires c κs =
+    let s = c .before .before .before in
+    let l = good-laid (s .pre .0) in
+    (rw (s .pre .1 .0) (fits (s .args .s) (s .args .book .now) l hotelCells), (rw (s .pre .1 .0) (refl, l .ranges .hotels .0), rw (s .pre .1 .0) (omega arith, omega (arith, s .pre .1 .1 .1))))
+
+returns-2 : tie.Need-returns-2
+returns-2 c =
+    let s = c .before .before .before .before .before in
+    let a = s .args in
+    let e = rw (s .pre .1 .0) at (c .before .rows-count .ensures) in
+    let k = nights-le (a .s) (a .book .now) (s .pre .0) (a .visitor) (a .date) (a .date) (s .pre .1 .1 .0) (omega arith) (s .pre .1 .1 .1) in
+    sym (ap not (ne-eqb (bookings (stateOf (a .book .now)) (a .visitor) (a .date) (a .date)) 0 (λ z. c .if2 .taken (omega (arith, e, k, z)))))
+
+slots-on-requires : tie.Need-slots-on-requires
+slots-on-requires c κs =
+    let s = c .before .before .before .before .before in
+    let l = good-laid (s .pre .0) in
+    (l .ranges, (rw (s .pre .1 .0) refl, (omega arith, omega (arith, l .ranges .dates, s .pre .1 .1 .1))))
+
+column-count-requires : tie.Need-column-count-requires
+column-count-requires c κs =
+    let s = c .before .before .before .before .before .before in
+    let l = good-laid (s .pre .0) in
+    let p = c .slots-on .ensures in (
+      rw (s .pre .1 .0) (fits (s .args .s) (s .args .book .now) l attendCells),
+      (
+        rw (s .pre .1 .0) (s .pre .1 .1 .0),
+        rw (s .pre .1 .0) (run-order (s .args .s) Sessions _ _ _ _ p (omega arith), p .ends .most, omega (arith, all-sessions (s .args .s) (l .ranges))),
+      ),
+    )
+
+returns-3 : tie.Need-returns-3
+returns-3 c =
+    let s = c .before .before .before .before .before .before .before .before in
+    let a = s .args in
+    let e = rw (s .pre .1 .0) at (c .before .column-count .ensures) in
+    let k = seated-le (a .s) (a .book .now) (s .pre .0) (a .visitor) (a .date) (a .date) (s .pre .1 .1 .0) (omega arith) (s .pre .1 .1 .1) _ _ (c .before .before .slots-on .ensures) in
+    sym (ap not (ne-eqb (bookings (stateOf (a .book .now)) (a .visitor) (a .date) (a .date)) 0 (λ z. c .if3 .taken (omega (arith, e, k, z)))))
+
+slots-on-requires-2 : tie.Need-slots-on-requires-2
+slots-on-requires-2 c κs =
+    let s = c .before .before .before .before .before .before .before .before in
+    let l = good-laid (s .pre .0) in
+    (l .ranges, (rw (s .pre .1 .0) refl, (omega arith, omega (arith, l .ranges .dates, s .pre .1 .1 .1))))
+
+add-rows-count-3 : tie.Need-add-rows-count-3
+add-rows-count-3 c =
+    let p = c .before .before .before .before .before .before .before .before .before .pre in
+    omega (arith, good-laid (p .0) .ranges .visitors, p .1 .1 .0)
+
+rows-count-requires-2 : tie.Need-rows-count-requires-2
+rows-count-requires-2 c κs =
+    let s = c .before .before .before .before .before .before .before .before .before in
+    let l = good-laid (s .pre .0) in
+    let t = c .slots-on2 .ensures in (
+      rw (s .pre .1 .0) (fits (s .args .s) (s .args .book .now) l rideCells),
+      (rw (s .pre .1 .0) (refl, l .ranges .transports .0), rw (s .pre .1 .0) (run-order (s .args .s) Times _ _ _ _ t (omega arith), t .ends .most)),
+    )
+
+returns-4 : tie.Need-returns-4
+returns-4 c =
+    let s = c .before .before .before .before .before .before .before .before .before .before in
+    let a = s .args in
+    let e1 = rw (s .pre .1 .0) at (c .before .before .before .before .before .before .rows-count .ensures) in
+    let e2 = rw (s .pre .1 .0) at (c .rows-count2 .ensures) in
+    let e3 = rw (s .pre .1 .0) at (c .before .before .before .column-count .ensures) in
+    let k = bookings-is (a .s) (a .book .now) (s .pre .0) (a .visitor) (a .date) (a .date) (s .pre .1 .1 .0) (omega arith) (s .pre .1 .1 .1) _ _ _ _ (c .before .slots-on2 .ensures) (c .before .before .before .before .slots-on .ensures) in
+    let e : c .rows-count2 .result ≡ bookings (stateOf (a .book .now)) (a .visitor) (a .date) (a .date)
+    = omega (arith, e1, e2, e3, k, c .before .before .before .before .before .if2 .left, c .before .before .if3 .left) in
+    ap (λ (n : ℕ). not (eqb n 0)) e
+
+pub has-bookings-spec : {M : Type 1} → statement M
+has-bookings-spec =
+    tie.close
+    (tie.spec
+    on-leave-requires
+    returns
+    add-rows-count
+    add-rows-count-2
+    rows-count-requires
+    returns-2
+    slots-on-requires
+    column-count-requires
+    returns-3
+    slots-on-requires-2
+    add-rows-count-3
+    rows-count-requires-2
+    returns-4)
