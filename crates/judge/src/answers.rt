@@ -287,8 +287,8 @@ fn of_visitor(book: &[u32], s: Settings, g: Grids, r: Request) -> Answer
             add_stay(book, s, leave, set, Slot::Dates, r.a, r.b, r.first, r.last)
         }
         5 => {
-            let cells = g.hotel;
-            erase(book, cells, r.a, r.b + 1, r.first, r.last)
+            let hotel = g.hotel;
+            erase(book, hotel, r.a, r.b + 1, r.first, r.last)
         }
         6 => {
             let leave = g.leave;
@@ -296,8 +296,8 @@ fn of_visitor(book: &[u32], s: Settings, g: Grids, r: Request) -> Answer
             add_stay(book, s, leave, set, Slot::Times, r.a, r.b, r.first, r.last)
         }
         _ => {
-            let cells = g.ride;
-            erase(book, cells, r.a, r.b + 1, r.first, r.last)
+            let ride = g.ride;
+            erase(book, ride, r.a, r.b + 1, r.first, r.last)
         }
     }
 }
