@@ -43,8 +43,8 @@ pub row-at : (w p : ℕ) (cells : List ℕ) (x : ℕ) → x < w → getD (rowAt 
 row-at w p cells x h = part-at cells w (p * w) x h
 
 -- the place of a word: slot d * per + p, item j of n, word k of w
-place : (d per p n j w k : ℕ) → ((d * per + p) * n + j) * w + k ≡ d * (per * (n * w)) + (p * (n * w) + (j * w + k))
-place d per p n j w k =
+pub place-of : (d per p n j w k : ℕ) → ((d * per + p) * n + j) * w + k ≡ d * (per * (n * w)) + (p * (n * w) + (j * w + k))
+place-of d per p n j w k =
     let e : ((d * per + p) * n + j) * w ≡ (d * per + p) * n * w + j * w = add-mul ((d * per + p) * n) j w in
     let f : (d * per + p) * n * w ≡ (d * per + p) * (n * w) = mul-assoc (d * per + p) n w in
     let g : (d * per + p) * (n * w) ≡ d * per * (n * w) + p * (n * w) = add-mul (d * per) p (n * w) in
@@ -59,7 +59,7 @@ module _ (S : Settings) (b : List ℕ) where
   unfolding address
   at-is g d p j k e h =
       let q : base S g + (((d * perOf S g + p) * items S g + j) * width g + k) ≡ base S g + d * shareOf S g + (p * (items S g * width g) + (j * width g + k))
-      = omega (arith, place d (perOf S g) p (items S g) j (width g) k, ap (λ (x : ℕ). d * x) e) in
+      = omega (arith, place-of d (perOf S g) p (items S g) j (width g) k, ap (λ (x : ℕ). d * x) e) in
       ap (λ (x : ℕ). getD b x 0) q ∙ sym (part-at b (shareOf S g) (base S g + d * shareOf S g) (p * (items S g * width g) + (j * width g + k)) h)
 
   pub leave-at : (d j : ℕ) → j < groups (S .visitors) → at S b leaves d j 0 ≡ getD (dateAt S b leaves d) j 0

@@ -4,22 +4,24 @@ use Prim.Native.Nat.{ℕ, suc, _+_, _*_, _/_, _%_, _≤_, _<_}
 use mathlib.Core.Path.{_≡_, refl, sym, _∙_, ap}
 use mathlib.Core.Bool.{Bool, true, false}
 use mathlib.Core.List.{List}
-use native.Mathlib.Nat.{div-lt-iff-lt-mul, mod-lt, div-add-mod'}
+use native.Mathlib.Nat.{div-lt-iff-lt-mul, le-div-iff-mul-le, mod-lt, div-add-mod', mul-one}
 use native.Mathlib.Omega.{arith}
 use lib.Dec.{leb, ltb}
 use lib.ListN.{length, getD, take, drop, length-drop}
 use lib.Seq.{length-take-le}
 use borrow.Author.Tests.{ltb-true, ltb-false, le-leb, eqb-true, eq-eqb}
 use Rattle.model.specs.declared.Settings.{Settings}
-use Rattle.model.specs.Words.{base, bookLength, Region, leaves, slots, items, hotelCells, standings, attendCells, confPairs, lunchTriples, rideCells}
+use Rattle.model.specs.Words.{base, bookLength, Region, leaves, slots, items, width, groups, hotelCells, standings, attendCells, confPairs, lunchTriples, rideCells}
 use Rattle.model.specs.Reading.{at, inside, bitAt, holds}
 use Rattle.model.specs.Laws.{cellsWithin}
 use Rattle.model.proofs.Search.{and-left, and-right, and-true, true-all}
 use Rattle.model.proofs.ReadBack.{inside-by, inside-is}
-use Rattle.book.proofs.Regions.{end-le}
-use Rattle.checking.proofs.Addresses.{size-is}
+use Rattle.book.proofs.Regions.{end-le, fits as grid-fits}
+use Rattle.checking.proofs.Addresses.{perOf, size-is, place-of}
+use Rattle.book.specs.declared.grid.Grid.{Grid}
 use Rattle.book.specs.declared.grid.Grids.{Grids}
-use Rattle.book.specs.Grids.{gridsOf}
+use Rattle.book.specs.Grids.{Fits, place, gridOf, gridsOf}
+use Rattle.book.specs.Ranges.{Ranges}
 use Rattle.checking.specs.declared.dates.Shares.{Shares}
 use Rattle.checking.specs.Rows.{rowAt, Part}
 use Rattle.pool.specs.Pool.{member}
@@ -120,15 +122,28 @@ module _ (S : Settings) (b : List ℕ) where
         length-take-le (shareOf S g) (drop (base S g + d * shareOf S g) b)
         (omega (arith, length-drop (base S g + d * shareOf S g) b, row-inside d (S .dates) (shareOf S g) h, fits g))
 
--- the part of a region that the code takes for date d
-abbrev startIn : Grids → Region → ℕ
-startIn g leaves = g .leave .base
-startIn g hotelCells = g .hotel .base
-startIn g standings = g .standing .base
-startIn g attendCells = g .attend .base
-startIn g confPairs = g .conf .base
-startIn g lunchTriples = g .lunch .base
-startIn g rideCells = g .ride .base
+-- where the slots of a date begin, if each date has k of them
+cut-at : (k n d r : ℕ) → 0 < k → d * k ≤ n → ((i : ℕ) → i < r → i / k < d) → ((i : ℕ) → r ≤ i → i < n → d ≤ i / k) → r ≡ d * k
+cut-at k n d r p h before after = go (ltb r (d * k)) refl (ltb (d * k) r) refl
+  where
+    go : (x : Bool) → ltb r (d * k) ≡ x → (y : Bool) → ltb (d * k) r ≡ y → r ≡ d * k
+    go true e y f =
+        let l : r < d * k = ltb-true r (d * k) e in
+        absurd (omega (arith, l, le-div-iff-mul-le {k = k} p .0 (after r (omega arith) (omega (arith, l, h)))))
+    go false e true f =
+        let m : d ≤ d * k / k = le-div-iff-mul-le {k = k} p .1 (omega arith) in
+        absurd (omega (arith, m, before (d * k) (ltb-true (d * k) r f)))
+    go false e false f = omega (arith, ltb-false r (d * k) e, ltb-false (d * k) r f)
+
+-- the grid of a region, the words of a date in it, and the slot that a date begins with
+abbrev gridIn : Grids → Region → Grid
+gridIn g leaves = g .leave
+gridIn g hotelCells = g .hotel
+gridIn g standings = g .standing
+gridIn g attendCells = g .attend
+gridIn g confPairs = g .conf
+gridIn g lunchTriples = g .lunch
+gridIn g rideCells = g .ride
 
 abbrev shareIn : Shares → Region → ℕ
 shareIn h leaves = h .leave
@@ -139,14 +154,23 @@ shareIn h confPairs = h .conf
 shareIn h lunchTriples = h .lunch
 shareIn h rideCells = h .ride
 
-start-is : (S : Settings) (g : Region) → startIn (gridsOf S) g ≡ base S g
-start-is S leaves = refl
-start-is S hotelCells = refl
-start-is S standings = refl
-start-is S attendCells = refl
-start-is S confPairs = refl
-start-is S lunchTriples = refl
-start-is S rideCells = refl
+abbrev firstIn : ℕ → ℕ → ℕ → Region → ℕ
+firstIn d s t leaves = d
+firstIn d s t hotelCells = d
+firstIn d s t standings = s
+firstIn d s t attendCells = s
+firstIn d s t confPairs = s
+firstIn d s t lunchTriples = d
+firstIn d s t rideCells = t
+
+grid-is : (S : Settings) (g : Region) → gridIn (gridsOf S) g ≡ gridOf S g
+grid-is S leaves = refl
+grid-is S hotelCells = refl
+grid-is S standings = refl
+grid-is S attendCells = refl
+grid-is S confPairs = refl
+grid-is S lunchTriples = refl
+grid-is S rideCells = refl
 
 share-is : (S : Settings) (g : Region) → shareIn (sharesOf S) g ≡ shareOf S g
 share-is S leaves = refl
@@ -157,19 +181,73 @@ share-is S confPairs = refl
 share-is S lunchTriples = refl
 share-is S rideCells = refl
 
-module _ {S : Settings} {b : List ℕ} {G : Grids} {H : Shares} {d : ℕ} (p : At S b G H d) (g : Region) where
-  start : startIn G g ≡ base S g
-  start = ap (λ (G : Grids). startIn G g) (p .starts) ∙ start-is S g
+share-per : (S : Settings) (g : Region) → shareOf S g ≡ perOf S g * (items S g * width g)
+share-per S leaves = omega arith
+share-per S hotelCells = omega arith
+share-per S standings = ap (λ (n : ℕ). S .sessions * n) (sym (mul-one (groups (S .meetings))))
+share-per S attendCells = ap (λ (n : ℕ). S .sessions * n) (sym (mul-one (S .visitors)))
+share-per S confPairs = refl
+share-per S lunchTriples = omega arith
+share-per S rideCells = ap (λ (n : ℕ). S .times * n) (sym (mul-one (S .transports)))
+
+some-item : (S : Settings) → Ranges S → (g : Region) → 0 < items S g
+some-item S r leaves = omega (arith, r .visitors)
+some-item S r hotelCells = r .hotels .0
+some-item S r standings = omega (arith, r .meetings)
+some-item S r attendCells = r .visitors .0
+some-item S r confPairs = r .rooms .0
+some-item S r lunchTriples = r .meetings .0
+some-item S r rideCells = r .transports .0
+
+module _ {S : Settings} {b : List ℕ} {G : Grids} {H : Shares} {d s t : ℕ} (p : At S b G H d s t) (g : Region) where
+  grid : gridIn G g ≡ gridOf S g
+  grid = ap (λ (G : Grids). gridIn G g) (p .starts) ∙ grid-is S g
 
   share : shareIn H g ≡ shareOf S g
   share = ap (λ (H : Shares). shareIn H g) (p .sizes) ∙ share-is S g
 
-  pub part-fits : (d < S .dates) × (startIn G g + S .dates * shareIn H g ≤ length b)
-  part-fits = (p .date, rw (start, share) (fits S b (p .laid .long) g))
+  session-is : s ≡ d * S .sessions
+  session-is =
+      cut-at (S .sessions) (S .dates * S .sessions) d s (p .laid .ranges .sessions .0) (omega (arith, row-inside d (S .dates) (S .sessions) (p .date)))
+      (p .sessions .before) (p .sessions .after)
 
-  pub part-date : {r : List ℕ} → Part r (shareIn H g) (take (shareIn H g) (drop (startIn G g + d * shareIn H g) b))
+  time-is : t ≡ d * S .times
+  time-is =
+      cut-at (S .times) (S .dates * S .times) d t (p .laid .ranges .times .0) (omega (arith, row-inside d (S .dates) (S .times) (p .date)))
+      (p .times .before) (p .times .after)
+
+  first-is : (g : Region) → firstIn d s t g ≡ d * perOf S g
+  first-is leaves = sym (mul-one d)
+  first-is hotelCells = sym (mul-one d)
+  first-is standings = session-is
+  first-is attendCells = session-is
+  first-is confPairs = session-is
+  first-is lunchTriples = sym (mul-one d)
+  first-is rideCells = time-is
+
+  -- it is a slot of the region
+  first-in : (g : Region) → firstIn d s t g < slots S g
+  first-in leaves = p .date
+  first-in hotelCells = p .date
+  first-in standings = omega (arith, session-is, row-inside d (S .dates) (S .sessions) (p .date), p .laid .ranges .sessions)
+  first-in attendCells = omega (arith, session-is, row-inside d (S .dates) (S .sessions) (p .date), p .laid .ranges .sessions)
+  first-in confPairs = omega (arith, session-is, row-inside d (S .dates) (S .sessions) (p .date), p .laid .ranges .sessions)
+  first-in lunchTriples = p .date
+  first-in rideCells = omega (arith, time-is, row-inside d (S .dates) (S .times) (p .date), p .laid .ranges .times)
+
+  begin : place (gridOf S g) (firstIn d s t g) 0 0 ≡ base S g + d * shareOf S g
+  begin =
+      ap (λ (i : ℕ). place (gridOf S g) i 0 0) (first-is g)
+      ∙ omega (arith, place-of d (perOf S g) 0 (items S g) 0 (width g) 0, ap (λ (x : ℕ). d * x) (share-per S g))
+
+  pub part-fits : Fits (gridIn G g) (length b) × ((firstIn d s t g < gridIn G g .slots) × ((0 < gridIn G g .items) × (place (gridIn G g) (firstIn d s t g) 0 0 + shareIn H g ≤ length b)))
+  part-fits =
+      rw (grid, share)
+      (grid-fits S b (p .laid) g, (first-in g, (some-item S (p .laid .ranges) g, omega (arith, begin, row-inside d (S .dates) (shareOf S g) (p .date), fits S b (p .laid .long) g))))
+
+  pub part-date : {r : List ℕ} → Part r (shareIn H g) (take (shareIn H g) (drop (place (gridIn G g) (firstIn d s t g) 0 0) b))
       → Part r (shareOf S g) (dateAt S b g d)
-  part-date {r} q = rw (start, share) at q
+  part-date {r} q = rw begin at (rw (grid, share) at q)
 
 pub row-long-is : (w p n : ℕ) (cells : List ℕ) → p < n → n * w ≤ length cells → length (rowAt w p cells) ≡ w
 row-long-is w p n cells h l = length-take-le w (drop (p * w) cells) (omega (arith, length-drop (p * w) cells, row-inside p n w h))

@@ -9,6 +9,8 @@ use Rattle.model.specs.declared.Settings.{Settings}
 use Rattle.model.specs.Bounded.{any, sum, bit}
 use Rattle.model.specs.Words.{groups, base, Region, leaves, hotelCells, standings, attendCells, confPairs, lunchTriples, rideCells}
 use Rattle.book.specs.declared.grid.Grids.{Grids}
+use Rattle.book.specs.declared.units.Slot.the-variants.{Sessions, Times}
+use Rattle.book.specs.Units.{Cut}
 use Rattle.book.specs.Grids.{Laid, gridsOf}
 use Rattle.checking.specs.declared.dates.Shares.{Shares}
 use Rattle.checking.specs.Rows.{Blank, Padded, rowAt, seatsIn}
@@ -99,12 +101,14 @@ sharesOf S =
       ride = shareOf S rideCells;
     }
 
--- where the code finds date d of a well-laid book
-pub record At (S : Settings) (b : List ℕ) (grids : Grids) (shares : Shares) (d : ℕ) : Type 0 where
+-- where the code finds date d of a well-laid book: by the first session and the first time on it
+pub record At (S : Settings) (b : List ℕ) (grids : Grids) (shares : Shares) (d session time : ℕ) : Type 0 where
   pub laid : Laid S b
   pub starts : grids ≡ gridsOf S
   pub sizes : shares ≡ sharesOf S
   pub date : d < S .dates
+  pub sessions : Cut S Sessions d session
+  pub times : Cut S Times d time
 
 -- date d of a region of a book
 abbrev pub dateAt : Settings → List ℕ → Region → ℕ → List ℕ

@@ -1,7 +1,11 @@
 // One date of a book: its part of each region is a slice, so that nothing below a date speaks of an address.
 use crate::rows;
 use crate::tables;
+use book::grid::Grid;
 use book::grid::Grids;
+use book::grid::at;
+use book::units::Slot;
+use book::units::next_on;
 use model::Settings;
 ghost use mathlib.Core.Path.{_≡_};
 ghost use Prim.Native.Nat.{ℕ, _+_, _*_, _≤_, _<_};
@@ -9,7 +13,7 @@ ghost use mathlib.Core.Bool.{true};
 ghost use lib.ListN.{length, getD, take, drop};
 ghost use Rattle.model.specs.Words.{groups};
 ghost use Rattle.book.specs.Ranges.{Ranges};
-ghost use Rattle.book.specs.Grids.{gridsOf, Laid};
+ghost use Rattle.book.specs.Grids.{Fits, place, gridsOf, Laid};
 ghost use Rattle.checking.specs.Rows.{Decides, Blanks, Padded, Session, rowAt, Part};
 ghost use Rattle.checking.specs.Days.{Day, Long, Empty, Caps, At, DayAt, sharesOf};
 
@@ -40,14 +44,17 @@ pub fn shares_of(s: Settings) -> Shares
     }
 }
 
-// The words of date i in a region that begins at `base`, with `width` words a date.
-fn part_of(book: &[u32], base: usize, i: usize, width: usize, dates: usize) -> &[u32]
-    requires { ⌜ (i < dates) × (base + dates * width ≤ length (now book)) ⌝ }
-    ensures { λ r. ⌜ Part (now r) width (take width (drop (base + i * width) (now (book .entry)))) ⌝ }
+// The words of a date in a region, from the date's first slot on.
+fn part_of(book: &[u32], g: Grid, first: u32, words: usize) -> &[u32]
+    requires { ⌜ Fits g (length (now book)) ⌝ }
+    requires { ⌜ first < g .slots ⌝ }
+    requires { ⌜ 0 < g .items ⌝ }
+    requires { ⌜ place g first 0 0 + words ≤ length (now book) ⌝ }
+    ensures { λ r. ⌜ Part (now r) words (take words (drop (place g first 0 0) (now (book .entry)))) ⌝ }
 {
-    let at = base + i * width;
-    let end = at + width;
-    &book[at..end]
+    let start = at(g, first, 0);
+    let end = start + words;
+    &book[start..end]
 }
 
 // Are both rows all zeros?
@@ -217,45 +224,52 @@ fn date(
     entries(leave, hotel, stand, attend, conf, lunch, ride, s, caps)
 }
 
-// Date d of a well-laid book.
+// Date d of a well-laid book, by its first session and its first time.
 fn date_at(
     book: &[u32],
     s: Settings,
     grids: Grids,
     shares: Shares,
     caps: &[u32; 17],
-    d: usize,
+    d: u32,
+    session: u32,
+    time: u32,
 ) -> bool
-    requires { ⌜ At s (now book) grids shares d ⌝ }
+    requires { ⌜ At s (now book) grids shares d session time ⌝ }
     requires { ⌜ Caps s (now caps) ⌝ }
     ensures { λ r. ⌜ Decides r (DayAt s (now (caps .entry)) (now (book .entry)) d) ⌝ }
 {
-    let days = s.dates as usize;
-    let leave = part_of(book, grids.leave.base, d, shares.leave, days);
-    let hotel = part_of(book, grids.hotel.base, d, shares.hotel, days);
-    let stand = part_of(book, grids.standing.base, d, shares.stand, days);
-    let attend = part_of(book, grids.attend.base, d, shares.attend, days);
-    let conf = part_of(book, grids.conf.base, d, shares.conf, days);
-    let lunch = part_of(book, grids.lunch.base, d, shares.lunch, days);
-    let ride = part_of(book, grids.ride.base, d, shares.ride, days);
+    let leave = part_of(book, grids.leave, d, shares.leave);
+    let hotel = part_of(book, grids.hotel, d, shares.hotel);
+    let stand = part_of(book, grids.standing, session, shares.stand);
+    let attend = part_of(book, grids.attend, session, shares.attend);
+    let conf = part_of(book, grids.conf, session, shares.conf);
+    let lunch = part_of(book, grids.lunch, d, shares.lunch);
+    let ride = part_of(book, grids.ride, time, shares.ride);
     date(leave, hotel, stand, attend, conf, lunch, ride, s, caps)
 }
 
-// Each date of a well-laid book.
+// Each date of a well-laid book. Where the sessions and the times of the next date begin is asked of the date-of functions.
 pub fn dates(book: &[u32], s: Settings, grids: Grids, caps: &[u32; 17]) -> bool
     requires { ⌜ Laid s (now book) ⌝ }
     requires { ⌜ grids ≡ gridsOf s ⌝ }
     requires { ⌜ Caps s (now caps) ⌝ }
     ensures { λ r. ⌜ Decides r ((d : ℕ) → d < s .dates → DayAt s (now (caps .entry)) (now (book .entry)) d) ⌝ }
 {
-    let days = s.dates as usize;
+    let days = s.dates;
     let shares = shares_of(s);
-    let mut d: usize = 0;
+    let sessions = grids.standing.slots;
+    let times = grids.ride.slots;
+    let mut d: u32 = 0;
+    let mut session: u32 = 0;
+    let mut time: u32 = 0;
     while d < days {
-        if !date_at(book, s, grids, shares, caps, d) {
+        if !date_at(book, s, grids, shares, caps, d, session, time) {
             return false;
         }
         d += 1;
+        session = next_on(s, Slot::Sessions, session, sessions, d);
+        time = next_on(s, Slot::Times, time, times, d);
     }
     true
 }

@@ -6,29 +6,26 @@ use borrow.Author.Needs.{needs}
 use Rattle.checking.proofs.dates.date_at.Statement.{statement}
 use Rattle.checking.proofs.dates.date_at.Tie as tie
 
-cast-days : tie.Need-cast-days
-cast-days c = search needs
-
 part-of-requires : tie.Need-part-of-requires
-part-of-requires c κs = part-fits (c .before .before .pre .0) leaves
+part-of-requires c κs = part-fits (c .before .pre .0) leaves
 
 part-of-requires-2 : tie.Need-part-of-requires-2
-part-of-requires-2 c κs = part-fits (c .before .before .before .pre .0) hotelCells
+part-of-requires-2 c κs = part-fits (c .before .before .pre .0) hotelCells
 
 part-of-requires-3 : tie.Need-part-of-requires-3
-part-of-requires-3 c κs = part-fits (c .before .before .before .before .pre .0) standings
+part-of-requires-3 c κs = part-fits (c .before .before .before .pre .0) standings
 
 part-of-requires-4 : tie.Need-part-of-requires-4
-part-of-requires-4 c κs = part-fits (c .before .before .before .before .before .pre .0) attendCells
+part-of-requires-4 c κs = part-fits (c .before .before .before .before .pre .0) attendCells
 
 part-of-requires-5 : tie.Need-part-of-requires-5
-part-of-requires-5 c κs = part-fits (c .before .before .before .before .before .before .pre .0) confPairs
+part-of-requires-5 c κs = part-fits (c .before .before .before .before .before .pre .0) confPairs
 
 part-of-requires-6 : tie.Need-part-of-requires-6
-part-of-requires-6 c κs = part-fits (c .before .before .before .before .before .before .before .pre .0) lunchTriples
+part-of-requires-6 c κs = part-fits (c .before .before .before .before .before .before .pre .0) lunchTriples
 
 part-of-requires-7 : tie.Need-part-of-requires-7
-part-of-requires-7 c κs = part-fits (c .before .before .before .before .before .before .before .before .pre .0) rideCells
+part-of-requires-7 c κs = part-fits (c .before .before .before .before .before .before .before .pre .0) rideCells
 
 date-requires : tie.Need-date-requires
 date-requires c κs =
@@ -38,7 +35,7 @@ date-requires c κs =
     let c3 = c4 .before in
     let c2 = c3 .before in
     let c1 = c2 .before in
-    let z = c1 .before .before .before in
+    let z = c1 .before .before in
     let leave = part-date (z .pre .0) leaves (c1 .part-of .ensures) in
     let hotel = part-date (z .pre .0) hotelCells (c2 .part-of2 .ensures) in
     let stand = part-date (z .pre .0) standings (c3 .part-of3 .ensures) in
@@ -70,7 +67,7 @@ returns c =
     let c3 = c4 .before in
     let c2 = c3 .before in
     let c1 = c2 .before in
-    let z = c1 .before .before .before in
+    let z = c1 .before .before in
     let leave = part-date (z .pre .0) leaves (c1 .part-of .ensures) in
     let hotel = part-date (z .pre .0) hotelCells (c2 .part-of2 .ensures) in
     let stand = part-date (z .pre .0) standings (c3 .part-of3 .ensures) in
@@ -84,7 +81,6 @@ pub date-at-spec : {M : Type 1} → statement M
 date-at-spec =
     tie.close
     (tie.spec
-    cast-days
     part-of-requires
     part-of-requires-2
     part-of-requires-3

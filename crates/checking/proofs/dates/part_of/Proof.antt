@@ -1,24 +1,26 @@
--- `dates::part_of` meets its contract.
+-- `dates::part_of` meets its contract: the words lie behind the first cell of the slot.
 -- Assumes nothing.
-use Rattle.checking.proofs.Parts.{part-by}
 use native.Mathlib.Omega.{arith}
-use Prim.Native.Nat.{_+_, _*_}
-use Rattle.checking.proofs.Parts.{row-inside}
 use borrow.Author.Needs.{needs}
+use mathlib.Core.Path.{_≡_}
+use mathlib.Core.List.{List}
+use Prim.Native.Nat.{ℕ, _+_, _-_, _≤_}
+use lib.ListN.{length, take, drop}
+use Rattle.checking.specs.Rows.{Part}
+use Rattle.checking.proofs.Parts.{part-by}
 use Rattle.checking.proofs.dates.part_of.Statement.{statement}
 use Rattle.checking.proofs.dates.part_of.Tie as tie
 
-mul-at : tie.Need-mul-at
-mul-at c = omega (arith, row-inside (c .args .i) (c .args .dates) (c .args .width) (c .pre .0), c .good)
-
-add-at : tie.Need-add-at
-add-at c = omega (arith, row-inside (c .args .i) (c .args .dates) (c .args .width) (c .pre .0), c .good)
+at-requires : tie.Need-at-requires
+at-requires c κs =
+    let p = c .before .pre in
+    (record { ends = omega (arith, p .0 .ends, p .0 .small); small = omega arith; wide = p .0 .wide }, (p .1 .0, p .1 .1 .0))
 
 add-end : tie.Need-add-end
-add-end c = omega (arith, row-inside (c .args .i) (c .args .dates) (c .args .width) (c .pre .0), c .good)
+add-end c = let p = c .before .before .pre in omega (arith, c .at .ensures .at, p .1 .1 .1, p .0 .small)
 
 mul-result : tie.Need-mul-result
-mul-result c = omega (arith, row-inside (c .args .i) (c .args .dates) (c .args .width) (c .pre .0), c .good)
+mul-result c = let p = c .before .before .pre in omega (arith, c .at .ensures .at, p .1 .1 .1, p .0 .small)
 
 sub-result : tie.Need-sub-result
 sub-result c = search needs
@@ -27,19 +29,22 @@ part-result-start : tie.Need-part-result-start
 part-result-start c = search needs
 
 part-result-end : tie.Need-part-result-end
-part-result-end c = omega (arith, row-inside (c .args .i) (c .args .dates) (c .args .width) (c .pre .0))
+part-result-end c = let p = c .before .before .pre in omega (arith, c .at .ensures .at, p .1 .1 .1)
+
+-- from the place that the index function gave
+from-place : (b : List ℕ) (r q n : ℕ) → r ≡ q → q + n ≤ length b → Part (take (r + n - r) (drop r b)) n (take n (drop q b))
+from-place b r q n e h = rw e (part-by b q n h)
 
 returns : tie.Need-returns
 returns c =
-    let a = c .before .args in
-    part-by (a .book .now) (a .base + a .i * a .width) (a .width) (omega (arith, row-inside (a .i) (a .dates) (a .width) (c .before .pre .0)))
+    let s = c .before .before .before in
+    from-place (s .args .book .now) (c .before .at .result) _ (s .args .words) (c .before .at .ensures .at) (s .pre .1 .1 .1)
 
 pub part-of-spec : {M : Type 1} → statement M
 part-of-spec =
     tie.close
     (tie.spec
-    mul-at
-    add-at
+    at-requires
     add-end
     mul-result
     sub-result
