@@ -1,7 +1,7 @@
 -- Three words written into a list, and the requests of a list of words one after the other.
 -- Assumes nothing.
-use Prim.Native.Nat.{ℕ, zero, suc, _+_, _*_, _-_, _≤_, _<_}
-use mathlib.Core.Path.{_≡_, refl, sym, _∙_, ap, ap₂, subst}
+use Prim.Native.Nat.{ℕ, suc, _+_, _*_, _-_, _≤_, _<_}
+use mathlib.Core.Path.{_≡_, refl, sym, _∙_, ap, ap₂}
 use mathlib.Core.List.{List, [], _∷_, _++_, append-assoc, append-nil}
 use native.Mathlib.Omega.{arith}
 use lib.ListN.{length, set, take, drop, length-append, length-take, length-drop, take-append-drop}
@@ -11,7 +11,6 @@ use Rattle.model.specs.declared.Request.{Request}
 use Rattle.model.specs.declared.Answer.{Answer}
 use Rattle.model.specs.declared.Answer.the-variants.{Done, Refused}
 use Rattle.model.specs.Machine.{step, Call, request, requestOf, answerWords}
-use Rattle.model.specs.Words.{words}
 use Rattle.model.specs.Reading.{stateOf}
 use Rattle.model.specs.Calls.{Calls, calls, requestsOf, answersWords}
 use Rattle.book.specs.Good.{Good}

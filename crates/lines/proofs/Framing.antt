@@ -1,26 +1,24 @@
 -- Frame lines, words of lines and answer lines.
 -- Assumes nothing.
-use Prim.Native.Nat.{ℕ, suc, _+_, _*_, _/_, _%_, _≤_, _<_}
+use Prim.Native.Nat.{ℕ, _+_, _*_, _/_, _<_}
 use native.Mathlib.Numerals.{add-one}
 use native.Mathlib.Omega.{arith}
 use mathlib.Core.Path.{_≡_, refl, sym, _∙_, ap, ap₂}
-use mathlib.Core.Bool.{Bool, true, false, _&&_, cond}
+use mathlib.Core.Bool.{Bool, true, false, _&&_}
 use mathlib.Core.List.{List, [], _∷_, _++_}
-use lib.Dec.{eqb}
-use lib.ListN.{length, take, drop, getD, set, length-set}
+use lib.ListN.{length, take, drop, getD, set}
 use lib.Seq.{take-suc, take-suc-set}
-use borrow.Author.Tests.{eqb-true, eq-eqb, ne-eqb}
+use borrow.Author.Tests.{eqb-true, ne-eqb}
 use Rattle.model.specs.declared.Request.{Request}
 use Rattle.model.specs.declared.Answer.{Answer}
 use Rattle.model.specs.declared.Answer.the-variants.{Done, Refused}
 use Rattle.model.specs.Machine.{answerWords, requestOf}
-use Rattle.model.specs.Lines.{isFrame, wordDigits, hexadecimal, lineWords, shown, wholeWords, answerLine}
+use Rattle.model.specs.Lines.{isFrame, wordDigits, hexadecimal, lineWords, shown, wholeWords}
 use Rattle.model.proofs.Search.{and-left, and-right}
 pub use Rattle.model.proofs.Search.{never as not-so}
 use Rattle.model.proofs.Places.{length-list, getD-list}
 use Rattle.lines.specs.Digits.{digitsOnly}
 use Rattle.lines.specs.Frame.{framed}
-use Rattle.lines.specs.declared.line.Framed.{Framed}
 use Rattle.lines.specs.declared.line.Framed.the-variants.{Frame, Other}
 
 -- the words of a line

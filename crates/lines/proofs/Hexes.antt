@@ -1,22 +1,22 @@
 -- Digits and words: what the code computes is what the paper's definitions say, and both ways round trip.
 -- Assumes nothing.
-use Prim.Native.Nat.{ℕ, zero, suc, _+_, _-_, _*_, _/_, _%_, _^_, _≤_, _<_}
+use Prim.Native.Nat.{ℕ, zero, suc, _+_, _-_, _*_, _/_, _%_, _≤_, _<_}
 use native.Mathlib.Nat.{add-zero, mod-eq-of-lt, eq-or-lt-of-le}
 use native.Mathlib.Numerals.{add-one}
 use native.Mathlib.Omega.{arith}
 use mathlib.Core.Path.{_≡_, refl, sym, _∙_, ap, ap₂}
-use mathlib.Core.Logic.{_⊎_, inl, inr, ⊎-elim}
+use mathlib.Core.Logic.{_⊎_, inl, inr}
 use mathlib.Core.Bool.{Bool, true, false, _&&_, _||_, cond}
-use mathlib.Core.Option.{Option, none, some}
+use mathlib.Core.Option.{none, some}
 use mathlib.Core.List.{List, [], _∷_, _++_}
 use lib.Dec.{leb}
 use lib.ListN.{length, take, drop, getD, set}
 use lib.Seq.{drop-cons, take-suc, getD-set-same, getD-set-other}
-use borrow.Author.Tests.{leb-true, le-leb, lt-leb}
-use Rattle.model.specs.Bounded.{isSome, found, every, within}
-use Rattle.model.specs.Lines.{digit, digitValue, shownFrom, shown}
+use borrow.Author.Tests.{leb-true}
+use Rattle.model.specs.Bounded.{isSome, found, within}
+use Rattle.model.specs.Lines.{shownFrom, shown}
 use Rattle.model.proofs.Search.{and-left, and-right, both}
-use Rattle.lines.specs.Digits.{isDigit, valueOf, digitsOnly, Values, halfOf, wordOf}
+use Rattle.lines.specs.Digits.{isDigit, valueOf, digitsOnly, Values, wordOf}
 
 -- one of two tests finds something
 pub some-of : (s t : Bool) (x y : ℕ) → s || t ≡ isSome (cond s (some x) (cond t (some y) none))

@@ -8,22 +8,22 @@ use mathlib.Core.List.{List, [], _++_, append-nil}
 use lib.Dec.{leb}
 use lib.ListN.{length, take, drop, length-append}
 use lib.Seq.{take-at, length-take-le}
-use borrow.Author.Tests.{le-leb, lt-leb, leb-true, eq-eqb}
+use borrow.Author.Tests.{le-leb, lt-leb, eq-eqb}
 use Rattle.model.specs.declared.Settings.{Settings}
 use Rattle.model.specs.declared.Answer.{Answer}
 use Rattle.model.specs.declared.Answer.the-variants as A
 use Rattle.model.specs.Site.{validSettings}
 use Rattle.model.specs.State.{State, emptyState}
-use Rattle.model.specs.Words.{bookLength, total, order}
+use Rattle.model.specs.Words.{bookLength}
 use Rattle.model.specs.Reading.{settingsOf, stateOf}
 use Rattle.model.specs.Calls.{Called, settingsGood, freshBook, laid, lay}
 use Rattle.model.specs.Lines.{wholeWords, lineWords, answerLine, programWords}
 use Rattle.model.proofs.Search.{never, and-right, both}
 use Rattle.model.proofs.Shows.{good-valid}
-use Rattle.book.specs.Good.{Good, answered}
+use Rattle.book.specs.Good.{answered}
 use Rattle.book.specs.Heads.{neededLength}
 use Rattle.lines.specs.Digits.{Put}
-use Rattle.lines.specs.Stream.{Turn, Point, later, over, silent, behind, opened}
+use Rattle.lines.specs.Stream.{later, over, silent, behind, opened}
 use Rattle.lines.specs.Laying.{layable, LaidOf, LaidBy}
 use Rattle.lines.specs.Post.{EndedOf}
 use Rattle.lines.specs.declared.lay.Laid.{Laid}

@@ -1,16 +1,15 @@
 -- What stands at the front of the input.
 -- Assumes nothing.
-use Prim.Native.Nat.{ℕ, zero, suc, _+_, _-_, _≤_, _<_}
+use Prim.Native.Nat.{ℕ, suc, _-_, _≤_, _<_}
 use native.Mathlib.Omega.{arith}
 use mathlib.Core.Path.{_≡_, refl, sym, _∙_, ap}
-use mathlib.Core.Bool.{Bool, true, false, _&&_}
-use mathlib.Core.List.{List, [], _∷_, _++_}
+use mathlib.Core.Bool.{true, false, _&&_}
+use mathlib.Core.List.{List, [], _∷_}
 use lib.Dec.{ltb, eqb}
-use lib.ListN.{length, take, drop, getD}
+use lib.ListN.{length, take, getD}
 use lib.Seq.{getD-take, length-take-le, take-length}
 use borrow.Author.Tests.{ltb-true, lt-ltb, le-ltb, eqb-true, eq-eqb, ne-eqb}
-use Rattle.model.specs.Bounded.{every, isSome}
-use Rattle.model.specs.Lines.{digitValue, isFrame, wholeWords}
+use Rattle.model.specs.Lines.{isFrame}
 use Rattle.model.proofs.Search.{and-left, and-right, both}
 use Rattle.lines.specs.Digits.{isDigit, digitsOnly, LineEnd}
 use Rattle.lines.specs.Frame.{frameAhead}

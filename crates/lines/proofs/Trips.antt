@@ -1,18 +1,18 @@
 -- Round trips: every word comes back from its eight digits, and every eight digits from their word.
 -- Assumes nothing.
-use Prim.Native.Nat.{ℕ, zero, suc, _+_, _-_, _*_, _/_, _%_, _^_, _≤_, _<_}
+use Prim.Native.Nat.{ℕ, zero, suc, _+_, _-_, _*_, _/_, _%_, _^_, _<_}
 use native.Mathlib.Nat.{pow-suc, pow-succ', mod-one, mod-eq-of-lt, one-le-pow, add-mul, mul-assoc, add-assoc, div-one, div-div-eq-div-mul}
 use native.Mathlib.Omega.{arith}
 use mathlib.Core.Path.{_≡_, refl, sym, _∙_, ap, ap₂}
 use mathlib.Core.Bool.{Bool, true, false, cond}
-use mathlib.Core.Option.{Option, none, some}
+use mathlib.Core.Option.{none, some}
 use mathlib.Core.List.{List, [], _∷_}
 use lib.Arith.{mod-mul}
 use lib.Dec.{leb}
 use lib.ListN.{length}
 use borrow.Author.Tests.{leb-true, leb-false, le-leb, lt-leb}
 use Rattle.model.specs.Bounded.{isSome, found, within}
-use Rattle.model.specs.Lines.{digit, digitValue, wordDigits, shownFrom, shown}
+use Rattle.model.specs.Lines.{digit, wordDigits, shownFrom, shown}
 use Rattle.model.proofs.Search.{and-left, and-right, both}
 use Rattle.lines.specs.Digits.{isDigit, valueOf, digitsOnly}
 use Rattle.lines.proofs.Hexes.{value-is, within-is, shown-none}

@@ -1,23 +1,21 @@
 -- Runs over the lines of a chunk.
 -- Assumes nothing.
-use Prim.Native.Nat.{ℕ, zero, suc, _+_, _-_, _*_, _≤_, _<_}
+use Prim.Native.Nat.{ℕ, suc, _+_, _-_, _*_, _≤_, _<_}
 use native.Mathlib.Numerals.{add-one}
 use native.Mathlib.Omega.{arith}
 use mathlib.Core.Path.{_≡_, refl, sym, _∙_, ap}
-use mathlib.Core.Bool.{Bool, true, false, cond}
 use mathlib.Core.List.{List, [], _∷_, _++_, append-assoc, append-nil}
-use lib.ListN.{length, take, drop, getD, length-drop, drop-of-length-le}
+use lib.ListN.{length, take, drop, length-drop, drop-of-length-le}
 use lib.Seq.{split-at, take-all, drop-drop}
 use Rattle.model.specs.declared.Settings.{Settings}
 use Rattle.model.specs.declared.Answer.{Answer}
 use Rattle.model.specs.declared.Answer.the-variants.{Done, Refused}
 use Rattle.model.specs.State.{State}
-use Rattle.model.specs.Machine.{Outcome}
 use Rattle.model.specs.Reading.{stateOf}
 use Rattle.model.specs.Calls.{Called, called}
 use Rattle.model.specs.Lines.{hexadecimal, answerLine, lineOutcome}
 use Rattle.book.specs.Good.{Good, answered}
-use Rattle.lines.specs.Stream.{kept, Point, opening, later, over, Turn, silent, behind, told, ended, longer, byte, run}
+use Rattle.lines.specs.Stream.{kept, Point, opening, later, over, Turn, silent, behind, ended, longer, byte, run}
 use Rattle.lines.specs.Digits.{Put}
 use Rattle.lines.specs.Post.{Free, Leads, TakenOf, Told}
 use Rattle.lines.specs.declared.stream.Taken.{Taken}

@@ -3,7 +3,7 @@
 use Prim.Native.Nat.{ℕ, _+_, _-_, _*_, _≤_, _<_}
 use mathlib.Core.Bool.{Bool, true, false, cond}
 use mathlib.Core.Path.{_≡_}
-use mathlib.Core.List.{List, [], _∷_, _++_}
+use mathlib.Core.List.{List, [], _∷_}
 use lib.ListN.{length, take, drop, getD}
 use Rattle.model.specs.declared.Settings.{Settings}
 use Rattle.model.specs.State.{State}
@@ -12,7 +12,7 @@ use Rattle.model.specs.Machine.{requestOf}
 use Rattle.model.specs.Calls.{called}
 use Rattle.model.specs.Lines.{isFrame, lineWords, lineOutcome}
 use Rattle.book.specs.Good.{Good, answered}
-use Rattle.lines.specs.Stream.{kept, Point, opening, later, over, Turn, behind, run}
+use Rattle.lines.specs.Stream.{Point, opening, later, over, Turn, behind, run}
 use Rattle.lines.specs.declared.line.Next.{Next}
 use Rattle.lines.specs.declared.line.Next.the-variants.{Frame, Other, Partial}
 use Rattle.lines.specs.declared.stream.Ended.{Ended}

@@ -1,10 +1,9 @@
 // Lower-case hexadecimal: digits and words both ways.
 ghost use mathlib.Core.Path.{_≡_};
 ghost use mathlib.Core.Bool.{true};
-ghost use mathlib.Core.List.{[], _∷_};
 ghost use Prim.Native.Nat.{_+_, _*_, _/_, _<_, _≤_};
 ghost use lib.ListN.{length, take, drop};
-ghost use Rattle.model.specs.Lines.{digit as digitByte, shown, wordDigits, lineWords};
+ghost use Rattle.model.specs.Lines.{digit as digitByte, shown, wordDigits};
 ghost use Rattle.lines.specs.Digits.{isDigit, valueOf, digitsOnly, Values, halfOf, wordOf, Put};
 
 // Whether a byte is one of the sixteen digits.

@@ -3,10 +3,9 @@ use crate::line::line_words;
 use crate::line::whole_words;
 use book::lay::lay;
 use book::settings::book_len;
-ghost use mathlib.Core.Path.{_≡_};
 ghost use Prim.Native.Nat.{_≤_};
 ghost use lib.ListN.{length};
-ghost use Rattle.lines.specs.Laying.{layable, LaidOf, LaidBy};
+ghost use Rattle.lines.specs.Laying.{LaidOf, LaidBy};
 
 // The most words of a book that the program holds.
 const PROGRAM_WORDS: usize = 16384;

@@ -2,7 +2,6 @@
 -- Assumes nothing.
 use Rattle.model.specs.Words.{leaves, hotelCells, standings, attendCells, confPairs, lunchTriples, rideCells}
 use Rattle.checking.proofs.Slots.{part-fits, part-date}
-use borrow.Author.Needs.{needs}
 use Rattle.checking.proofs.dates.date_at.Statement.{statement}
 use Rattle.checking.proofs.dates.date_at.Tie as tie
 

@@ -5,7 +5,6 @@ use mathlib.Core.Path.{refl}
 use native.Mathlib.Omega.{arith}
 use borrow.Author.Count.{below-none, below-more}
 use borrow.Author.Tests.{not-true, not-false}
-use borrow.Author.Needs.{needs}
 use Rattle.model.specs.declared.Settings.{Settings}
 use Rattle.book.specs.declared.units.Slot.{Slot}
 use Rattle.book.specs.declared.units.Slot.the-variants.{Sessions, Times}

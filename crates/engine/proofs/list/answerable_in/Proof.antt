@@ -3,7 +3,6 @@
 use Prim.Native.Nat.{_-_}
 use mathlib.Core.Logic.{⊎-elim}
 use native.Mathlib.Omega.{arith}
-use borrow.Author.Needs.{needs}
 use Rattle.engine.proofs.list.answerable_in.Statement.{statement}
 use Rattle.engine.proofs.list.answerable_in.Tie as tie
 

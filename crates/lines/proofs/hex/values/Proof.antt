@@ -1,8 +1,8 @@
 use Prim.Native.Nat.{ℕ, _≤_, _<_, _-_}
-use mathlib.Core.Path.{_≡_, refl, sym, _∙_, ap}
+use mathlib.Core.Path.{_≡_, refl}
 use native.Mathlib.Omega.{arith}
 use lib.ListN.{length, getD, length-set}
-use Rattle.lines.specs.Digits.{valueOf, Values}
+use Rattle.lines.specs.Digits.{valueOf}
 use Rattle.lines.proofs.Hexes.{value-is, digit-at, values-more}
 use borrow.Author.Needs.{needs}
 use Rattle.lines.proofs.hex.values.Statement.{statement}

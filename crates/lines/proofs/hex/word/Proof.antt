@@ -7,7 +7,7 @@ use Rattle.lines.proofs.Hexes.{value-is, digit-at, shown-more, shown-no
 use borrow.Author.Needs.{needs}
 use Prim.Native.Nat.{ℕ, _≤_, _<_, _^_, _+_, _-_, _*_}
 use mathlib.Core.Path.{_≡_, sym, _∙_, ap}
-use lib.ListN.{length, take, drop}
+use lib.ListN.{take, drop}
 use Rattle.model.specs.Lines.{shown, shownFrom}
 use Rattle.lines.proofs.hex.word.Statement.{statement}
 use Rattle.lines.proofs.hex.word.Tie as tie

@@ -1,7 +1,6 @@
 use Rattle.model.proofs.Search.{and-left}
-use mathlib.Core.Path.{_≡_, refl, sym, _∙_, ap}
+use mathlib.Core.Path.{sym, _∙_}
 use borrow.Author.Tests.{not-true, not-false}
-use native.Mathlib.Omega.{arith}
 use lib.Seq.{length-take-le}
 use Rattle.lines.proofs.Layings.{by-not-whole, by-long, by-words}
 use borrow.Author.Needs.{needs}

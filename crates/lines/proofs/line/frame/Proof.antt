@@ -1,6 +1,6 @@
 use mathlib.Core.Path.{sym, _∙_, ap}
 use borrow.Author.Tests.{not-true, not-false}
-use Rattle.lines.specs.declared.line.Framed.the-variants.{Frame, Other}
+use Rattle.lines.specs.declared.line.Framed.the-variants.{Frame}
 use Rattle.lines.proofs.Framing.{framed-long, framed-not, framed-yes, is-frame}
 use borrow.Author.Needs.{needs}
 use Rattle.lines.proofs.line.frame.Statement.{statement}

@@ -1,7 +1,7 @@
 use native.Mathlib.Omega.{arith}
 use lib.Seq.{take-all}
 use borrow.Author.Needs.{needs}
-use Prim.Native.Nat.{ℕ, _≤_, _<_, _-_, _+_, _/_}
+use Prim.Native.Nat.{ℕ, _≤_, _-_, _+_, _/_}
 use mathlib.Core.Path.{_≡_, refl, sym, _∙_, ap}
 use lib.ListN.{length, take, set}
 use Rattle.model.specs.Lines.{lineWords}

@@ -1,5 +1,4 @@
-use Prim.Native.Nat.{ℕ, _≤_}
-use mathlib.Core.Path.{_≡_, _∙_}
+use mathlib.Core.Path.{_∙_}
 use native.Mathlib.Omega.{arith}
 use Rattle.lines.proofs.Framing.{request-is}
 use Rattle.lines.proofs.Hexes.{word-values}

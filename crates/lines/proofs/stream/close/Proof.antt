@@ -4,7 +4,7 @@ use mathlib.Core.Bool.{true}
 use lib.ListN.{length, take}
 use Rattle.model.specs.Reading.{stateOf}
 use Rattle.lines.specs.Post.{heldOf, isLater}
-use mathlib.Core.Path.{_≡_, refl, sym, _∙_, ap}
+use mathlib.Core.Path.{_≡_, sym, _∙_}
 use mathlib.Core.Logic.{⊎-elim}
 use Rattle.lines.proofs.Streams.{held-some, ended-as, ended-closed, closed-silent}
 use borrow.Author.Needs.{needs}

@@ -1,4 +1,4 @@
-use mathlib.Core.Path.{_≡_, refl, sym, _∙_, ap}
+use mathlib.Core.Path.{sym}
 use borrow.Author.Tests.{not-true, not-false}
 use lib.Seq.{length-take-le}
 use Rattle.lines.proofs.Streams.{rest-over, rest-later}

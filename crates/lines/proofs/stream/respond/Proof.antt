@@ -1,4 +1,4 @@
-use mathlib.Core.Path.{_≡_, refl, sym, _∙_, ap}
+use mathlib.Core.Path.{sym}
 use lib.Seq.{length-take-le}
 use Rattle.lines.proofs.Streams.{responded}
 use borrow.Author.Needs.{needs}

@@ -1,6 +1,6 @@
 -- `bookings::has_bookings` meets its contract: none without leave; else a hotel room, a meeting or a ride is one, and there is no other.
 -- Assumes nothing.
-use Prim.Native.Nat.{ℕ, _+_}
+use Prim.Native.Nat.{ℕ}
 use mathlib.Core.Path.{_≡_, refl, sym, _∙_, ap}
 use mathlib.Core.Bool.{not}
 use native.Mathlib.Omega.{arith}
