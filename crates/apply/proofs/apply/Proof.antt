@@ -1,25 +1,22 @@
-use Prim.Native.Nat.{ℕ, _+_, _/_}
-use mathlib.Core.Path.{refl, sym, _∙_, ap, subst}
+-- `apply` meets its contract: the writes of each kind leave the words of the machine's state.
+-- Assumes nothing.
+use Prim.Native.Nat.{_+_, _/_}
+use mathlib.Core.Path.{refl, _∙_, ap}
 use mathlib.Core.Bool.{true, false}
-use mathlib.Core.List.{List}
 use native.Mathlib.Omega.{arith}
-use Rattle.model.specs.declared.Settings.{Settings}
 use Rattle.model.specs.Site.{dateOfSession}
 use Rattle.model.specs.Kinds.{kindOf}
-use Rattle.model.specs.Kinds.{Kind.addLeave, Kind.endLeave, Kind.removeVisitor, Kind.addHotel, Kind.eraseHotel, Kind.addRide, Kind.eraseRide}
+use Rattle.model.specs.Kinds.{Kind.addLeave, Kind.endLeave, Kind.addHotel, Kind.eraseHotel, Kind.addRide, Kind.eraseRide}
 use Rattle.model.specs.Kinds.{Kind.addStanding, Kind.endStanding, Kind.addAttend, Kind.eraseAttend, Kind.addConf, Kind.eraseConf}
 use Rattle.model.specs.Kinds.{Kind.addLunch, Kind.eraseLunch, Kind.eraseConfAndLunch}
 use Rattle.model.specs.Words.{leaves, hotelCells, standings, attendCells, confPairs, lunchTriples, rideCells}
-use Rattle.book.specs.declared.grid.Grids.{Grids}
-use Rattle.book.specs.declared.units.Slot.the-variants.{Sessions, Times}
 use Rattle.book.proofs.Regions.{group-lt}
 use Rattle.apply.specs.Stores.{full, empty, filled, swept, markedAll}
-use Rattle.book.specs.Units.{OnDates}
 use Rattle.apply.proofs.Columns.{write-addHotel, write-eraseHotel, write-addRide, write-eraseRide, write-addAttend, write-eraseAttend}
 use Rattle.apply.proofs.Columns.{write-addConf, write-addLunch, write-eraseLunch}
-use Rattle.apply.proofs.Erasures.{write-addLeave, write-endLeave, write-removeVisitor, write-addStanding, write-endStanding, write-eraseConf}
+use Rattle.apply.proofs.Erasures.{write-addLeave, write-endLeave, write-addStanding, write-endStanding, write-eraseConf}
 use Rattle.apply.proofs.Erasures.{write-eraseConfAndLunch}
-use Rattle.apply.proofs.Arms.{Known, laid, order-ok, slots-ok, a-ok, b-ok, span, item, arm, unchanged}
+use Rattle.apply.proofs.Arms.{Known, laid, a-ok, b-ok, span, item, arm, unchanged}
 use borrow.Author.Needs.{needs}
 use Rattle.apply.proofs.apply.Statement.{statement}
 use Rattle.apply.proofs.apply.Tie as tie
