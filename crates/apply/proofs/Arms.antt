@@ -129,6 +129,12 @@ module _ {S : Settings} {b : List ℕ} {G : Grids} {r : Request} {k : Kind} (w :
           subst (λ (l : List ℕ). Carries (settingsOf b) (stateOf b) l) (words-stateOf b (w .good .laid) (w .good .lawful))
           (carries-words (stateOf b) (seated (valid-is (settingsOf b) (valid-settings b (w .good .laid) (w .good .lawful)))))
 
+  -- a change that leaves the state as it is
+  pub same-book : change (stateOf b) r k ≡ stateOf b → b ≡ words (step (stateOf b) r .state)
+  same-book e =
+      sym (words-stateOf b (w .good .laid) (w .good .lawful))
+      ∙ ap words (sym (ap (λ (o : Outcome). o .state) (accepted-step (stateOf b) r k whole) ∙ e))
+
 -- the kinds by their numbers
 abbrev numberOf : Kind → ℕ
 numberOf addLeave = 1

@@ -6,6 +6,7 @@ pub mod sets;
 use book::grid::Grids;
 use model::Request;
 use model::Settings;
+use queries::bookings::some_leave;
 use sets::add;
 use sets::drop;
 use sets::end_standing;
@@ -22,6 +23,20 @@ ghost use Rattle.book.specs.Grids.{gridsOf};
 ghost use Rattle.book.specs.Good.{Good};
 ghost use Rattle.apply.specs.Accepted.{accepted};
 
+// Kind 3. A visitor without leave on the dates has no entry there: nothing is erased.
+fn remove(book: &mut [u32], s: Settings, g: Grids, r: Request)
+    requires { ⌜ Good s (now book) ⌝ }
+    requires { ⌜ g ≡ gridsOf s ⌝ }
+    requires { ⌜ accepted (step (stateOf (now book)) r .answer) ≡ true ⌝ }
+    requires { ⌜ r .kind ≡ 3 ⌝ }
+    ensures { λ _. ⌜ now (book .exit) ≡ words (step (stateOf (now (book .entry))) r .state) ⌝ }
+{
+    if !some_leave(book, s, g, r.b, r.first, r.last) {
+        return;
+    }
+    remove_visitor(book, s, g, r.b, r.first, r.last);
+}
+
 // The book afterwards is the words of the machine's state.
 pub fn apply(book: &mut [u32], s: Settings, g: Grids, r: Request)
     requires { ⌜ Good s (now book) ⌝ }
@@ -33,7 +48,7 @@ pub fn apply(book: &mut [u32], s: Settings, g: Grids, r: Request)
     match kind {
         1 => turn(book, g.leave, true, r.b, r.first, r.last),
         2 => turn(book, g.leave, false, r.b, r.first, r.last),
-        3 => remove_visitor(book, s, g, r.b, r.first, r.last),
+        3 => remove(book, s, g, r),
         4 => add(book, g.hotel, r.a, r.b, 0, 0, r.first, r.last),
         5 => take(book, g.hotel, r.a, r.first, r.last),
         6 => add(book, g.ride, r.a, r.b, 0, 0, r.first, r.last),

@@ -79,7 +79,7 @@ fn entries(book: &[u32], s: Settings, g: Grids, visitor: u32, from: u32, to: u32
 }
 
 // Has the visitor leave on some date of from..to?
-fn some_leave(book: &[u32], s: Settings, g: Grids, visitor: u32, from: u32, to: u32) -> bool
+pub fn some_leave(book: &[u32], s: Settings, g: Grids, visitor: u32, from: u32, to: u32) -> bool
     requires { ⌜ Good s (now book) ⌝ }
     requires { ⌜ g ≡ gridsOf s ⌝ }
     requires { ⌜ visitor < s .visitors ⌝ }

@@ -1,25 +1,22 @@
-use Prim.Native.Nat.{ℕ, _+_, _/_}
-use mathlib.Core.Path.{refl, sym, _∙_, ap, subst}
+-- `apply` meets its contract: the writes of each kind leave the words of the machine's state.
+-- Assumes nothing.
+use Prim.Native.Nat.{_+_, _/_}
+use mathlib.Core.Path.{refl, _∙_, ap}
 use mathlib.Core.Bool.{true, false}
-use mathlib.Core.List.{List}
 use native.Mathlib.Omega.{arith}
-use Rattle.model.specs.declared.Settings.{Settings}
 use Rattle.model.specs.Site.{dateOfSession}
 use Rattle.model.specs.Kinds.{kindOf}
-use Rattle.model.specs.Kinds.{Kind.addLeave, Kind.endLeave, Kind.removeVisitor, Kind.addHotel, Kind.eraseHotel, Kind.addRide, Kind.eraseRide}
+use Rattle.model.specs.Kinds.{Kind.addLeave, Kind.endLeave, Kind.addHotel, Kind.eraseHotel, Kind.addRide, Kind.eraseRide}
 use Rattle.model.specs.Kinds.{Kind.addStanding, Kind.endStanding, Kind.addAttend, Kind.eraseAttend, Kind.addConf, Kind.eraseConf}
 use Rattle.model.specs.Kinds.{Kind.addLunch, Kind.eraseLunch, Kind.eraseConfAndLunch}
 use Rattle.model.specs.Words.{leaves, hotelCells, standings, attendCells, confPairs, lunchTriples, rideCells}
-use Rattle.book.specs.declared.grid.Grids.{Grids}
-use Rattle.book.specs.declared.units.Slot.the-variants.{Sessions, Times}
 use Rattle.book.proofs.Regions.{group-lt}
 use Rattle.apply.specs.Stores.{full, empty, filled, swept, markedAll}
-use Rattle.book.specs.Units.{OnDates}
 use Rattle.apply.proofs.Columns.{write-addHotel, write-eraseHotel, write-addRide, write-eraseRide, write-addAttend, write-eraseAttend}
 use Rattle.apply.proofs.Columns.{write-addConf, write-addLunch, write-eraseLunch}
-use Rattle.apply.proofs.Erasures.{write-addLeave, write-endLeave, write-removeVisitor, write-addStanding, write-endStanding, write-eraseConf}
+use Rattle.apply.proofs.Erasures.{write-addLeave, write-endLeave, write-addStanding, write-endStanding, write-eraseConf}
 use Rattle.apply.proofs.Erasures.{write-eraseConfAndLunch}
-use Rattle.apply.proofs.Arms.{Known, laid, order-ok, slots-ok, a-ok, b-ok, span, item, arm, unchanged}
+use Rattle.apply.proofs.Arms.{Known, laid, a-ok, b-ok, span, item, arm, unchanged}
 use borrow.Author.Needs.{needs}
 use Rattle.apply.proofs.apply.Statement.{statement}
 use Rattle.apply.proofs.apply.Tie as tie
@@ -46,13 +43,8 @@ turn-requires-2 c κs = let s = c .before .before .before in
           (group-lt (a .s .visitors) (a .r .b) (b-ok w (a .s .visitors) refl)),
     )
 
-remove-visitor-requires : tie.Need-remove-visitor-requires
-unfolding kindOf
-remove-visitor-requires c κs = let s = c .before .before .before in
-    let a = s .args in
-    let w : Known (a .s) (a .book .now) (a .g) (a .r) removeVisitor
-    = record { good = s .pre .0; grids = s .pre .1 .0; done = s .pre .1 .1; kind = ap kindOf (c .before .match .keys3) } in
-    (laid w, (s .pre .1 .0, (order-ok w, (slots-ok w, b-ok w (a .s .visitors) refl))))
+remove-requires : tie.Need-remove-requires
+remove-requires c κs = let p = c .before .before .before .pre in (p .0, (p .1 .0, (p .1 .1, c .before .match .keys3)))
 
 add-requires : tie.Need-add-requires
 unfolding kindOf
@@ -210,23 +202,7 @@ same-length-3 : tie.Need-same-length-3
 same-length-3 c = search needs
 
 returns-3 : tie.Need-returns-3
-unfolding kindOf
-returns-3 c = let s = c .before .before .before .before .before .before in
-    let a = s .args in
-    let w : Known (a .s) (a .book .now) (a .g) (a .r) removeVisitor
-    = record { good = s .pre .0; grids = s .pre .1 .0; done = s .pre .1 .1; kind = ap kindOf (c .before .before .before .before .match .keys3) } in
-    let d = c .before .before .remove-visitor .ensures in
-    let W : Grids → List ℕ
-    = λ g. filled (g .attend) (a .r .b) empty (d .from) (d .to)
-    (swept (g .ride) (a .r .b + 1) (d .lo) (d .hi)
-    (swept (g .hotel) (a .r .b + 1) (a .r .first) (a .r .last + 1) (markedAll (g .leave) false (a .r .b) (a .r .first) (a .r .last + 1) (a .book .now)))) in
-    d .is
-    ∙ ap W (sym (s .pre .1 .0))
-    ∙ arm w (λ S g. W g)
-    (λ x q z l y.
-    write-removeVisitor x z (a .r) (a .book .now) l y (d .lo) (d .hi) (d .from) (d .to)
-    (subst (λ (S : Settings). OnDates S Times (a .r .first) (a .r .last) (d .lo) (d .hi)) (sym q) (d .times))
-    (subst (λ (S : Settings). OnDates S Sessions (a .r .first) (a .r .last) (d .from) (d .to)) (sym q) (d .sessions)))
+returns-3 c = c .before .before .remove .ensures
 
 same-length-4 : tie.Need-same-length-4
 same-length-4 c = search needs
@@ -414,7 +390,7 @@ apply-spec =
     (tie.spec
     turn-requires
     turn-requires-2
-    remove-visitor-requires
+    remove-requires
     add-requires
     take-requires
     add-requires-2
