@@ -33,7 +33,7 @@ use Rattle.book.specs.declared.grid.Grid.{Grid}
 use Rattle.book.specs.declared.grid.Grids.{Grids}
 use Rattle.book.specs.Grids.{Fits, gridOf, gridsOf, Laid}
 use Rattle.book.specs.Good.{Good}
-use Rattle.book.proofs.Regions.{fits, small}
+use Rattle.book.proofs.Regions.{fits, small, some-item}
 use Rattle.book.proofs.Goods.{good-laid}
 use Rattle.apply.specs.Accepted.{accepted}
 use Rattle.apply.specs.Stores.{Span}
@@ -43,7 +43,7 @@ use Rattle.apply.proofs.Stages.{Carries, carries-all, carries-words}
 pub span-of : (S : Settings) (b : List ℕ) → Laid S b → (g : Region) (h : Grid) → h ≡ gridOf S g → (n last : ℕ) → n ≡ length b → last < slots S g → Span h n last
 span-of S b l g h e n last k q =
     subst (λ (h : Grid). Span h n last) (sym e) (subst (λ (n : ℕ). Span (gridOf S g) n last) (sym k)
-    (record { fits = fits S b l g; narrow = small S (l .ranges) g .width; slot = q }))
+    (record { fits = fits S b l g; narrow = small S (l .ranges) g .width; some = some-item S (l .ranges) g; slot = q }))
 
 pub item-of : (S : Settings) (g : Region) (h : Grid) → h ≡ gridOf S g → (j : ℕ) → j < items S g → j < h .items
 item-of S g h e j q = subst (λ (h : Grid). j < h .items) (sym e) q
@@ -52,12 +52,13 @@ item-of S g h e j q = subst (λ (h : Grid). j < h .items) (sym e) q
 pub record Reach (h : Grid) (n to : ℕ) : Type 0 where
   pub fits : Fits h n
   pub narrow : h .width ≤ 3
+  pub some : 1 ≤ h .items
   pub most : to ≤ h .slots
 
 pub reach-of : (S : Settings) (b : List ℕ) → Laid S b → (g : Region) (h : Grid) → h ≡ gridOf S g → (n to : ℕ) → n ≡ length b → to ≤ slots S g → Reach h n to
 reach-of S b l g h e n to k q =
     subst (λ (h : Grid). Reach h n to) (sym e) (subst (λ (n : ℕ). Reach (gridOf S g) n to) (sym k)
-    (record { fits = fits S b l g; narrow = small S (l .ranges) g .width; most = q }))
+    (record { fits = fits S b l g; narrow = small S (l .ranges) g .width; some = some-item S (l .ranges) g; most = q }))
 
 -- what is known in the arm of kind k: a good book, its grids, an accepted request, and its kind
 pub record Known (S : Settings) (b : List ℕ) (G : Grids) (r : Request) (k : Kind) : Type 0 where

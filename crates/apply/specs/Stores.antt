@@ -5,7 +5,7 @@ use mathlib.Core.Path.{_≡_}
 use mathlib.Core.Bool.{Bool, true, false, cond}
 use mathlib.Core.List.{List}
 use lib.Dec.{eqb}
-use lib.ListN.{set}
+use lib.ListN.{set, getD}
 use Rattle.apply.specs.declared.cells.Content.{Content}
 use Rattle.book.specs.declared.grid.Grid.{Grid}
 use Rattle.book.specs.declared.units.Slot.the-variants.{Sessions, Times}
@@ -58,6 +58,10 @@ sweptRow g w i b = over (λ j. cleared g w i j) 0 (g .items) b
 unfoldable pub swept : Grid → ℕ → ℕ → ℕ → List ℕ → List ℕ
 swept g w from to b = over (λ i. sweptRow g w i) from to b
 
+-- a word that is w becomes 0
+unfoldable pub zeroed : ℕ → ℕ → List ℕ → List ℕ
+zeroed w n b = set b n (cond (eqb (getD b n 0) w) 0 (getD b n 0))
+
 -- a pool word with bit k set or cleared; the bit of member v in a slot, and in some slots
 abbrev pub flipped : Bool → ℕ → ℕ → ℕ
 flipped true w k = put w k
@@ -73,6 +77,7 @@ markedAll g on v from to b = over (λ i. marked g on v i) from to b
 pub record Span (g : Grid) (n last : ℕ) : Type 0 where
   pub fits : Fits g n
   pub narrow : g .width ≤ 3
+  pub some : 1 ≤ g .items
   pub slot : last < g .slots
 
 -- kind 3: from b to c, by the times and the sessions of the dates

@@ -1,7 +1,7 @@
 // Writes to the cells of a grid: a column filled, and rows swept of a word.
 use book::grid::Grid;
 use book::grid::at;
-use book::rows::row_has;
+use queries::bookings::rows_count;
 ghost use mathlib.Core.Path.{_≡_};
 ghost use Prim.Native.Nat.{_+_, _≤_, _<_};
 ghost use mathlib.Core.Bool.{cond};
@@ -88,6 +88,20 @@ fn sweep_cells(book: &mut [u32], g: Grid, slot: u32, w: u32)
     }
 }
 
+// The cells of the slots from `from` to before `to`, slot by slot.
+fn sweep_rows(book: &mut [u32], g: Grid, w: u32, from: u32, to: u32)
+    requires { ⌜ Fits g (length (now book)) ⌝ }
+    requires { ⌜ g .width ≤ 3 ⌝ }
+    requires { ⌜ to ≤ g .slots ⌝ }
+    ensures { λ _. ⌜ now (book .exit) ≡ swept g w from to (now (book .entry)) ⌝ }
+{
+    let mut i = from;
+    while i < to {
+        sweep_cells(book, g, i, w);
+        i += 1;
+    }
+}
+
 // x, or 0 where x is w.
 fn unless(x: u32, w: u32) -> u32
     ensures { λ r. ⌜ r ≡ cond (eqb x w) 0 x ⌝ }
@@ -98,61 +112,41 @@ fn unless(x: u32, w: u32) -> u32
     x
 }
 
-// The same of a cell of one word, without a branch.
-fn clear_word(book: &mut [u32], g: Grid, slot: u32, item: u32, w: u32)
+// The same of cells of one word: their rows stand one behind the other, and are swept as one run of words without a branch, of which
+// the compiler takes several at once.
+fn sweep_run(book: &mut [u32], g: Grid, w: u32, from: u32, to: u32)
     requires { ⌜ Fits g (length (now book)) ⌝ }
-    requires { ⌜ g .width ≡ 1 ⌝ }
-    requires { ⌜ slot < g .slots ⌝ }
-    requires { ⌜ item < g .items ⌝ }
-    ensures { λ _. ⌜ now (book .exit) ≡ cleared g w slot item (now (book .entry)) ⌝ }
+    requires { ⌜ (g .width ≡ 1) × (1 ≤ g .items) ⌝ }
+    requires { ⌜ (from < to) × (to ≤ g .slots) ⌝ }
+    ensures { λ _. ⌜ now (book .exit) ≡ swept g w from to (now (book .entry)) ⌝ }
 {
-    let n = at(g, slot, item);
-    let x = book[n];
-    book[n] = unless(x, w);
-}
-
-// The cells of a slot, of one word each: the compiler takes several at once.
-fn sweep_words(book: &mut [u32], g: Grid, slot: u32, w: u32)
-    requires { ⌜ Fits g (length (now book)) ⌝ }
-    requires { ⌜ g .width ≡ 1 ⌝ }
-    requires { ⌜ slot < g .slots ⌝ }
-    ensures { λ _. ⌜ now (book .exit) ≡ sweptRow g w slot (now (book .entry)) ⌝ }
-{
-    let items = g.items;
-    let mut j: u32 = 0;
-    while j < items {
-        clear_word(book, g, slot, j, w);
-        j += 1;
+    let start = at(g, from, 0);
+    let end = start + ((to - from) as usize) * (g.items as usize);
+    let mut n = start;
+    while n < end {
+        let x = book[n];
+        book[n] = unless(x, w);
+        n += 1;
     }
 }
 
-// Every cell of a slot that holds w. A row of words without w is only read.
-fn sweep_row(book: &mut [u32], g: Grid, slot: u32, w: u32)
-    requires { ⌜ Fits g (length (now book)) ⌝ }
-    requires { ⌜ g .width ≤ 3 ⌝ }
-    requires { ⌜ slot < g .slots ⌝ }
-    ensures { λ _. ⌜ now (book .exit) ≡ sweptRow g w slot (now (book .entry)) ⌝ }
-{
-    if g.width != 1 {
-        sweep_cells(book, g, slot, w);
-        return;
-    }
-    if !row_has(book, g, slot, w) {
-        return;
-    }
-    sweep_words(book, g, slot, w);
-}
-
-// Every cell that holds w in the slots from `from` to before `to`.
+// Every cell that holds w in the slots from `from` to before `to`. Rows of one-word cells without w are only read.
 pub fn sweep(book: &mut [u32], g: Grid, w: u32, from: u32, to: u32)
     requires { ⌜ Fits g (length (now book)) ⌝ }
     requires { ⌜ g .width ≤ 3 ⌝ }
+    requires { ⌜ 1 ≤ g .items ⌝ }
     requires { ⌜ to ≤ g .slots ⌝ }
     ensures { λ _. ⌜ now (book .exit) ≡ swept g w from to (now (book .entry)) ⌝ }
 {
-    let mut i = from;
-    while i < to {
-        sweep_row(book, g, i, w);
-        i += 1;
+    if g.width != 1 {
+        sweep_rows(book, g, w, from, to);
+        return;
     }
+    if to <= from {
+        return;
+    }
+    if rows_count(book, g, w, from, to) == 0 {
+        return;
+    }
+    sweep_run(book, g, w, from, to);
 }

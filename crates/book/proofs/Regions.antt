@@ -120,3 +120,13 @@ pub unit-le : (S : Settings) → Ranges S → (u : Slot) → slotsOf S (unitOf u
 unit-le S h Dates = omega (arith, h .dates)
 unit-le S h Sessions = omega (arith, all-sessions S h)
 unit-le S h Times = omega (arith, all-times S h)
+
+-- a slot has an item
+pub some-item : (S : Settings) → Ranges S → (g : Region) → 0 < items S g
+some-item S r leaves = omega (arith, r .visitors)
+some-item S r hotelCells = r .hotels .0
+some-item S r standings = omega (arith, r .meetings)
+some-item S r attendCells = r .visitors .0
+some-item S r confPairs = r .rooms .0
+some-item S r lunchTriples = r .meetings .0
+some-item S r rideCells = r .transports .0

@@ -16,7 +16,7 @@ use Rattle.model.specs.Reading.{at, inside, bitAt, holds}
 use Rattle.model.specs.Laws.{cellsWithin}
 use Rattle.model.proofs.Search.{and-left, and-right, and-true, true-all}
 use Rattle.model.proofs.ReadBack.{inside-by, inside-is}
-use Rattle.book.proofs.Regions.{end-le, fits as grid-fits}
+use Rattle.book.proofs.Regions.{end-le, some-item, fits as grid-fits}
 use Rattle.checking.proofs.Addresses.{perOf, size-is, place-of}
 use Rattle.book.specs.declared.grid.Grid.{Grid}
 use Rattle.book.specs.declared.grid.Grids.{Grids}
@@ -189,15 +189,6 @@ share-per S attendCells = ap (λ (n : ℕ). S .sessions * n) (sym (mul-one (S .v
 share-per S confPairs = refl
 share-per S lunchTriples = omega arith
 share-per S rideCells = ap (λ (n : ℕ). S .times * n) (sym (mul-one (S .transports)))
-
-some-item : (S : Settings) → Ranges S → (g : Region) → 0 < items S g
-some-item S r leaves = omega (arith, r .visitors)
-some-item S r hotelCells = r .hotels .0
-some-item S r standings = omega (arith, r .meetings)
-some-item S r attendCells = r .visitors .0
-some-item S r confPairs = r .rooms .0
-some-item S r lunchTriples = r .meetings .0
-some-item S r rideCells = r .transports .0
 
 module _ {S : Settings} {b : List ℕ} {G : Grids} {H : Shares} {d s t : ℕ} (p : At S b G H d s t) (g : Region) where
   grid : gridIn G g ≡ gridOf S g

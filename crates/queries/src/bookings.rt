@@ -22,7 +22,7 @@ ghost use Rattle.book.specs.Good.{Good};
 ghost use Rattle.queries.specs.Shown.{rowsCount, columnCount};
 
 // How many cells of the slots lo..hi, hi left out, hold w: rows of one-word cells stand one behind the other.
-fn rows_count(book: &[u32], g: Grid, w: u32, lo: u32, hi: u32) -> u32
+pub fn rows_count(book: &[u32], g: Grid, w: u32, lo: u32, hi: u32) -> u32
     requires { ⌜ Fits g (length (now book)) ⌝ }
     requires { ⌜ (g .width ≡ 1) × (1 ≤ g .items) ⌝ }
     requires { ⌜ (lo ≤ hi) × (hi ≤ g .slots) ⌝ }

@@ -1,58 +1,59 @@
-use borrow.Author.Needs.{needs}
-use mathlib.Core.Path.{_≡_, refl, sym, _∙_, ap}
-use Prim.Native.Nat.{_+_, _-_}
+-- `cells::sweep` meets its contract: slot by slot, or as one run of words; rows without w stay as they are.
+-- Assumes nothing.
+use mathlib.Core.Path.{sym, _∙_}
 use native.Mathlib.Omega.{arith}
-use lib.ListN.{length}
-use Rattle.apply.specs.Stores.{over, sweptRow, swept}
-use Rattle.apply.proofs.Loops.{over-turn, over-end}
+use borrow.Author.Needs.{needs}
+use Rattle.apply.specs.Stores.{sweptRow, swept}
+use Rattle.apply.proofs.Loops.{over-end, rows-kept}
 use Rattle.apply.proofs.cells.sweep.Statement.{statement}
 use Rattle.apply.proofs.cells.sweep.Tie as tie
 
-abbrev Inv-loop : tie.InvT-loop
-Inv-loop book₀ g w from to i₀ book i = (length book ≡ length book₀) × (over (λ i. sweptRow g w i) i to book ≡ over (λ i. sweptRow g w i) from to book₀)
+sweep-rows-requires : tie.Need-sweep-rows-requires
+sweep-rows-requires c κs = search needs
 
-abbrev μ-loop : tie.MeasureT-loop
-μ-loop book₀ g w from to i₀ book i = to - i
-
-loop-holds : tie.Need-loop-holds Inv-loop μ-loop
-loop-holds c = (refl, refl)
-
-sweep-row-requires : tie.Need-sweep-row-requires Inv-loop μ-loop
-sweep-row-requires c κs = search needs
-
-add-i : tie.Need-add-i Inv-loop μ-loop
-add-i c = search needs
-
-loop-less : tie.Need-loop-less Inv-loop μ-loop
-loop-less c = search needs
-
-loop-again : tie.Need-loop-again Inv-loop μ-loop
-loop-again c = let s = c .before .before .before .before .before in
-    let a = s .before .before .args in (
-      c .before .before .sweep-row .kept .0 ∙ s .loop .inv .0,
-      ap (over (λ i. sweptRow (a .g) (a .w) i) (s .loop .i + 1) (a .to)) (c .before .before .sweep-row .ensures)
-          ∙ sym (over-turn (λ i. sweptRow (a .g) (a .w) i) (s .loop .i) (a .to) (s .loop .book) (omega arith))
-          ∙ s .loop .inv .1,
-    )
-
-same-length : tie.Need-same-length Inv-loop μ-loop
+same-length : tie.Need-same-length
 same-length c = search needs
 
-returns : tie.Need-returns Inv-loop μ-loop
+returns : tie.Need-returns
+returns c = search needs
+
+returns-2 : tie.Need-returns-2
 unfolding swept
-returns c = let a = c .before .before .before .args in
-    sym (over-end (λ i. sweptRow (a .g) (a .w) i) (c .before .loop .i) (a .to) (c .before .loop .book) (omega arith)) ∙ c .before .loop .inv .1
+returns-2 c =
+    let a = c .before .before .before .before .args in
+    sym (over-end (λ i. sweptRow (a .g) (a .w) i) (a .from) (a .to) (a .book .now) (omega (arith, c .if2 .taken)))
+
+rows-count-requires : tie.Need-rows-count-requires
+rows-count-requires c κs = search needs
+
+same-length-2 : tie.Need-same-length-2
+same-length-2 c = search needs
+
+returns-3 : tie.Need-returns-3
+returns-3 c =
+    let a = c .before .before .before .before .before .before .before .args in
+    rows-kept (a .g) (a .w) (a .from) (a .to) (a .book .now) (sym (c .before .rows-count .ensures) ∙ c .if3 .taken)
+
+sweep-run-requires : tie.Need-sweep-run-requires
+sweep-run-requires c κs = search needs
+
+same-length-3 : tie.Need-same-length-3
+same-length-3 c = search needs
+
+returns-4 : tie.Need-returns-4
+returns-4 c = search needs
 
 pub sweep-spec : {M : Type 1} → statement M
 sweep-spec =
     tie.close
     (tie.spec
-    Inv-loop
-    μ-loop
-    loop-holds
-    sweep-row-requires
-    add-i
-    loop-less
-    loop-again
+    sweep-rows-requires
     same-length
-    returns)
+    returns
+    returns-2
+    rows-count-requires
+    same-length-2
+    returns-3
+    sweep-run-requires
+    same-length-3
+    returns-4)

@@ -44,7 +44,7 @@ sweep-requires c κs = let s = c .before .before .before .before .before .before
     let q : Reach (a .g .ride) _ _ = reach-of (a .s) (a .book .now) (s .pre .0) rideCells (a .g .ride) (ap (λ (g : Grids). g .ride) (s .pre .1 .0)) _ _
     (c .before .before .before .before .before .drop .kept .0 ∙ c .before .before .before .before .before .before .before .before .before .turn .kept .0)
     (c .before .before .slots-on .ensures .ends .most) in
-    (q .fits, (q .narrow, q .most))
+    (q .fits, (q .narrow, (q .some, q .most)))
 
 slots-on-requires-2 : tie.Need-slots-on-requires-2
 slots-on-requires-2 c κs = let s = c .before .before .before .before .before .before .before .before .before .before .before .before .before .before .before in
