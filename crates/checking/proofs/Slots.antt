@@ -21,7 +21,6 @@ use Rattle.checking.proofs.Addresses.{perOf, size-is, place-of}
 use Rattle.book.specs.declared.grid.Grid.{Grid}
 use Rattle.book.specs.declared.grid.Grids.{Grids}
 use Rattle.book.specs.Grids.{Fits, place, gridOf, gridsOf}
-use Rattle.book.specs.Ranges.{Ranges}
 use Rattle.checking.specs.declared.dates.Shares.{Shares}
 use Rattle.checking.specs.Rows.{rowAt, Part}
 use Rattle.pool.specs.Pool.{member}

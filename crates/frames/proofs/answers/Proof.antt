@@ -1,3 +1,5 @@
+-- `answers` meets its contract: the length is stated over a variable and taken at the number.
+-- Assumes nothing.
 use Prim.Native.Nat.{ℕ}
 use mathlib.Core.Path.{_≡_, sym}
 use lib.ListN.{length, replicate, length-replicate}

@@ -1,3 +1,5 @@
+-- `drive` meets its contract: every turn leaves a stream that can go on.
+-- Assumes nothing.
 use borrow.Author.Needs.{needs}
 use mathlib.Core.Path.{_≡_, refl, sym}
 use native.Mathlib.Omega.{arith}

@@ -1,3 +1,5 @@
+-- `take_turn` meets its contract: what is fed leaves a stream that can go on.
+-- Assumes nothing.
 use native.Mathlib.Omega.{arith}
 use mathlib.Core.Path.{sym}
 use lib.Seq.{length-take-le}

@@ -1,3 +1,5 @@
+-- `bits::flip` meets its contract: the bit set or cleared.
+-- Assumes nothing.
 use borrow.Author.Needs.{needs}
 use Rattle.apply.proofs.bits.flip.Statement.{statement}
 use Rattle.apply.proofs.bits.flip.Tie as tie

@@ -1,3 +1,5 @@
+-- `bits::mark` meets its contract: the pool word at its place is stored with the bit turned.
+-- Assumes nothing.
 use mathlib.Core.Path.{_∙_, ap}
 use Prim.Native.Nat.{ℕ, _%_}
 use lib.ListN.{set, getD}

@@ -1,3 +1,5 @@
+-- `cells::clear` meets its contract: a cell that holds w is stored empty, and another one stays.
+-- Assumes nothing.
 use mathlib.Core.Path.{sym, _∙_, ap}
 use Prim.Native.Nat.{ℕ}
 use mathlib.Core.Bool.{Bool, cond}

@@ -1,3 +1,5 @@
+-- `cells::fill` meets its contract: the slots before i are filled.
+-- Assumes nothing.
 use borrow.Author.Needs.{needs}
 use mathlib.Core.Path.{_≡_, refl, sym, _∙_, ap}
 use Prim.Native.Nat.{ℕ, _+_, _-_}

@@ -1,3 +1,5 @@
+-- `cells::store` meets its contract: as many words as the width says.
+-- Assumes nothing.
 use mathlib.Core.Path.{sym, _∙_, ap}
 use mathlib.Core.List.{List}
 use Prim.Native.Nat.{ℕ, _+_}

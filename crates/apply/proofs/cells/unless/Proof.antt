@@ -1,3 +1,5 @@
+-- `cells::unless` meets its contract: by the test.
+-- Assumes nothing.
 use borrow.Author.Tests.{eq-eqb, ne-eqb}
 use Rattle.apply.proofs.cells.unless.Statement.{statement}
 use Rattle.apply.proofs.cells.unless.Tie as tie

@@ -1,3 +1,5 @@
+-- `sets::end_standing` meets its contract: the bits, and then the rows.
+-- Assumes nothing.
 use borrow.Author.Needs.{needs}
 use Rattle.apply.proofs.sets.end_standing.Statement.{statement}
 use Rattle.apply.proofs.sets.end_standing.Tie as tie

@@ -1,3 +1,5 @@
+-- `sets::erase_conf_and_lunch` meets its contract: the rows of the sessions, and then the column of the dates.
+-- Assumes nothing.
 use mathlib.Core.Path.{_≡_, refl, _∙_, ap, subst}
 use Prim.Native.Nat.{ℕ, _+_, _<_}
 use native.Mathlib.Omega.{arith}

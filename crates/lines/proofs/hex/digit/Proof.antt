@@ -1,3 +1,5 @@
+-- `hex::digit` meets its contract: by the two ranges of digits.
+-- Assumes nothing.
 use borrow.Author.Tests.{le-leb, lt-leb}
 use borrow.Author.Needs.{needs}
 use Rattle.lines.proofs.hex.digit.Statement.{statement}

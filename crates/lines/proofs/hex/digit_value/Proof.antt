@@ -1,3 +1,5 @@
+-- `hex::digit_value` meets its contract: by the two ranges of digits.
+-- Assumes nothing.
 use Rattle.lines.proofs.Hexes.{value-is}
 use borrow.Author.Needs.{needs}
 use Rattle.lines.proofs.hex.digit_value.Statement.{statement}

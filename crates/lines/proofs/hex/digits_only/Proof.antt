@@ -1,3 +1,5 @@
+-- `hex::digits_only` meets its contract: the bytes before i are told.
+-- Assumes nothing.
 use mathlib.Core.Bool.{_&&_}
 use native.Mathlib.Omega.{arith}
 use lib.Seq.{take-all}

@@ -1,3 +1,5 @@
+-- `hex::is_digit` meets its contract: by the two ranges of digits.
+-- Assumes nothing.
 use Rattle.model.specs.Bounded.{within}
 use Prim.Native.Nat.{_-_}
 use Rattle.lines.proofs.Hexes.{some-of}

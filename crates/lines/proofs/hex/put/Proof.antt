@@ -1,3 +1,5 @@
+-- `hex::put` meets its contract: the bytes before i are put.
+-- Assumes nothing.
 use native.Mathlib.Omega.{arith}
 use borrow.Author.Needs.{needs}
 use Prim.Native.Nat.{_≤_, _-_}

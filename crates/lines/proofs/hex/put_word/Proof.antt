@@ -1,3 +1,5 @@
+-- `hex::put_word` meets its contract: the word's eight digits are put.
+-- Assumes nothing.
 use borrow.Author.Needs.{needs}
 use Rattle.lines.proofs.hex.put_word.Statement.{statement}
 use Rattle.lines.proofs.hex.put_word.Tie as tie

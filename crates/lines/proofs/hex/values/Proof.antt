@@ -1,3 +1,5 @@
+-- `hex::values` meets its contract: the values before i are those of the digits.
+-- Assumes nothing.
 use Prim.Native.Nat.{ℕ, _≤_, _<_, _-_}
 use mathlib.Core.Path.{_≡_, refl}
 use native.Mathlib.Omega.{arith}

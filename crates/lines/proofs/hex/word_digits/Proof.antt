@@ -1,3 +1,5 @@
+-- `hex::word_digits` meets its contract: eight digits, the highest first.
+-- Assumes nothing.
 use mathlib.Core.Path.{refl, sym, ap, ap₂, _∙_}
 use mathlib.Core.List.{_∷_}
 use Prim.Native.Nat.{ℕ, _%_}

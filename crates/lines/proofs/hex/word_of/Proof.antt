@@ -1,3 +1,5 @@
+-- `hex::word_of` meets its contract: two halves of four values make the word.
+-- Assumes nothing.
 use Prim.Native.Nat.{ℕ, _+_, _*_, _%_}
 use mathlib.Core.Path.{ap₂}
 use Rattle.lines.specs.Digits.{wordOf}

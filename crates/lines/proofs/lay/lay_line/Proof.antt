@@ -1,3 +1,5 @@
+-- `lay::lay_line` meets its contract: the settings' words are read, and the book is laid or refused.
+-- Assumes nothing.
 use Rattle.model.proofs.Search.{and-left}
 use mathlib.Core.Path.{sym, _∙_}
 use borrow.Author.Tests.{not-true, not-false}

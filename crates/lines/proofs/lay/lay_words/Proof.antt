@@ -1,3 +1,5 @@
+-- `lay::lay_words` meets its contract: question 24, then 25, then a fresh book.
+-- Assumes nothing.
 use mathlib.Core.Path.{sym}
 use native.Mathlib.Omega.{arith}
 use lib.Seq.{length-take-le}

@@ -1,3 +1,5 @@
+-- `line::frame` meets its contract: a frame line is 56 digits.
+-- Assumes nothing.
 use mathlib.Core.Path.{sym, _∙_, ap}
 use borrow.Author.Tests.{not-true, not-false}
 use Rattle.lines.specs.declared.line.Framed.the-variants.{Frame}

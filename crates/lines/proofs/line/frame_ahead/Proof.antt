@@ -1,3 +1,5 @@
+-- `line::frame_ahead` meets its contract: 56 digits and byte 10 stand in front.
+-- Assumes nothing.
 use mathlib.Core.Path.{sym, _∙_}
 use native.Mathlib.Omega.{arith}
 use lib.Seq.{length-take-le}

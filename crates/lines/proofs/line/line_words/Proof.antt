@@ -1,3 +1,5 @@
+-- `line::line_words` meets its contract: the words before k are read.
+-- Assumes nothing.
 use native.Mathlib.Omega.{arith}
 use lib.Seq.{take-all}
 use borrow.Author.Needs.{needs}

@@ -1,3 +1,5 @@
+-- `line::look` meets its contract: a frame in front, or else the line's end is searched for.
+-- Assumes nothing.
 use mathlib.Core.Path.{_≡_, sym, _∙_}
 use mathlib.Core.Bool.{true}
 use Rattle.lines.specs.Frame.{frameAhead}

@@ -1,3 +1,5 @@
+-- `line::put_answer` meets its contract: three words and byte 10.
+-- Assumes nothing.
 use Rattle.lines.proofs.Puts.{join-at}
 use Rattle.lines.proofs.Framing.{words-line}
 use borrow.Author.Needs.{needs}

@@ -1,3 +1,5 @@
+-- `line::request` meets its contract: the seven words of the line.
+-- Assumes nothing.
 use mathlib.Core.Path.{_∙_}
 use native.Mathlib.Omega.{arith}
 use Rattle.lines.proofs.Framing.{request-is}

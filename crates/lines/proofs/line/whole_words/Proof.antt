@@ -1,3 +1,5 @@
+-- `line::whole_words` meets its contract: digits only, and eight to a word.
+-- Assumes nothing.
 use Prim.Native.Nat.{_%_}
 use mathlib.Core.Path.{ap}
 use mathlib.Core.Bool.{Bool, _&&_}

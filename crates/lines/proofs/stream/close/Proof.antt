@@ -1,3 +1,5 @@
+-- `stream::close` meets its contract: a line that is not over ends with the input.
+-- Assumes nothing.
 use Rattle.model.proofs.Search.{both}
 use Prim.Native.Nat.{_<_}
 use mathlib.Core.Bool.{true}

@@ -1,3 +1,5 @@
+-- `stream::end_held` meets its contract: the line that is held is over.
+-- Assumes nothing.
 use mathlib.Core.Path.{sym}
 use native.Mathlib.Omega.{arith}
 use lib.Seq.{length-take-le}

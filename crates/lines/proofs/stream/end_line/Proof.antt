@@ -1,3 +1,5 @@
+-- `stream::end_line` meets its contract: by the phase.
+-- Assumes nothing.
 use lib.ListN.{take}
 use Rattle.model.specs.Reading.{stateOf}
 use Rattle.lines.proofs.Streams.{ended-as, turn-opening, turn-later, turn-over}

@@ -1,3 +1,5 @@
+-- `stream::feed` meets its contract: the held line first, then whole lines, and the rest is held.
+-- Assumes nothing.
 use Prim.Native.Nat.{_≤_}
 use lib.ListN.{length}
 use mathlib.Core.Path.{sym}

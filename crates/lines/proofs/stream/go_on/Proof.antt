@@ -1,3 +1,5 @@
+-- `stream::go_on` meets its contract: whole lines are answered, and the rest is held.
+-- Assumes nothing.
 use mathlib.Core.Path.{sym}
 use borrow.Author.Tests.{not-true, not-false}
 use lib.Seq.{length-take-le}

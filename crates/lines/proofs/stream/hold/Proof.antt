@@ -1,3 +1,5 @@
+-- `stream::hold` meets its contract: the bytes before i are behind those held.
+-- Assumes nothing.
 use mathlib.Core.Path.{_≡_, refl}
 use borrow.Author.Needs.{needs}
 use Prim.Native.Nat.{_≤_, _-_, _+_, _<_}

@@ -1,3 +1,5 @@
+-- `stream::respond` meets its contract: the answer of the line is put.
+-- Assumes nothing.
 use mathlib.Core.Path.{sym}
 use lib.Seq.{length-take-le}
 use Rattle.lines.proofs.Streams.{responded}

@@ -1,3 +1,5 @@
+-- `stream::settle` meets its contract: the settings line lays the book or ends the program.
+-- Assumes nothing.
 use Rattle.lines.proofs.Layings.{laid-is, settled-book, settled-refused}
 use borrow.Author.Needs.{needs}
 use Rattle.lines.proofs.stream.settle.Statement.{statement}
