@@ -24,7 +24,6 @@ use Rattle.model.proofs.Keeps.{Yes, yes, slots-fit}
 use Rattle.book.specs.declared.units.Slot.the-variants.{Sessions, Times}
 use Rattle.book.specs.Grids.{gridOf}
 use Rattle.book.proofs.Regions.{group-lt, date-lt}
-use Rattle.book.proofs.Cuts.{between-cuts}
 use Rattle.book.proofs.Goods.{ranges-by}
 use Rattle.apply.specs.Stores.{wordIn, empty, filled, swept, markedAll}
 use Rattle.book.specs.Units.{OnDates}
@@ -213,10 +212,10 @@ module _ (x : State) (s : Sound x) (r : Request) (b : List ℕ) (a : Carries (x 
       (hotel-rows (withLeave x _)
       (leave-bits x a (slot r) (r .first) (r .last + 1) false (r .b) hb (last-slot x r removeVisitor y) (λ i _. in-slots r i))
       (slot r) (r .first) (r .last + 1) (r .b) (last-slot x r removeVisitor y) (λ i _. in-slots r i) (s .oneB hotels refl))
-      (λ i. slot r (dateOfTime S i)) lo hi (r .b) (times .ends .most) (between-cuts S Times (r .first) (r .last) lo hi (times .begins) (times .ends))
+      (λ i. slot r (dateOfTime S i)) lo hi (r .b) (times .ends .most) (times .exactly)
       (s .oneB rides refl))
       (λ i. slot r (dateOfSession S i)) from to (r .b) hb (sessions .ends .most)
-      (between-cuts S Sessions (r .first) (r .last) from to (sessions .begins) (sessions .ends))
+      (sessions .exactly)
     where
       hb : r .b < S .visitors
       hb = ltb-true _ _ (yes x r removeVisitor bBelow refl (y .1 .1 .0))

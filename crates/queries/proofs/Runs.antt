@@ -27,7 +27,6 @@ use Rattle.book.specs.Rows.{rowCount}
 use Rattle.book.specs.Good.{Good}
 use Rattle.book.specs.Units.{OnDates}
 use Rattle.book.proofs.Counts.{sum-part, count-same, count-le}
-use Rattle.book.proofs.Cuts.{between-cuts}
 use Rattle.book.proofs.Entries.{booked-eqb}
 use Rattle.book.proofs.Goods.{good-state, good-sound, good-cell}
 use Rattle.pool.specs.Pool.{member}
@@ -103,14 +102,14 @@ module _ (S : Settings) (b : List ℕ) (good : Good S b) (v from to : ℕ) (hv :
   unfolding rowsCount rowCount
   taxis t0 t1 rt =
       count-run (λ t. within from to (dateOfTime S t)) (λ t k. booked x rides t k v) (λ t. rowCount (gridOf S rideCells) b t (v + 1)) t0 t1 (allTimes S) (S .transports)
-      (run-order S Times from to t0 t1 rt hf) (rt .ends .most) (λ t k. between-cuts S Times from to t0 t1 (rt .begins) (rt .ends) t k)
+      (run-order S Times from to t0 t1 rt hf) (rt .ends .most) (rt .exactly)
       (λ t k. count-same (λ r. booked x rides t r v) (λ r. eqb (cellAt (gridOf S rideCells) b t r) (v + 1)) (S .transports) (λ r g. booked-eqb S b rides t k g hv))
 
   seated : (s0 s1 : ℕ) → OnDates S Sessions from to s0 s1 → count2 (λ s m. within from to (dateOfSession S s) && x .attend s m v) (allSessions S) (S .meetings) ≡ columnCount (gridOf S attendCells) b v s0 s1
   unfolding columnCount
   seated s0 s1 rs =
       count-run (λ s. within from to (dateOfSession S s)) (λ s m. booked x attends s m v) (λ s. one (not (eqb (cellAt (gridOf S attendCells) b s v) 0))) s0 s1 (allSessions S) (S .meetings)
-      (run-order S Sessions from to s0 s1 rs hf) (rs .ends .most) (λ s k. between-cuts S Sessions from to s0 s1 (rs .begins) (rs .ends) s k)
+      (run-order S Sessions from to s0 s1 rs hf) (rs .ends .most) (rs .exactly)
       (λ s k. count-same (λ m. booked x attends s m v) (λ m. eqb (cellAt (gridOf S attendCells) b s v) (m + 1)) (S .meetings) (λ m g. booked-eqb S b attends s k g hv)
       ∙ count-cell (cellAt (gridOf S attendCells) b s v) (S .meetings) (good-cell good attends s v k hv))
 
