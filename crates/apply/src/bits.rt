@@ -6,6 +6,7 @@ ghost use Prim.Native.Nat.{_/_, _≤_, _<_};
 ghost use lib.ListN.{length};
 ghost use Rattle.book.specs.Grids.{Fits};
 ghost use Rattle.apply.specs.Stores.{flipped, marked, markedAll};
+ghost use Rattle.book.specs.Lent.{reading, Lies};
 
 // A pool word with bit k set or cleared.
 fn flip(on: bool, w: u32, k: u32) -> u32
@@ -20,10 +21,10 @@ fn flip(on: bool, w: u32, k: u32) -> u32
 
 // The bit of member v in one slot.
 fn mark(book: &mut [u32], g: Grid, on: bool, v: u32, slot: u32)
-    requires { ⌜ Fits g (length (now book)) ⌝ }
+    requires { ⌜ Lies g (reading (now book)) ⌝ }
     requires { ⌜ slot < g .slots ⌝ }
     requires { ⌜ v / 32 < g .items ⌝ }
-    ensures { λ _. ⌜ now (book .exit) ≡ marked g on v slot (now (book .entry)) ⌝ }
+    ensures { λ _. ⌜ reading (now (book .exit)) ≡ marked g on v slot (reading (now (book .entry))) ⌝ }
 {
     let n = at(g, slot, v / 32);
     let word = book[n];
@@ -32,10 +33,10 @@ fn mark(book: &mut [u32], g: Grid, on: bool, v: u32, slot: u32)
 
 // The bit of member v in the slots from `from` to before `to`.
 pub fn mark_all(book: &mut [u32], g: Grid, on: bool, v: u32, from: u32, to: u32)
-    requires { ⌜ Fits g (length (now book)) ⌝ }
+    requires { ⌜ Lies g (reading (now book)) ⌝ }
     requires { ⌜ to ≤ g .slots ⌝ }
     requires { ⌜ v / 32 < g .items ⌝ }
-    ensures { λ _. ⌜ now (book .exit) ≡ markedAll g on v from to (now (book .entry)) ⌝ }
+    ensures { λ _. ⌜ reading (now (book .exit)) ≡ markedAll g on v from to (reading (now (book .entry))) ⌝ }
 {
     let mut i = from;
     while i < to {

@@ -9,6 +9,7 @@ ghost use lib.Dec.{eqb};
 ghost use lib.ListN.{length};
 ghost use Rattle.book.specs.Grids.{Fits};
 ghost use Rattle.apply.specs.Stores.{puts, filled, cleared, sweptRow, swept};
+ghost use Rattle.book.specs.Lent.{reading, Lies};
 
 // What a cell holds: the entry, and the words beside it, as many as the cell has.
 pub struct Content {
@@ -25,9 +26,9 @@ pub const EMPTY: Content = Content {
 
 // The words of a cell at place n.
 fn store(book: &mut [u32], n: usize, width: u32, c: Content)
-    requires { ⌜ n + width ≤ length (now book) ⌝ }
+    requires { ⌜ n + width ≤ length (reading (now book)) ⌝ }
     requires { ⌜ (1 ≤ width) × (width ≤ 3) ⌝ }
-    ensures { λ _. ⌜ now (book .exit) ≡ puts c n width (now (book .entry)) ⌝ }
+    ensures { λ _. ⌜ reading (now (book .exit)) ≡ puts c n width (reading (now (book .entry))) ⌝ }
 {
     book[n] = c.entry;
     if width == 1 {
@@ -42,11 +43,11 @@ fn store(book: &mut [u32], n: usize, width: u32, c: Content)
 
 // The cell of one item in each slot from `from` to before `to`.
 pub fn fill(book: &mut [u32], g: Grid, item: u32, c: Content, from: u32, to: u32)
-    requires { ⌜ Fits g (length (now book)) ⌝ }
+    requires { ⌜ Lies g (reading (now book)) ⌝ }
     requires { ⌜ g .width ≤ 3 ⌝ }
     requires { ⌜ to ≤ g .slots ⌝ }
     requires { ⌜ item < g .items ⌝ }
-    ensures { λ _. ⌜ now (book .exit) ≡ filled g item c from to (now (book .entry)) ⌝ }
+    ensures { λ _. ⌜ reading (now (book .exit)) ≡ filled g item c from to (reading (now (book .entry))) ⌝ }
 {
     let width = g.width;
     let mut i = from;
@@ -59,11 +60,11 @@ pub fn fill(book: &mut [u32], g: Grid, item: u32, c: Content, from: u32, to: u32
 
 // A cell that holds w becomes empty, all its words.
 fn clear(book: &mut [u32], g: Grid, slot: u32, item: u32, w: u32)
-    requires { ⌜ Fits g (length (now book)) ⌝ }
+    requires { ⌜ Lies g (reading (now book)) ⌝ }
     requires { ⌜ g .width ≤ 3 ⌝ }
     requires { ⌜ slot < g .slots ⌝ }
     requires { ⌜ item < g .items ⌝ }
-    ensures { λ _. ⌜ now (book .exit) ≡ cleared g w slot item (now (book .entry)) ⌝ }
+    ensures { λ _. ⌜ reading (now (book .exit)) ≡ cleared g w slot item (reading (now (book .entry))) ⌝ }
 {
     let width = g.width;
     let n = at(g, slot, item);
@@ -75,10 +76,10 @@ fn clear(book: &mut [u32], g: Grid, slot: u32, item: u32, w: u32)
 
 // The cells of a slot, of any number of words.
 fn sweep_cells(book: &mut [u32], g: Grid, slot: u32, w: u32)
-    requires { ⌜ Fits g (length (now book)) ⌝ }
+    requires { ⌜ Lies g (reading (now book)) ⌝ }
     requires { ⌜ g .width ≤ 3 ⌝ }
     requires { ⌜ slot < g .slots ⌝ }
-    ensures { λ _. ⌜ now (book .exit) ≡ sweptRow g w slot (now (book .entry)) ⌝ }
+    ensures { λ _. ⌜ reading (now (book .exit)) ≡ sweptRow g w slot (reading (now (book .entry))) ⌝ }
 {
     let items = g.items;
     let mut j: u32 = 0;
@@ -90,10 +91,10 @@ fn sweep_cells(book: &mut [u32], g: Grid, slot: u32, w: u32)
 
 // The cells of the slots from `from` to before `to`, slot by slot.
 fn sweep_rows(book: &mut [u32], g: Grid, w: u32, from: u32, to: u32)
-    requires { ⌜ Fits g (length (now book)) ⌝ }
+    requires { ⌜ Lies g (reading (now book)) ⌝ }
     requires { ⌜ g .width ≤ 3 ⌝ }
     requires { ⌜ to ≤ g .slots ⌝ }
-    ensures { λ _. ⌜ now (book .exit) ≡ swept g w from to (now (book .entry)) ⌝ }
+    ensures { λ _. ⌜ reading (now (book .exit)) ≡ swept g w from to (reading (now (book .entry))) ⌝ }
 {
     let mut i = from;
     while i < to {
@@ -115,10 +116,10 @@ fn unless(x: u32, w: u32) -> u32
 // The same of cells of one word: their rows stand one behind the other, and are swept as one run of words without a branch, of which
 // the compiler takes several at once.
 fn sweep_run(book: &mut [u32], g: Grid, w: u32, from: u32, to: u32)
-    requires { ⌜ Fits g (length (now book)) ⌝ }
+    requires { ⌜ Lies g (reading (now book)) ⌝ }
     requires { ⌜ (g .width ≡ 1) × (1 ≤ g .items) ⌝ }
     requires { ⌜ (from < to) × (to ≤ g .slots) ⌝ }
-    ensures { λ _. ⌜ now (book .exit) ≡ swept g w from to (now (book .entry)) ⌝ }
+    ensures { λ _. ⌜ reading (now (book .exit)) ≡ swept g w from to (reading (now (book .entry))) ⌝ }
 {
     let start = at(g, from, 0);
     let end = start + ((to - from) as usize) * (g.items as usize);
@@ -132,11 +133,11 @@ fn sweep_run(book: &mut [u32], g: Grid, w: u32, from: u32, to: u32)
 
 // Every cell that holds w in the slots from `from` to before `to`. Rows of one-word cells without w are only read.
 pub fn sweep(book: &mut [u32], g: Grid, w: u32, from: u32, to: u32)
-    requires { ⌜ Fits g (length (now book)) ⌝ }
+    requires { ⌜ Lies g (reading (now book)) ⌝ }
     requires { ⌜ g .width ≤ 3 ⌝ }
     requires { ⌜ 1 ≤ g .items ⌝ }
     requires { ⌜ to ≤ g .slots ⌝ }
-    ensures { λ _. ⌜ now (book .exit) ≡ swept g w from to (now (book .entry)) ⌝ }
+    ensures { λ _. ⌜ reading (now (book .exit)) ≡ swept g w from to (reading (now (book .entry))) ⌝ }
 {
     if g.width != 1 {
         sweep_rows(book, g, w, from, to);

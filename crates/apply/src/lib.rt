@@ -22,14 +22,15 @@ ghost use Rattle.model.specs.Reading.{stateOf};
 ghost use Rattle.book.specs.Grids.{gridsOf};
 ghost use Rattle.book.specs.Good.{Good};
 ghost use Rattle.apply.specs.Accepted.{accepted};
+ghost use Rattle.book.specs.Lent.{reading};
 
 // Kind 3. A visitor without leave on the dates has no entry there: nothing is erased.
 fn remove(book: &mut [u32], s: Settings, g: Grids, r: Request)
-    requires { ⌜ Good s (now book) ⌝ }
+    requires { ⌜ Good s (reading (now book)) ⌝ }
     requires { ⌜ g ≡ gridsOf s ⌝ }
-    requires { ⌜ accepted (step (stateOf (now book)) r .answer) ≡ true ⌝ }
+    requires { ⌜ accepted (step (stateOf (reading (now book))) r .answer) ≡ true ⌝ }
     requires { ⌜ r .kind ≡ 3 ⌝ }
-    ensures { λ _. ⌜ now (book .exit) ≡ words (step (stateOf (now (book .entry))) r .state) ⌝ }
+    ensures { λ _. ⌜ reading (now (book .exit)) ≡ words (step (stateOf (reading (now (book .entry)))) r .state) ⌝ }
 {
     if !some_leave(book, s, g, r.b, r.first, r.last) {
         return;
@@ -39,10 +40,10 @@ fn remove(book: &mut [u32], s: Settings, g: Grids, r: Request)
 
 // The book afterwards is the words of the machine's state.
 pub fn apply(book: &mut [u32], s: Settings, g: Grids, r: Request)
-    requires { ⌜ Good s (now book) ⌝ }
+    requires { ⌜ Good s (reading (now book)) ⌝ }
     requires { ⌜ g ≡ gridsOf s ⌝ }
-    requires { ⌜ accepted (step (stateOf (now book)) r .answer) ≡ true ⌝ }
-    ensures { λ _. ⌜ now (book .exit) ≡ words (step (stateOf (now (book .entry))) r .state) ⌝ }
+    requires { ⌜ accepted (step (stateOf (reading (now book))) r .answer) ≡ true ⌝ }
+    ensures { λ _. ⌜ reading (now (book .exit)) ≡ words (step (stateOf (reading (now (book .entry)))) r .state) ⌝ }
 {
     let kind = r.kind;
     match kind {

@@ -18,6 +18,7 @@ ghost use mathlib.Core.Bool.{false};
 ghost use Rattle.model.specs.Site.{dateOfSession};
 ghost use Rattle.book.specs.Grids.{gridsOf, Laid};
 ghost use Rattle.apply.specs.Stores.{Span, full, empty, filled, swept, markedAll, Removed};
+ghost use Rattle.book.specs.Lent.{reading};
 
 // One entry into the cells of an item, with the words beside it.
 pub fn add(
@@ -30,10 +31,10 @@ pub fn add(
     first: u32,
     last: u32,
 )
-    requires { ⌜ Span g (length (now book)) last ⌝ }
+    requires { ⌜ Span g (length (reading (now book))) last ⌝ }
     requires { ⌜ item < g .items ⌝ }
     requires { ⌜ who < 1000 ⌝ }
-    ensures { λ _. ⌜ now (book .exit) ≡ filled g item (full who second third) first (last + 1) (now (book .entry)) ⌝ }
+    ensures { λ _. ⌜ reading (now (book .exit)) ≡ filled g item (full who second third) first (last + 1) (reading (now (book .entry))) ⌝ }
 {
     let c = Content {
         entry: who + 1,
@@ -45,38 +46,38 @@ pub fn add(
 
 // The cells of an item emptied.
 pub fn take(book: &mut [u32], g: Grid, item: u32, first: u32, last: u32)
-    requires { ⌜ Span g (length (now book)) last ⌝ }
+    requires { ⌜ Span g (length (reading (now book))) last ⌝ }
     requires { ⌜ item < g .items ⌝ }
-    ensures { λ _. ⌜ now (book .exit) ≡ filled g item empty first (last + 1) (now (book .entry)) ⌝ }
+    ensures { λ _. ⌜ reading (now (book .exit)) ≡ filled g item empty first (last + 1) (reading (now (book .entry))) ⌝ }
 {
     fill(book, g, item, EMPTY, first, last + 1);
 }
 
 // One entry erased from every cell that holds it.
 pub fn drop(book: &mut [u32], g: Grid, who: u32, first: u32, last: u32)
-    requires { ⌜ Span g (length (now book)) last ⌝ }
+    requires { ⌜ Span g (length (reading (now book))) last ⌝ }
     requires { ⌜ who < 1000 ⌝ }
-    ensures { λ _. ⌜ now (book .exit) ≡ swept g (who + 1) first (last + 1) (now (book .entry)) ⌝ }
+    ensures { λ _. ⌜ reading (now (book .exit)) ≡ swept g (who + 1) first (last + 1) (reading (now (book .entry))) ⌝ }
 {
     sweep(book, g, who + 1, first, last + 1);
 }
 
 // A member's bit set or cleared.
 pub fn turn(book: &mut [u32], g: Grid, on: bool, v: u32, first: u32, last: u32)
-    requires { ⌜ Span g (length (now book)) last ⌝ }
+    requires { ⌜ Span g (length (reading (now book))) last ⌝ }
     requires { ⌜ v / 32 < g .items ⌝ }
-    ensures { λ _. ⌜ now (book .exit) ≡ markedAll g on v first (last + 1) (now (book .entry)) ⌝ }
+    ensures { λ _. ⌜ reading (now (book .exit)) ≡ markedAll g on v first (last + 1) (reading (now (book .entry))) ⌝ }
 {
     mark_all(book, g, on, v, first, last + 1);
 }
 
 // Kind 9: the meeting no longer stands, and nobody attends it.
 pub fn end_standing(book: &mut [u32], g: Grids, a: u32, first: u32, last: u32)
-    requires { ⌜ Span (g .standing) (length (now book)) last ⌝ }
-    requires { ⌜ Span (g .attend) (length (now book)) last ⌝ }
+    requires { ⌜ Span (g .standing) (length (reading (now book))) last ⌝ }
+    requires { ⌜ Span (g .attend) (length (reading (now book))) last ⌝ }
     requires { ⌜ a / 32 < g .standing .items ⌝ }
     requires { ⌜ a < 1000 ⌝ }
-    ensures { λ _. ⌜ now (book .exit) ≡ swept (g .attend) (a + 1) first (last + 1) (markedAll (g .standing) false a first (last + 1) (now (book .entry))) ⌝ }
+    ensures { λ _. ⌜ reading (now (book .exit)) ≡ swept (g .attend) (a + 1) first (last + 1) (markedAll (g .standing) false a first (last + 1) (reading (now (book .entry)))) ⌝ }
 {
     turn(book, g.standing, false, a, first, last);
     drop(book, g.attend, a, first, last);
@@ -84,11 +85,11 @@ pub fn end_standing(book: &mut [u32], g: Grids, a: u32, first: u32, last: u32)
 
 // Kind 16: the meeting's conference rooms, and its lunches on the dates from first's to last's.
 pub fn erase_conf_and_lunch(book: &mut [u32], s: Settings, g: Grids, b: u32, first: u32, last: u32)
-    requires { ⌜ Laid s (now book) ⌝ }
+    requires { ⌜ Laid s (reading (now book)) ⌝ }
     requires { ⌜ g ≡ gridsOf s ⌝ }
     requires { ⌜ last < g .conf .slots ⌝ }
     requires { ⌜ b < s .meetings ⌝ }
-    ensures { λ _. ⌜ now (book .exit) ≡ filled (g .lunch) b empty (dateOfSession s first) (dateOfSession s last + 1) (swept (g .conf) (b + 1) first (last + 1) (now (book .entry))) ⌝ }
+    ensures { λ _. ⌜ reading (now (book .exit)) ≡ filled (g .lunch) b empty (dateOfSession s first) (dateOfSession s last + 1) (swept (g .conf) (b + 1) first (last + 1) (reading (now (book .entry)))) ⌝ }
 {
     drop(book, g.conf, b, first, last);
     let from = date_of_session(s, Session(first));
@@ -99,12 +100,12 @@ pub fn erase_conf_and_lunch(book: &mut [u32], s: Settings, g: Grids, b: u32, fir
 // Kind 3: the visitor's leave, their hotel rooms on those dates, their rides at the times and their meetings in the sessions on those
 // dates.
 pub fn remove_visitor(book: &mut [u32], s: Settings, g: Grids, v: u32, first: u32, last: u32)
-    requires { ⌜ Laid s (now book) ⌝ }
+    requires { ⌜ Laid s (reading (now book)) ⌝ }
     requires { ⌜ g ≡ gridsOf s ⌝ }
     requires { ⌜ first ≤ last ⌝ }
     requires { ⌜ last < s .dates ⌝ }
     requires { ⌜ v < s .visitors ⌝ }
-    ensures { λ _. ⌜ Removed s v first last (now (book .entry)) (now (book .exit)) ⌝ }
+    ensures { λ _. ⌜ Removed s v first last (reading (now (book .entry))) (reading (now (book .exit))) ⌝ }
 {
     turn(book, g.leave, false, v, first, last);
     drop(book, g.hotel, v, first, last);

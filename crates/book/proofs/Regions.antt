@@ -12,6 +12,7 @@ use lib.ListN.{length}
 use Rattle.book.specs.declared.grid.Grid.{Grid}
 use Rattle.book.specs.Grids.{Fits, Small, end}
 use Rattle.book.specs.Grids.{gridOf, Laid}
+use Rattle.book.specs.Lent.{Lies}
 use Rattle.book.specs.Units.{unitOf}
 use Rattle.model.specs.declared.Settings.{Settings}
 use Rattle.book.specs.Ranges.{Ranges}
@@ -130,3 +131,8 @@ some-item S r attendCells = r .visitors .0
 some-item S r confPairs = r .rooms .0
 some-item S r lunchTriples = r .meetings .0
 some-item S r rideCells = r .transports .0
+
+-- the same of the words of a lent book
+pub lies : (S : Settings) (b : List ℕ) → Laid S b → (g : Region) → Lies (gridOf S g) b
+unfolding Lies
+lies S b l g = fits S b l g

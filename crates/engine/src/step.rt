@@ -10,11 +10,12 @@ ghost use Rattle.model.specs.Machine;
 ghost use Rattle.model.specs.Reading.{stateOf};
 ghost use Rattle.model.specs.Calls.{called};
 ghost use Rattle.book.specs.Good.{Good, answered};
+ghost use Rattle.book.specs.Lent.{reading};
 
 // The grids are computed in the step because they are a few products, and a struct of that size passed by value is copied at every call.
 pub fn step(book: &mut [u32], s: Settings, r: Request) -> Answer
-    requires { ⌜ Good s (now book) ⌝ }
-    ensures { λ a. ⌜ answered a (now (book .exit)) ≡ called (Machine.step (stateOf (now (book .entry))) r) ⌝ }
+    requires { ⌜ Good s (reading (now book)) ⌝ }
+    ensures { λ a. ⌜ answered a (reading (now (book .exit))) ≡ called (Machine.step (stateOf (reading (now (book .entry)))) r) ⌝ }
 {
     let g = grids_of(s);
     let answer = judge(book, s, g, r);

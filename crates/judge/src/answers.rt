@@ -38,6 +38,7 @@ ghost use Rattle.book.specs.Grids.{Fits, gridsOf};
 ghost use Rattle.book.specs.Units.{unitOf};
 ghost use Rattle.judge.specs.Rows.{Ready, rowAt};
 ghost use Rattle.judge.specs.Chains.{asked, addStay, attendAdds, confAdds, lunchAdds, lunchFits, standingEnds, eraseAll, erasePair, foundOr, answerAt};
+ghost use Rattle.book.specs.Lent.{reading, Lies};
 
 // Done with 0 where the last question found no slot, or refused with its number at the slot found.
 fn settled(number: u32, f: Found) -> Answer
@@ -67,14 +68,14 @@ fn add_stay(
     first: u32,
     last: u32,
 ) -> Answer
-    requires { ⌜ Good s (now book) ⌝ }
+    requires { ⌜ Good s (reading (now book)) ⌝ }
     requires { ⌜ leave ≡ gridsOf s .leave ⌝ }
-    requires { ⌜ Fits cells (length (now book)) ⌝ }
+    requires { ⌜ Lies cells (reading (now book)) ⌝ }
     requires { ⌜ last < slotsOf s (unitOf u) ⌝ }
     requires { ⌜ last < cells .slots ⌝ }
     requires { ⌜ a < cells .items ⌝ }
     requires { ⌜ b < s .visitors ⌝ }
-    ensures { λ r. ⌜ r ≡ addStay s (now (book .entry)) cells u a b first last ⌝ }
+    ensures { λ r. ⌜ r ≡ addStay s (reading (now (book .entry))) cells u a b first last ⌝ }
 {
     if let Found::At(i) = first_off_leave(book, s, leave, u, b, first, last) {
         return refused(9, i);
@@ -93,12 +94,12 @@ fn add_stay(
 
 // Kind 10.
 fn add_attend(book: &[u32], s: Settings, g: Grids, a: u32, b: u32, first: u32, last: u32) -> Answer
-    requires { ⌜ Good s (now book) ⌝ }
+    requires { ⌜ Good s (reading (now book)) ⌝ }
     requires { ⌜ g ≡ gridsOf s ⌝ }
     requires { ⌜ last < allSessions s ⌝ }
     requires { ⌜ a < s .meetings ⌝ }
     requires { ⌜ b < s .visitors ⌝ }
-    ensures { λ r. ⌜ r ≡ attendAdds s (now (book .entry)) (g .attend) a b first last ⌝ }
+    ensures { λ r. ⌜ r ≡ attendAdds s (reading (now (book .entry))) (g .attend) a b first last ⌝ }
 {
     let leave = g.leave;
     if let Found::At(i) = first_off_leave(book, s, leave, Slot::Sessions, b, first, last) {
@@ -120,12 +121,12 @@ fn add_attend(book: &[u32], s: Settings, g: Grids, a: u32, b: u32, first: u32, l
 
 // Kind 12.
 fn add_conf(book: &[u32], s: Settings, g: Grids, a: u32, b: u32, first: u32, last: u32) -> Answer
-    requires { ⌜ Good s (now book) ⌝ }
+    requires { ⌜ Good s (reading (now book)) ⌝ }
     requires { ⌜ g ≡ gridsOf s ⌝ }
     requires { ⌜ last < allSessions s ⌝ }
     requires { ⌜ a < s .rooms ⌝ }
     requires { ⌜ b < s .meetings ⌝ }
-    ensures { λ r. ⌜ r ≡ confAdds s (now (book .entry)) (g .conf) a b first last ⌝ }
+    ensures { λ r. ⌜ r ≡ confAdds s (reading (now (book .entry))) (g .conf) a b first last ⌝ }
 {
     let standing = g.standing;
     if let Found::At(i) = first_not_member(book, standing, b, first, last) {
@@ -152,13 +153,13 @@ fn add_lunch(
     first: u32,
     last: u32,
 ) -> Answer
-    requires { ⌜ Good s (now book) ⌝ }
+    requires { ⌜ Good s (reading (now book)) ⌝ }
     requires { ⌜ g ≡ gridsOf s ⌝ }
     requires { ⌜ last < s .dates ⌝ }
     requires { ⌜ a < s .dining ⌝ }
     requires { ⌜ b < s .meetings ⌝ }
     requires { ⌜ n ≤ 1000 ⌝ }
-    ensures { λ r. ⌜ r ≡ lunchAdds s (now (book .entry)) (g .lunch) a b n first last ⌝ }
+    ensures { λ r. ⌜ r ≡ lunchAdds s (reading (now (book .entry))) (g .lunch) a b n first last ⌝ }
 {
     if let Found::At(i) = first_without_session(book, s, g, b, first, last) {
         return refused(10, i);
@@ -184,12 +185,12 @@ fn lunch_fits(
     first: u32,
     last: u32,
 ) -> Answer
-    requires { ⌜ Good s (now book) ⌝ }
+    requires { ⌜ Good s (reading (now book)) ⌝ }
     requires { ⌜ g ≡ gridsOf s ⌝ }
     requires { ⌜ last < s .dates ⌝ }
     requires { ⌜ a < s .dining ⌝ }
     requires { ⌜ b < s .meetings ⌝ }
-    ensures { λ r. ⌜ r ≡ lunchFits s (now (book .entry)) (g .lunch) a b n first last ⌝ }
+    ensures { λ r. ⌜ r ≡ lunchFits s (reading (now (book .entry))) (g .lunch) a b n first last ⌝ }
 {
     if n < 1 {
         return refused(8, 0);
@@ -202,11 +203,11 @@ fn lunch_fits(
 
 // Kind 9.
 fn end_standing(book: &[u32], s: Settings, g: Grids, a: u32, first: u32, last: u32) -> Answer
-    requires { ⌜ Good s (now book) ⌝ }
+    requires { ⌜ Good s (reading (now book)) ⌝ }
     requires { ⌜ g ≡ gridsOf s ⌝ }
     requires { ⌜ last < allSessions s ⌝ }
     requires { ⌜ a < s .meetings ⌝ }
-    ensures { λ r. ⌜ r ≡ standingEnds s (now (book .entry)) a first last ⌝ }
+    ensures { λ r. ⌜ r ≡ standingEnds s (reading (now (book .entry))) a first last ⌝ }
 {
     if let Found::At(i) = first_held(book, s, g, a, first, last) {
         return refused(19, i);
@@ -217,11 +218,11 @@ fn end_standing(book: &[u32], s: Settings, g: Grids, a: u32, first: u32, last: u
 
 // Kind 16: a conference room in each session, and a lunch on each date from first's to last's.
 fn erase_all(book: &[u32], s: Settings, g: Grids, b: u32, first: u32, last: u32) -> Answer
-    requires { ⌜ Good s (now book) ⌝ }
+    requires { ⌜ Good s (reading (now book)) ⌝ }
     requires { ⌜ g ≡ gridsOf s ⌝ }
     requires { ⌜ last < allSessions s ⌝ }
     requires { ⌜ b < s .meetings ⌝ }
-    ensures { λ r. ⌜ r ≡ eraseAll s (now (book .entry)) b first last ⌝ }
+    ensures { λ r. ⌜ r ≡ eraseAll s (reading (now (book .entry))) b first last ⌝ }
 {
     let pairs = g.conf;
     if let Found::At(i) = first_row_without(book, pairs, b + 1, first, last) {
@@ -235,10 +236,10 @@ fn erase_all(book: &[u32], s: Settings, g: Grids, b: u32, first: u32, last: u32)
 
 // Kinds 5, 7, 11 and 15: the item's cell holds w in each slot.
 fn erase(book: &[u32], cells: Grid, item: u32, w: u32, first: u32, last: u32) -> Answer
-    requires { ⌜ Fits cells (length (now book)) ⌝ }
+    requires { ⌜ Lies cells (reading (now book)) ⌝ }
     requires { ⌜ last < cells .slots ⌝ }
     requires { ⌜ item < cells .items ⌝ }
-    ensures { λ r. ⌜ r ≡ erasePair (now (book .entry)) cells item w first last ⌝ }
+    ensures { λ r. ⌜ r ≡ erasePair (reading (now (book .entry))) cells item w first last ⌝ }
 {
     settled(
         15,
@@ -258,23 +259,23 @@ fn found_or(number: u32, place: u32, f: Found) -> Answer
 
 // Kind 19.
 fn seats_left(book: &[u32], s: Settings, g: Grids, date: u32, room: u32) -> u32
-    requires { ⌜ Good s (now book) ⌝ }
+    requires { ⌜ Good s (reading (now book)) ⌝ }
     requires { ⌜ g ≡ gridsOf s ⌝ }
     requires { ⌜ date < s .dates ⌝ }
     requires { ⌜ room < s .dining ⌝ }
-    ensures { λ r. ⌜ r ≡ capacityOf s room - reservedIn (stateOf (now (book .entry))) date room ⌝ }
+    ensures { λ r. ⌜ r ≡ capacityOf s room - reservedIn (stateOf (reading (now (book .entry)))) date room ⌝ }
 {
     capacity(s, room) - reserved(book, s, g, date, room)
 }
 
 // Kinds 1 to 7: a visitor's leave, hotel rooms and rides.
 fn of_visitor(book: &[u32], s: Settings, g: Grids, r: Request) -> Answer
-    requires { ⌜ Good s (now book) ⌝ }
+    requires { ⌜ Good s (reading (now book)) ⌝ }
     requires { ⌜ g ≡ gridsOf s ⌝ }
     requires { ⌜ 1 ≤ r .kind ⌝ }
     requires { ⌜ r .kind ≤ 7 ⌝ }
     requires { ⌜ Ready s (rowAt (r .kind)) r ⌝ }
-    ensures { λ a. ⌜ a ≡ answerAt (now (book .entry)) r ⌝ }
+    ensures { λ a. ⌜ a ≡ answerAt (reading (now (book .entry))) r ⌝ }
 {
     let kind = r.kind;
     match kind {
@@ -304,12 +305,12 @@ fn of_visitor(book: &[u32], s: Settings, g: Grids, r: Request) -> Answer
 
 // The answer of a request whose questions up to 7 are answered yes; the last kind is 20.
 pub fn answer(book: &[u32], s: Settings, g: Grids, r: Request) -> Answer
-    requires { ⌜ Good s (now book) ⌝ }
+    requires { ⌜ Good s (reading (now book)) ⌝ }
     requires { ⌜ g ≡ gridsOf s ⌝ }
     requires { ⌜ 1 ≤ r .kind ⌝ }
     requires { ⌜ r .kind ≤ 20 ⌝ }
     requires { ⌜ Ready s (rowAt (r .kind)) r ⌝ }
-    ensures { λ a. ⌜ a ≡ answerAt (now (book .entry)) r ⌝ }
+    ensures { λ a. ⌜ a ≡ answerAt (reading (now (book .entry))) r ⌝ }
 {
     let kind = r.kind;
     if kind < 8 {

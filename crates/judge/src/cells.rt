@@ -10,6 +10,7 @@ ghost use Rattle.model.specs.Bounded.{failing};
 ghost use Rattle.book.specs.Founds.{foundOf};
 ghost use Rattle.book.specs.Grids.{Fits};
 ghost use Rattle.judge.specs.Asked.{holdsAt};
+ghost use Rattle.book.specs.Lent.{reading, Lies};
 
 // What is asked of an item's cell and a word w, in a slot.
 pub enum Ask {
@@ -26,10 +27,10 @@ pub enum Ask {
 }
 
 fn holds(book: &[u32], g: Grid, q: Ask, item: u32, w: u32, slot: u32) -> bool
-    requires { ⌜ Fits g (length (now book)) ⌝ }
+    requires { ⌜ Lies g (reading (now book)) ⌝ }
     requires { ⌜ slot < g .slots ⌝ }
     requires { ⌜ item < g .items ⌝ }
-    ensures { λ r. ⌜ r ≡ holdsAt g (now (book .entry)) q item w slot ⌝ }
+    ensures { λ r. ⌜ r ≡ holdsAt g (reading (now (book .entry))) q item w slot ⌝ }
 {
     match q {
         Ask::Absent => cell(book, g, slot, item) != w,
@@ -56,10 +57,10 @@ pub fn first_failing(
     first: u32,
     last: u32,
 ) -> Found
-    requires { ⌜ Fits g (length (now book)) ⌝ }
+    requires { ⌜ Lies g (reading (now book)) ⌝ }
     requires { ⌜ last < g .slots ⌝ }
     requires { ⌜ item < g .items ⌝ }
-    ensures { λ r. ⌜ r ≡ foundOf (failing (holdsAt g (now (book .entry)) q item w) first last) ⌝ }
+    ensures { λ r. ⌜ r ≡ foundOf (failing (holdsAt g (reading (now (book .entry))) q item w) first last) ⌝ }
 {
     let mut i = first;
     while i <= last {

@@ -13,15 +13,16 @@ ghost use Rattle.model.specs.Machine.{step};
 ghost use Rattle.model.specs.Reading.{stateOf};
 ghost use Rattle.book.specs.Good.{Good};
 ghost use Rattle.book.specs.Grids.{gridsOf};
+ghost use Rattle.book.specs.Lent.{reading};
 
 // The number of the last kind.
 const LAST_KIND: u32 = 20;
 
 // Every answer of the machine from question 3 on.
 pub fn judge(book: &[u32], s: Settings, g: Grids, r: Request) -> Answer
-    requires { ⌜ Good s (now book) ⌝ }
+    requires { ⌜ Good s (reading (now book)) ⌝ }
     requires { ⌜ g ≡ gridsOf s ⌝ }
-    ensures { λ a. ⌜ a ≡ step (stateOf (now (book .entry))) r .answer ⌝ }
+    ensures { λ a. ⌜ a ≡ step (stateOf (reading (now (book .entry)))) r .answer ⌝ }
 {
     let kind = r.kind;
     if kind == 0 {

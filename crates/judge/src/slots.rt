@@ -31,6 +31,7 @@ ghost use Rattle.book.specs.Ranges.{Ranges};
 ghost use Rattle.book.specs.Rows.{rowHas};
 ghost use Rattle.book.specs.Units.{unitOf};
 ghost use Rattle.judge.specs.Asked.{OnLeave, RoomLeft, NoBookings, NotHeld, holdsIn, roomLeft, notHeld};
+ghost use Rattle.book.specs.Lent.{reading, Lies};
 
 // The seat capacity of a dining room.
 pub fn capacity(s: Settings, room: u32) -> u32
@@ -45,23 +46,23 @@ pub fn capacity(s: Settings, room: u32) -> u32
 
 // Question 14 on one date.
 fn room_left(book: &[u32], s: Settings, g: Grids, date: u32, room: u32, n: u32) -> bool
-    requires { ⌜ Good s (now book) ⌝ }
+    requires { ⌜ Good s (reading (now book)) ⌝ }
     requires { ⌜ g ≡ gridsOf s ⌝ }
     requires { ⌜ date < s .dates ⌝ }
     requires { ⌜ room < s .dining ⌝ }
     requires { ⌜ n ≤ 1000 ⌝ }
-    ensures { λ r. ⌜ r ≡ roomLeft s (stateOf (now (book .entry))) date room n ⌝ }
+    ensures { λ r. ⌜ r ≡ roomLeft s (stateOf (reading (now (book .entry)))) date room n ⌝ }
 {
     reserved(book, s, g, date, room) + n <= capacity(s, room)
 }
 
 // Question 19 in one session.
 fn not_held(book: &[u32], s: Settings, g: Grids, session: u32, meeting: u32) -> bool
-    requires { ⌜ Good s (now book) ⌝ }
+    requires { ⌜ Good s (reading (now book)) ⌝ }
     requires { ⌜ g ≡ gridsOf s ⌝ }
     requires { ⌜ session < allSessions s ⌝ }
     requires { ⌜ meeting < s .meetings ⌝ }
-    ensures { λ r. ⌜ r ≡ notHeld s (stateOf (now (book .entry))) session meeting ⌝ }
+    ensures { λ r. ⌜ r ≡ notHeld s (stateOf (reading (now (book .entry)))) session meeting ⌝ }
 {
     let date = date_of_session(s, Session(session));
     let lunch = lunch_held(book, s, g, date.0, meeting);
@@ -82,11 +83,11 @@ pub fn first_off_leave(
     first: u32,
     last: u32,
 ) -> Found
-    requires { ⌜ Good s (now book) ⌝ }
+    requires { ⌜ Good s (reading (now book)) ⌝ }
     requires { ⌜ leave ≡ gridsOf s .leave ⌝ }
     requires { ⌜ last < slotsOf s (unitOf u) ⌝ }
     requires { ⌜ visitor < s .visitors ⌝ }
-    ensures { λ r. ⌜ r ≡ foundOf (failing (holdsIn s (stateOf (now (book .entry))) (OnLeave u) visitor 0) first last) ⌝ }
+    ensures { λ r. ⌜ r ≡ foundOf (failing (holdsIn s (stateOf (reading (now (book .entry)))) (OnLeave u) visitor 0) first last) ⌝ }
 {
     let mut i = first;
     while i <= last {
@@ -101,10 +102,10 @@ pub fn first_off_leave(
 
 // Question 10 of kinds 10 and 12: the lowest slot of first..last in which v is not in the pool.
 pub fn first_not_member(book: &[u32], pool: Grid, v: u32, first: u32, last: u32) -> Found
-    requires { ⌜ Fits pool (length (now book)) ⌝ }
+    requires { ⌜ Lies pool (reading (now book)) ⌝ }
     requires { ⌜ last < pool .slots ⌝ }
     requires { ⌜ v / 32 < pool .items ⌝ }
-    ensures { λ r. ⌜ r ≡ foundOf (failing (λ i. bit (cellAt pool (now (book .entry)) i (v / 32)) (v % 32)) first last) ⌝ }
+    ensures { λ r. ⌜ r ≡ foundOf (failing (λ i. bit (cellAt pool (reading (now (book .entry))) i (v / 32)) (v % 32)) first last) ⌝ }
 {
     let mut i = first;
     while i <= last {
@@ -126,12 +127,12 @@ pub fn first_over(
     first: u32,
     last: u32,
 ) -> Found
-    requires { ⌜ Good s (now book) ⌝ }
+    requires { ⌜ Good s (reading (now book)) ⌝ }
     requires { ⌜ g ≡ gridsOf s ⌝ }
     requires { ⌜ last < s .dates ⌝ }
     requires { ⌜ room < s .dining ⌝ }
     requires { ⌜ n ≤ 1000 ⌝ }
-    ensures { λ r. ⌜ r ≡ foundOf (failing (holdsIn s (stateOf (now (book .entry))) RoomLeft room n) first last) ⌝ }
+    ensures { λ r. ⌜ r ≡ foundOf (failing (holdsIn s (stateOf (reading (now (book .entry)))) RoomLeft room n) first last) ⌝ }
 {
     let mut i = first;
     while i <= last {
@@ -145,9 +146,9 @@ pub fn first_over(
 
 // Questions 16 and 20: the lowest slot of first..last in which no cell holds w.
 pub fn first_row_without(book: &[u32], cells: Grid, w: u32, first: u32, last: u32) -> Found
-    requires { ⌜ Fits cells (length (now book)) ⌝ }
+    requires { ⌜ Lies cells (reading (now book)) ⌝ }
     requires { ⌜ last < cells .slots ⌝ }
-    ensures { λ r. ⌜ r ≡ foundOf (failing (λ i. rowHas cells (now (book .entry)) i w) first last) ⌝ }
+    ensures { λ r. ⌜ r ≡ foundOf (failing (λ i. rowHas cells (reading (now (book .entry))) i w) first last) ⌝ }
 {
     let mut i = first;
     while i <= last {
@@ -167,10 +168,10 @@ pub fn first_without_lunch(
     first: u32,
     last: u32,
 ) -> Found
-    requires { ⌜ Fits triples (length (now book)) ⌝ }
+    requires { ⌜ Lies triples (reading (now book)) ⌝ }
     requires { ⌜ last < triples .slots ⌝ }
     requires { ⌜ meeting < triples .items ⌝ }
-    ensures { λ r. ⌜ r ≡ foundOf (failing (λ i. not (eqb (cellAt triples (now (book .entry)) i meeting) 0)) first last) ⌝ }
+    ensures { λ r. ⌜ r ≡ foundOf (failing (λ i. not (eqb (cellAt triples (reading (now (book .entry))) i meeting) 0)) first last) ⌝ }
 {
     let mut i = first;
     while i <= last {
@@ -191,11 +192,11 @@ pub fn first_booked(
     first: u32,
     last: u32,
 ) -> Found
-    requires { ⌜ Good s (now book) ⌝ }
+    requires { ⌜ Good s (reading (now book)) ⌝ }
     requires { ⌜ g ≡ gridsOf s ⌝ }
     requires { ⌜ last < s .dates ⌝ }
     requires { ⌜ visitor < s .visitors ⌝ }
-    ensures { λ r. ⌜ r ≡ foundOf (failing (holdsIn s (stateOf (now (book .entry))) NoBookings visitor 0) first last) ⌝ }
+    ensures { λ r. ⌜ r ≡ foundOf (failing (holdsIn s (stateOf (reading (now (book .entry)))) NoBookings visitor 0) first last) ⌝ }
 {
     let mut i = first;
     while i <= last {
@@ -209,11 +210,11 @@ pub fn first_booked(
 
 // Question 19: the lowest session of first..last in which the meeting has a conference room, or a lunch on its date.
 pub fn first_held(book: &[u32], s: Settings, g: Grids, meeting: u32, first: u32, last: u32) -> Found
-    requires { ⌜ Good s (now book) ⌝ }
+    requires { ⌜ Good s (reading (now book)) ⌝ }
     requires { ⌜ g ≡ gridsOf s ⌝ }
     requires { ⌜ last < allSessions s ⌝ }
     requires { ⌜ meeting < s .meetings ⌝ }
-    ensures { λ r. ⌜ r ≡ foundOf (failing (holdsIn s (stateOf (now (book .entry))) NotHeld meeting 0) first last) ⌝ }
+    ensures { λ r. ⌜ r ≡ foundOf (failing (holdsIn s (stateOf (reading (now (book .entry)))) NotHeld meeting 0) first last) ⌝ }
 {
     let mut i = first;
     while i <= last {

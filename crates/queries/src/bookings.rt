@@ -20,13 +20,14 @@ ghost use Rattle.model.specs.Reading.{stateOf};
 ghost use Rattle.book.specs.Grids.{Fits, gridsOf};
 ghost use Rattle.book.specs.Good.{Good};
 ghost use Rattle.queries.specs.Shown.{rowsCount, columnCount};
+ghost use Rattle.book.specs.Lent.{reading, Lies};
 
 // How many cells of the slots lo..hi, hi left out, hold w: rows of one-word cells stand one behind the other.
 pub fn rows_count(book: &[u32], g: Grid, w: u32, lo: u32, hi: u32) -> u32
-    requires { ⌜ Fits g (length (now book)) ⌝ }
+    requires { ⌜ Lies g (reading (now book)) ⌝ }
     requires { ⌜ (g .width ≡ 1) × (1 ≤ g .items) ⌝ }
     requires { ⌜ (lo ≤ hi) × (hi ≤ g .slots) ⌝ }
-    ensures { λ r. ⌜ r ≡ rowsCount g (now (book .entry)) w lo hi ⌝ }
+    ensures { λ r. ⌜ r ≡ rowsCount g (reading (now (book .entry))) w lo hi ⌝ }
 {
     if lo == hi {
         return 0;
@@ -47,10 +48,10 @@ fn full(w: u32) -> u32
 
 // In how many of the slots lo..hi, hi left out, the item's cell is full.
 fn column_count(book: &[u32], g: Grid, item: u32, lo: u32, hi: u32) -> u32
-    requires { ⌜ Fits g (length (now book)) ⌝ }
+    requires { ⌜ Lies g (reading (now book)) ⌝ }
     requires { ⌜ item < g .items ⌝ }
     requires { ⌜ (lo ≤ hi) × (hi ≤ g .slots) × (g .slots ≤ 38400) ⌝ }
-    ensures { λ r. ⌜ r ≡ columnCount g (now (book .entry)) item lo hi ⌝ }
+    ensures { λ r. ⌜ r ≡ columnCount g (reading (now (book .entry))) item lo hi ⌝ }
 {
     let mut n: u32 = 0;
     let mut i = lo;
@@ -63,12 +64,12 @@ fn column_count(book: &[u32], g: Grid, item: u32, lo: u32, hi: u32) -> u32
 
 // The entries of the visitor on the dates from..to, searched for in every slot of theirs.
 fn entries(book: &[u32], s: Settings, g: Grids, visitor: u32, from: u32, to: u32) -> u32
-    requires { ⌜ Good s (now book) ⌝ }
+    requires { ⌜ Good s (reading (now book)) ⌝ }
     requires { ⌜ g ≡ gridsOf s ⌝ }
     requires { ⌜ visitor < s .visitors ⌝ }
     requires { ⌜ from ≤ to ⌝ }
     requires { ⌜ to < s .dates ⌝ }
-    ensures { λ r. ⌜ r ≡ bookingsIn (stateOf (now (book .entry))) visitor from to ⌝ }
+    ensures { λ r. ⌜ r ≡ bookingsIn (stateOf (reading (now (book .entry)))) visitor from to ⌝ }
 {
     let times = slots_on(s, Slot::Times, g.ride.slots, from, to);
     let sessions = slots_on(s, Slot::Sessions, g.attend.slots, from, to);
@@ -80,11 +81,11 @@ fn entries(book: &[u32], s: Settings, g: Grids, visitor: u32, from: u32, to: u32
 
 // Has the visitor leave on some date of from..to?
 pub fn some_leave(book: &[u32], s: Settings, g: Grids, visitor: u32, from: u32, to: u32) -> bool
-    requires { ⌜ Good s (now book) ⌝ }
+    requires { ⌜ Good s (reading (now book)) ⌝ }
     requires { ⌜ g ≡ gridsOf s ⌝ }
     requires { ⌜ visitor < s .visitors ⌝ }
     requires { ⌜ to < s .dates ⌝ }
-    ensures { λ r. ⌜ (r ≡ false → (d : ℕ) → from ≤ d → d ≤ to → stateOf (now (book .entry)) .leave d visitor ≡ false) ⌝ }
+    ensures { λ r. ⌜ (r ≡ false → (d : ℕ) → from ≤ d → d ≤ to → stateOf (reading (now (book .entry))) .leave d visitor ≡ false) ⌝ }
 {
     let mut date = from;
     while date <= to {
@@ -99,11 +100,11 @@ pub fn some_leave(book: &[u32], s: Settings, g: Grids, visitor: u32, from: u32, 
 // The entries of the visitor on the dates from..to: there are none without leave. The grids are computed here, where few products are
 // needed: a copy of all seven for the call would cost more.
 pub fn bookings(book: &[u32], s: Settings, visitor: u32, from: u32, to: u32) -> u32
-    requires { ⌜ Good s (now book) ⌝ }
+    requires { ⌜ Good s (reading (now book)) ⌝ }
     requires { ⌜ visitor < s .visitors ⌝ }
     requires { ⌜ from ≤ to ⌝ }
     requires { ⌜ to < s .dates ⌝ }
-    ensures { λ r. ⌜ r ≡ bookingsIn (stateOf (now (book .entry))) visitor from to ⌝ }
+    ensures { λ r. ⌜ r ≡ bookingsIn (stateOf (reading (now (book .entry)))) visitor from to ⌝ }
 {
     let g = grids_of(s);
     if !some_leave(book, s, g, visitor, from, to) {
@@ -115,11 +116,11 @@ pub fn bookings(book: &[u32], s: Settings, visitor: u32, from: u32, to: u32) -> 
 // Has the visitor an entry on the date? What costs least is asked first: leave, without which there is none, a hotel room, a meeting,
 // and a ride, whose times are many.
 pub fn has_bookings(book: &[u32], s: Settings, g: Grids, visitor: u32, date: u32) -> bool
-    requires { ⌜ Good s (now book) ⌝ }
+    requires { ⌜ Good s (reading (now book)) ⌝ }
     requires { ⌜ g ≡ gridsOf s ⌝ }
     requires { ⌜ visitor < s .visitors ⌝ }
     requires { ⌜ date < s .dates ⌝ }
-    ensures { λ r. ⌜ r ≡ not (eqb (bookingsIn (stateOf (now (book .entry))) visitor date date) 0) ⌝ }
+    ensures { λ r. ⌜ r ≡ not (eqb (bookingsIn (stateOf (reading (now (book .entry)))) visitor date date) 0) ⌝ }
 {
     if !on_leave(book, s, g, Slot::Dates, date, visitor) {
         return false;

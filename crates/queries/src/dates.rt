@@ -18,13 +18,14 @@ ghost use Rattle.model.specs.Reading.{stateOf};
 ghost use Rattle.book.specs.Founds.{foundOf};
 ghost use Rattle.book.specs.Grids.{gridsOf};
 ghost use Rattle.book.specs.Good.{Good};
+ghost use Rattle.book.specs.Lent.{reading};
 
 // How many visitors have leave on the date.
 pub fn members(book: &[u32], s: Settings, g: Grids, date: u32) -> u32
-    requires { ⌜ Good s (now book) ⌝ }
+    requires { ⌜ Good s (reading (now book)) ⌝ }
     requires { ⌜ g ≡ gridsOf s ⌝ }
     requires { ⌜ date < s .dates ⌝ }
-    ensures { λ r. ⌜ r ≡ count (λ v. stateOf (now (book .entry)) .leave date v) (s .visitors) ⌝ }
+    ensures { λ r. ⌜ r ≡ count (λ v. stateOf (reading (now (book .entry))) .leave date v) (s .visitors) ⌝ }
 {
     let start = at(g.leave, date, 0);
     let words = g.leave.items;
@@ -34,11 +35,11 @@ pub fn members(book: &[u32], s: Settings, g: Grids, date: u32) -> u32
 
 // Does the meeting stand in some session of lo..hi, hi left out?
 fn stands_between(book: &[u32], s: Settings, g: Grids, meeting: u32, lo: u32, hi: u32) -> bool
-    requires { ⌜ Good s (now book) ⌝ }
+    requires { ⌜ Good s (reading (now book)) ⌝ }
     requires { ⌜ g ≡ gridsOf s ⌝ }
     requires { ⌜ meeting < s .meetings ⌝ }
     requires { ⌜ hi ≤ allSessions s ⌝ }
-    ensures { λ r. ⌜ r ≡ any (λ i. leb lo i && stateOf (now (book .entry)) .standing i meeting) hi ⌝ }
+    ensures { λ r. ⌜ r ≡ any (λ i. leb lo i && stateOf (reading (now (book .entry))) .standing i meeting) hi ⌝ }
 {
     let mut i = lo;
     while i < hi {
@@ -60,11 +61,11 @@ pub fn first_without_session(
     first: u32,
     last: u32,
 ) -> Found
-    requires { ⌜ Good s (now book) ⌝ }
+    requires { ⌜ Good s (reading (now book)) ⌝ }
     requires { ⌜ g ≡ gridsOf s ⌝ }
     requires { ⌜ meeting < s .meetings ⌝ }
     requires { ⌜ last < s .dates ⌝ }
-    ensures { λ r. ⌜ r ≡ foundOf (failing (λ d. standsOn (stateOf (now (book .entry))) d meeting) first last) ⌝ }
+    ensures { λ r. ⌜ r ≡ foundOf (failing (λ d. standsOn (stateOf (reading (now (book .entry)))) d meeting) first last) ⌝ }
 {
     let sessions = g.standing.slots;
     let mut i = first_on(s, Slot::Sessions, sessions, first);

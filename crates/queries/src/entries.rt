@@ -19,13 +19,14 @@ ghost use Rattle.book.specs.Founds.{foundOf};
 ghost use Rattle.book.specs.Grids.{Fits, cellAt, gridsOf};
 ghost use Rattle.book.specs.Good.{Good};
 ghost use Rattle.book.specs.Units.{unitOf};
+ghost use Rattle.book.specs.Lent.{reading, Lies};
 
 // Bit v of a slot of a pool.
 pub fn member(book: &[u32], g: Grid, slot: u32, v: u32) -> bool
-    requires { ⌜ Fits g (length (now book)) ⌝ }
+    requires { ⌜ Lies g (reading (now book)) ⌝ }
     requires { ⌜ slot < g .slots ⌝ }
     requires { ⌜ v / 32 < g .items ⌝ }
-    ensures { λ r. ⌜ r ≡ bit (cellAt g (now (book .entry)) slot (v / 32)) (v % 32) ⌝ }
+    ensures { λ r. ⌜ r ≡ bit (cellAt g (reading (now (book .entry))) slot (v / 32)) (v % 32) ⌝ }
 {
     let word = cell(book, g, slot, v / 32);
     pool::has(word, v % 32)
@@ -33,11 +34,11 @@ pub fn member(book: &[u32], g: Grid, slot: u32, v: u32) -> bool
 
 // Has the visitor leave on the slot's date?
 pub fn on_leave(book: &[u32], s: Settings, g: Grids, u: Slot, slot: u32, visitor: u32) -> bool
-    requires { ⌜ Good s (now book) ⌝ }
+    requires { ⌜ Good s (reading (now book)) ⌝ }
     requires { ⌜ g ≡ gridsOf s ⌝ }
     requires { ⌜ slot < slotsOf s (unitOf u) ⌝ }
     requires { ⌜ visitor < s .visitors ⌝ }
-    ensures { λ r. ⌜ r ≡ stateOf (now (book .entry)) .leave (dateOf s (unitOf u) slot) visitor ⌝ }
+    ensures { λ r. ⌜ r ≡ stateOf (reading (now (book .entry))) .leave (dateOf s (unitOf u) slot) visitor ⌝ }
 {
     let date = date_of(s, u, slot);
     member(book, g.leave, date.0, visitor)
@@ -45,55 +46,55 @@ pub fn on_leave(book: &[u32], s: Settings, g: Grids, u: Slot, slot: u32, visitor
 
 // Does the meeting stand in the session?
 pub fn stands(book: &[u32], s: Settings, g: Grids, session: u32, meeting: u32) -> bool
-    requires { ⌜ Good s (now book) ⌝ }
+    requires { ⌜ Good s (reading (now book)) ⌝ }
     requires { ⌜ g ≡ gridsOf s ⌝ }
     requires { ⌜ session < allSessions s ⌝ }
     requires { ⌜ meeting < s .meetings ⌝ }
-    ensures { λ r. ⌜ r ≡ stateOf (now (book .entry)) .standing session meeting ⌝ }
+    ensures { λ r. ⌜ r ≡ stateOf (reading (now (book .entry))) .standing session meeting ⌝ }
 {
     member(book, g.standing, session, meeting)
 }
 
 // Has the meeting a conference room in the session?
 pub fn conf_held(book: &[u32], s: Settings, g: Grids, session: u32, meeting: u32) -> bool
-    requires { ⌜ Good s (now book) ⌝ }
+    requires { ⌜ Good s (reading (now book)) ⌝ }
     requires { ⌜ g ≡ gridsOf s ⌝ }
     requires { ⌜ session < allSessions s ⌝ }
     requires { ⌜ meeting < s .meetings ⌝ }
-    ensures { λ r. ⌜ r ≡ confHeld (stateOf (now (book .entry))) session meeting ⌝ }
+    ensures { λ r. ⌜ r ≡ confHeld (stateOf (reading (now (book .entry)))) session meeting ⌝ }
 {
     row_has(book, g.conf, session, meeting + 1)
 }
 
 // Does somebody attend the meeting in the session?
 pub fn attended(book: &[u32], s: Settings, g: Grids, session: u32, meeting: u32) -> bool
-    requires { ⌜ Good s (now book) ⌝ }
+    requires { ⌜ Good s (reading (now book)) ⌝ }
     requires { ⌜ g ≡ gridsOf s ⌝ }
     requires { ⌜ session < allSessions s ⌝ }
     requires { ⌜ meeting < s .meetings ⌝ }
-    ensures { λ r. ⌜ r ≡ any (λ v. stateOf (now (book .entry)) .attend session meeting v) (s .visitors) ⌝ }
+    ensures { λ r. ⌜ r ≡ any (λ v. stateOf (reading (now (book .entry))) .attend session meeting v) (s .visitors) ⌝ }
 {
     row_has(book, g.attend, session, meeting + 1)
 }
 
 // Has the meeting a lunch on the date?
 pub fn lunch_held(book: &[u32], s: Settings, g: Grids, date: u32, meeting: u32) -> bool
-    requires { ⌜ Good s (now book) ⌝ }
+    requires { ⌜ Good s (reading (now book)) ⌝ }
     requires { ⌜ g ≡ gridsOf s ⌝ }
     requires { ⌜ date < s .dates ⌝ }
     requires { ⌜ meeting < s .meetings ⌝ }
-    ensures { λ r. ⌜ r ≡ lunchHeld (stateOf (now (book .entry))) date meeting ⌝ }
+    ensures { λ r. ⌜ r ≡ lunchHeld (stateOf (reading (now (book .entry)))) date meeting ⌝ }
 {
     cell(book, g.lunch, date, meeting) != 0
 }
 
 // The meeting that the visitor attends in the session.
 pub fn meeting_of(book: &[u32], s: Settings, g: Grids, session: u32, visitor: u32) -> Found
-    requires { ⌜ Good s (now book) ⌝ }
+    requires { ⌜ Good s (reading (now book)) ⌝ }
     requires { ⌜ g ≡ gridsOf s ⌝ }
     requires { ⌜ session < allSessions s ⌝ }
     requires { ⌜ visitor < s .visitors ⌝ }
-    ensures { λ r. ⌜ r ≡ foundOf (meetingOf (stateOf (now (book .entry))) session visitor) ⌝ }
+    ensures { λ r. ⌜ r ≡ foundOf (meetingOf (stateOf (reading (now (book .entry)))) session visitor) ⌝ }
 {
     let w = cell(book, g.attend, session, visitor);
     if w == 0 {

@@ -14,25 +14,26 @@ ghost use Rattle.book.specs.Founds.{foundOf};
 ghost use Rattle.book.specs.Grids.{gridsOf};
 ghost use Rattle.book.specs.Good.{Good};
 ghost use Rattle.queries.specs.Shown.{Seats, roomTaken};
+ghost use Rattle.book.specs.Lent.{reading};
 
 // Is the conference room taken in the session?
 fn taken(book: &[u32], s: Settings, g: Grids, room: u32, session: u32) -> bool
-    requires { ⌜ Good s (now book) ⌝ }
+    requires { ⌜ Good s (reading (now book)) ⌝ }
     requires { ⌜ g ≡ gridsOf s ⌝ }
     requires { ⌜ session < allSessions s ⌝ }
     requires { ⌜ room < s .rooms ⌝ }
-    ensures { λ r. ⌜ r ≡ roomTaken (stateOf (now (book .entry))) room session ⌝ }
+    ensures { λ r. ⌜ r ≡ roomTaken (stateOf (reading (now (book .entry)))) room session ⌝ }
 {
     cell(book, g.conf, session, room) != 0
 }
 
 // The lowest conference room free in every session of first..last.
 pub fn lowest_free(book: &[u32], s: Settings, g: Grids, first: u32, last: u32) -> Found
-    requires { ⌜ Good s (now book) ⌝ }
+    requires { ⌜ Good s (reading (now book)) ⌝ }
     requires { ⌜ g ≡ gridsOf s ⌝ }
     requires { ⌜ first ≤ last ⌝ }
     requires { ⌜ last < allSessions s ⌝ }
-    ensures { λ r. ⌜ r ≡ foundOf (lowestFree (stateOf (now (book .entry))) first last) ⌝ }
+    ensures { λ r. ⌜ r ≡ foundOf (lowestFree (stateOf (reading (now (book .entry)))) first last) ⌝ }
 {
     let rooms = s.rooms;
     let mut next: u32 = 0;
@@ -53,12 +54,12 @@ pub fn lowest_free(book: &[u32], s: Settings, g: Grids, first: u32, last: u32) -
 
 // The seats of the meeting's lunch, if it is in the dining room.
 fn seats_at(book: &[u32], s: Settings, g: Grids, date: u32, room: u32, meeting: u32) -> u32
-    requires { ⌜ Good s (now book) ⌝ }
+    requires { ⌜ Good s (reading (now book)) ⌝ }
     requires { ⌜ g ≡ gridsOf s ⌝ }
     requires { ⌜ date < s .dates ⌝ }
     requires { ⌜ room < s .dining ⌝ }
     requires { ⌜ meeting < s .meetings ⌝ }
-    ensures { λ r. ⌜ Seats (stateOf (now (book .entry))) date room meeting r ⌝ }
+    ensures { λ r. ⌜ Seats (stateOf (reading (now (book .entry)))) date room meeting r ⌝ }
 {
     let i = at(g.lunch, date, meeting);
     if book[i] != room + 1 {
@@ -69,11 +70,11 @@ fn seats_at(book: &[u32], s: Settings, g: Grids, date: u32, room: u32, meeting: 
 
 // The seats reserved in a dining room on a date.
 pub fn reserved(book: &[u32], s: Settings, g: Grids, date: u32, room: u32) -> u32
-    requires { ⌜ Good s (now book) ⌝ }
+    requires { ⌜ Good s (reading (now book)) ⌝ }
     requires { ⌜ g ≡ gridsOf s ⌝ }
     requires { ⌜ date < s .dates ⌝ }
     requires { ⌜ room < s .dining ⌝ }
-    ensures { λ r. ⌜ r ≡ reservedIn (stateOf (now (book .entry))) date room ⌝ }
+    ensures { λ r. ⌜ r ≡ reservedIn (stateOf (reading (now (book .entry)))) date room ⌝ }
 {
     let meetings = s.meetings;
     let mut seats: u32 = 0;

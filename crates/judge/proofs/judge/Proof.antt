@@ -1,5 +1,6 @@
 -- `judge` meets its contract: question 3, then 4 to 7, then the kind.
 -- Assumes nothing.
+use Rattle.book.specs.Lent.{reading}
 use mathlib.Core.Path.{sym, _∙_, ap}
 use native.Mathlib.Omega.{arith}
 use Rattle.book.proofs.Goods.{good-laid}
@@ -13,10 +14,10 @@ use Rattle.judge.proofs.judge.Tie as tie
 
 returns : tie.Need-returns
 unfolding kindOf
-returns c = let a = c .before .before .args in step-none (a .book .now) (a .r) (ap kindOf (c .if1 .taken))
+returns c = let a = c .before .before .args in step-none (reading (a .book .now)) (a .r) (ap kindOf (c .if1 .taken))
 
 returns-2 : tie.Need-returns-2
-returns-2 c = let a = c .before .before .before .args in step-none (a .book .now) (a .r) (kind-none (a .r .kind) (c .if2 .taken))
+returns-2 c = let a = c .before .before .before .args in step-none (reading (a .book .now)) (a .r) (kind-none (a .r .kind) (c .if2 .taken))
 
 row-of-requires : tie.Need-row-of-requires
 row-of-requires c κs = search needs
@@ -27,8 +28,8 @@ fields-requires c κs = good-laid (c .before .before .before .before .pre .0) .r
 returns-3 : tie.Need-returns-3
 returns-3 c = let a = c .before .before .before .before .before .before .args in
     let e = c .before .fields .ensures ∙ ap (λ (w : Row). fieldsNo (a .s) w (a .r)) (c .before .before .row-of .ensures) in
-    sym (unless-some _ (answerAt (a .book .now) (a .r)) (c .if3 .taken))
-    ∙ ap (λ n. unless n (answerAt (a .book .now) (a .r))) e
+    sym (unless-some _ (answerAt (reading (a .book .now)) (a .r)) (c .if3 .taken))
+    ∙ ap (λ n. unless n (answerAt (reading (a .book .now)) (a .r))) e
     ∙ step-is (c .before .before .before .before .before .before .pre .0) (a .r) (omega (arith, c .before .before .before .before .if1 .left)) (c .before .before .before .if2 .left)
 
 answer-requires : tie.Need-answer-requires
@@ -53,7 +54,7 @@ returns-4 : tie.Need-returns-4
 returns-4 c = let a = c .before .before .before .before .before .before .before .args in
     let e = c .before .before .fields .ensures ∙ ap (λ (w : Row). fieldsNo (a .s) w (a .r)) (c .before .before .before .row-of .ensures) in
     c .answer .ensures
-    ∙ ap (λ n. unless n (answerAt (a .book .now) (a .r))) (sym (c .before .if3 .left) ∙ e)
+    ∙ ap (λ n. unless n (answerAt (reading (a .book .now)) (a .r))) (sym (c .before .if3 .left) ∙ e)
     ∙ step-is (c .before .before .before .before .before .before .before .pre .0) (a .r) (omega (arith, c .before .before .before .before .before .if1 .left)) (c .before .before .before .before .if2 .left)
 
 pub judge-spec : {M : Type 1} → statement M

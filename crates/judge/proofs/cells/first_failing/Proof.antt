@@ -1,5 +1,6 @@
 -- `cells::first_failing` meets its contract: each slot passed so far passes the question.
 -- Assumes nothing.
+use Rattle.book.specs.Lent.{reading}
 use Prim.Native.Nat.{suc, _-_}
 use Rattle.judge.specs.Asked.{holdsAt}
 use Rattle.judge.proofs.Passed.{Passed, passed-none, passed-next, passed-at, passed-all}
@@ -8,7 +9,7 @@ use Rattle.judge.proofs.cells.first_failing.Statement.{statement}
 use Rattle.judge.proofs.cells.first_failing.Tie as tie
 
 abbrev Inv-loop : tie.InvT-loop
-Inv-loop book g q item w first last i₀ i = Passed (holdsAt g book q item w) first i
+Inv-loop book g q item w first last i₀ i = Passed (holdsAt g (reading book) q item w) first i
 
 abbrev μ-loop : tie.MeasureT-loop
 μ-loop book g q item w first last i₀ i = suc last - i

@@ -1,5 +1,6 @@
 -- `slots::first_booked` meets its contract: each slot passed so far passes the test.
 -- Assumes nothing.
+use Rattle.book.specs.Lent.{reading}
 use Prim.Native.Nat.{suc, _-_}
 use mathlib.Core.Path.{_≡_, ap}
 use mathlib.Core.Bool.{Bool, true, false, not}
@@ -17,7 +18,7 @@ turned r true e = ap not e
 turned r false e = ap not e
 
 abbrev Inv-loop : tie.InvT-loop
-Inv-loop book s g visitor first last i₀ i = Passed (holdsIn s (stateOf book) NoBookings visitor 0) first i
+Inv-loop book s g visitor first last i₀ i = Passed (holdsIn s (stateOf (reading book)) NoBookings visitor 0) first i
 
 abbrev μ-loop : tie.MeasureT-loop
 μ-loop book s g visitor first last i₀ i = suc last - i

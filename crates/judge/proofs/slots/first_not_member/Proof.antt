@@ -1,5 +1,6 @@
 -- `slots::first_not_member` meets its contract: each slot passed so far passes the test.
 -- Assumes nothing.
+use Rattle.book.specs.Lent.{reading}
 use Prim.Native.Nat.{suc, _-_, _/_, _%_}
 use Rattle.model.specs.Bounded.{bit}
 use Rattle.book.specs.Grids.{cellAt}
@@ -9,7 +10,7 @@ use Rattle.judge.proofs.slots.first_not_member.Statement.{statement}
 use Rattle.judge.proofs.slots.first_not_member.Tie as tie
 
 abbrev Inv-loop : tie.InvT-loop
-Inv-loop book pool v first last i₀ i = Passed (λ k. bit (cellAt pool book k (v / 32)) (v % 32)) first i
+Inv-loop book pool v first last i₀ i = Passed (λ k. bit (cellAt pool (reading book) k (v / 32)) (v % 32)) first i
 
 abbrev μ-loop : tie.MeasureT-loop
 μ-loop book pool v first last i₀ i = suc last - i

@@ -1,12 +1,13 @@
 -- `slots::first_off_leave` meets its contract: each slot passed so far passes the test.
 -- Assumes nothing.
+use Rattle.book.specs.Lent.{reading}
 use Prim.Native.Nat.{suc, _-_}
 use mathlib.Core.Path.{_∙_}
 use native.Mathlib.Omega.{arith}
 use Rattle.model.specs.Reading.{stateOf}
 use Rattle.model.specs.Words.{leaves}
 use Rattle.book.proofs.Goods.{good-laid}
-use Rattle.book.proofs.Regions.{fits, group-lt, date-lt, unit-le}
+use Rattle.book.proofs.Regions.{lies, group-lt, date-lt, unit-le}
 use Rattle.judge.specs.Asked.{OnLeave, holdsIn}
 use Rattle.judge.proofs.Shown.{leave-at}
 use Rattle.judge.proofs.Passed.{Passed, passed-none, passed-next, passed-at, passed-all}
@@ -15,7 +16,7 @@ use Rattle.judge.proofs.slots.first_off_leave.Statement.{statement}
 use Rattle.judge.proofs.slots.first_off_leave.Tie as tie
 
 abbrev Inv-loop : tie.InvT-loop
-Inv-loop book s leave u visitor first last i₀ i = Passed (holdsIn s (stateOf book) (OnLeave u) visitor 0) first i
+Inv-loop book s leave u visitor first last i₀ i = Passed (holdsIn s (stateOf (reading book)) (OnLeave u) visitor 0) first i
 
 abbrev μ-loop : tie.MeasureT-loop
 μ-loop book s leave u visitor first last i₀ i = suc last - i
@@ -32,7 +33,7 @@ member-requires c κs =
     let p = s .pre in
     let l = good-laid (p .0) in
     let d = date-lt (s .args .s) (l .ranges) (s .args .u) (c .before .before .loop .i) (omega (arith, p .1 .1 .0, c .before .loop-test .taken)) in
-    (rw (p .1 .0) (fits (s .args .s) (s .args .book .now) l leaves), (rw (p .1 .0, c .date-of .ensures) d, rw (p .1 .0) (group-lt (s .args .s .visitors) (s .args .visitor) (p .1 .1 .1))))
+    (rw (p .1 .0) (lies (s .args .s) (reading (s .args .book .now)) l leaves), (rw (p .1 .0, c .date-of .ensures) d, rw (p .1 .0) (group-lt (s .args .s .visitors) (s .args .visitor) (p .1 .1 .1))))
 
 returns : tie.Need-returns Inv-loop μ-loop
 returns c =

@@ -1,5 +1,6 @@
 -- `slots::first_row_without` meets its contract: each slot passed so far passes the test.
 -- Assumes nothing.
+use Rattle.book.specs.Lent.{reading}
 use Prim.Native.Nat.{suc, _-_}
 use Rattle.book.specs.Rows.{rowHas}
 use Rattle.judge.proofs.Passed.{Passed, passed-none, passed-next, passed-at, passed-all}
@@ -8,7 +9,7 @@ use Rattle.judge.proofs.slots.first_row_without.Statement.{statement}
 use Rattle.judge.proofs.slots.first_row_without.Tie as tie
 
 abbrev Inv-loop : tie.InvT-loop
-Inv-loop book cells w first last i₀ i = Passed (λ k. rowHas cells book k w) first i
+Inv-loop book cells w first last i₀ i = Passed (λ k. rowHas cells (reading book) k w) first i
 
 abbrev μ-loop : tie.MeasureT-loop
 μ-loop book cells w first last i₀ i = suc last - i

@@ -1,5 +1,6 @@
 -- `slots::first_without_lunch` meets its contract: each slot passed so far passes the test.
 -- Assumes nothing.
+use Rattle.book.specs.Lent.{reading}
 use Prim.Native.Nat.{ℕ, suc, _-_}
 use mathlib.Core.Path.{ap}
 use mathlib.Core.Bool.{Bool, not}
@@ -12,7 +13,7 @@ use Rattle.judge.proofs.slots.first_without_lunch.Statement.{statement}
 use Rattle.judge.proofs.slots.first_without_lunch.Tie as tie
 
 abbrev Inv-loop : tie.InvT-loop
-Inv-loop book triples meeting first last i₀ i = Passed (λ k. not (eqb (cellAt triples book k meeting) 0)) first i
+Inv-loop book triples meeting first last i₀ i = Passed (λ k. not (eqb (cellAt triples (reading book) k meeting) 0)) first i
 
 abbrev μ-loop : tie.MeasureT-loop
 μ-loop book triples meeting first last i₀ i = suc last - i

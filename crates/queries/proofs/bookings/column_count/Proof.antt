@@ -1,5 +1,6 @@
 -- `bookings::column_count` meets its contract: after the slots before i, n is their count.
 -- Assumes nothing.
+use Rattle.book.specs.Lent.{reading}
 use Prim.Native.Nat.{ℕ, _+_, _-_, _≤_}
 use mathlib.Core.Path.{_≡_, sym, _∙_, ap, ap₂}
 use mathlib.Core.Bool.{not}
@@ -15,7 +16,7 @@ use Rattle.queries.proofs.bookings.column_count.Statement.{statement}
 use Rattle.queries.proofs.bookings.column_count.Tie as tie
 
 abbrev Inv-loop : tie.InvT-loop
-Inv-loop book g item lo hi n₀ i₀ n i = (lo ≤ i) × (i ≤ hi) × (n ≡ sumFrom (λ k. one (not (eqb (cellAt g book k item) 0))) lo (i - lo)) × (n ≤ i - lo)
+Inv-loop book g item lo hi n₀ i₀ n i = (lo ≤ i) × (i ≤ hi) × (n ≡ sumFrom (λ k. one (not (eqb (cellAt g (reading book) k item) 0))) lo (i - lo)) × (n ≤ i - lo)
 
 abbrev μ-loop : tie.MeasureT-loop
 μ-loop book g item lo hi n₀ i₀ n i = hi - i
@@ -23,7 +24,7 @@ abbrev μ-loop : tie.MeasureT-loop
 loop-holds : tie.Need-loop-holds Inv-loop μ-loop
 loop-holds c =
     let a = c .before .args in
-    (search needs, omega (arith, c .before .pre .1 .1), sum-start (λ k. one (not (eqb (cellAt (a .g) (a .book .now) k (a .item)) 0))) (a .lo), search needs)
+    (search needs, omega (arith, c .before .pre .1 .1), sum-start (λ k. one (not (eqb (cellAt (a .g) (reading (a .book .now)) k (a .item)) 0))) (a .lo), search needs)
 
 cell-requires : tie.Need-cell-requires Inv-loop μ-loop
 cell-requires c κs =
@@ -48,7 +49,7 @@ loop-again c =
     let l = c .before .before .before .loop in (
       omega arith,
       omega arith,
-      ap₂ _+_ (l .inv .2) (c .full .ensures ∙ ap (λ (w : ℕ). one (not (eqb w 0))) (c .before .cell .ensures)) ∙ sym (sum-next (λ k. one (not (eqb (cellAt (a .g) (a .book .now) k (a .item)) 0))) (a .lo) (l .i) (l .inv .0)),
+      ap₂ _+_ (l .inv .2) (c .full .ensures ∙ ap (λ (w : ℕ). one (not (eqb w 0))) (c .before .cell .ensures)) ∙ sym (sum-next (λ k. one (not (eqb (cellAt (a .g) (reading (a .book .now)) k (a .item)) 0))) (a .lo) (l .i) (l .inv .0)),
       omega (arith, c .full .ensures, one-le (not (eqb (c .before .cell .result) 0))),
     )
 
@@ -58,7 +59,7 @@ returns c =
     let a = c .before .before .before .args in
     let l = c .before .loop in
     let e : l .i ≡ a .hi = omega arith in
-    l .inv .2 ∙ ap (λ (k : ℕ). sumFrom (λ i. one (not (eqb (cellAt (a .g) (a .book .now) i (a .item)) 0))) (a .lo) (k - a .lo)) e
+    l .inv .2 ∙ ap (λ (k : ℕ). sumFrom (λ i. one (not (eqb (cellAt (a .g) (reading (a .book .now)) i (a .item)) 0))) (a .lo) (k - a .lo)) e
 
 pub column-count-spec : {M : Type 1} → statement M
 column-count-spec =

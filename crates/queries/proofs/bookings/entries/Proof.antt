@@ -1,12 +1,13 @@
 -- `bookings::entries` meets its contract: the entries between the cuts of times and sessions.
 -- Assumes nothing.
+use Rattle.book.specs.Lent.{reading}
 use Prim.Native.Nat.{_+_, _-_}
 use mathlib.Core.Path.{refl, _∙_, ap₂}
 use native.Mathlib.Omega.{arith}
 use Rattle.model.specs.Words.{attendCells, hotelCells, rideCells}
 use Rattle.book.specs.declared.units.Slot.the-variants.{Sessions, Times}
 use Rattle.book.specs.Grids.{gridOf}
-use Rattle.book.proofs.Regions.{fits, all-sessions, all-times}
+use Rattle.book.proofs.Regions.{lies, all-sessions, all-times}
 use Rattle.book.proofs.Goods.{good-laid}
 use Rattle.queries.proofs.Runs.{rows-le, column-le, run-order, bookings-is}
 use Rattle.queries.proofs.bookings.entries.Statement.{statement}
@@ -34,7 +35,7 @@ rows-count-requires : tie.Need-rows-count-requires
 rows-count-requires c κs =
     let s = c .before .before .before in
     let l = good-laid (s .pre .0) in
-    (rw (s .pre .1 .0) (fits (s .args .s) (s .args .book .now) l hotelCells), (rw (s .pre .1 .0) (refl, l .ranges .hotels .0), rw (s .pre .1 .0) (omega arith, omega arith)))
+    (rw (s .pre .1 .0) (lies (s .args .s) (reading (s .args .book .now)) l hotelCells), (rw (s .pre .1 .0) (refl, l .ranges .hotels .0), rw (s .pre .1 .0) (omega arith, omega arith)))
 
 add-rows-count-3 : tie.Need-add-rows-count-3
 add-rows-count-3 c = omega (arith, good-laid (c .before .before .before .before .pre .0) .ranges .visitors)
@@ -44,7 +45,7 @@ rows-count-requires-2 c κs =
     let s = c .before .before .before .before in
     let l = good-laid (s .pre .0) in
     let t = c .before .before .slots-on .ensures in (
-      rw (s .pre .1 .0) (fits (s .args .s) (s .args .book .now) l rideCells),
+      rw (s .pre .1 .0) (lies (s .args .s) (reading (s .args .book .now)) l rideCells),
       (rw (s .pre .1 .0) (refl, l .ranges .transports .0), rw (s .pre .1 .0) (run-order (s .args .s) Times _ _ _ _ t (s .pre .1 .1 .1 .0), t .ends .most)),
     )
 
@@ -53,7 +54,7 @@ column-count-requires c κs =
     let s = c .before .before .before .before .before in
     let l = good-laid (s .pre .0) in
     let p = c .before .before .slots-on2 .ensures in (
-      rw (s .pre .1 .0) (fits (s .args .s) (s .args .book .now) l attendCells),
+      rw (s .pre .1 .0) (lies (s .args .s) (reading (s .args .book .now)) l attendCells),
       (
         rw (s .pre .1 .0) (s .pre .1 .1 .0),
         rw (s .pre .1 .0) (run-order (s .args .s) Sessions _ _ _ _ p (s .pre .1 .1 .1 .0), p .ends .most, omega (arith, all-sessions (s .args .s) (l .ranges))),
@@ -70,9 +71,9 @@ add-result c =
     let e1 = rw (s .pre .1 .0) at (c .before .before .rows-count .ensures) in
     let e2 = rw (s .pre .1 .0) at (c .before .rows-count2 .ensures) in
     let e3 = rw (s .pre .1 .0) at (c .column-count .ensures) in
-    let k1 = rows-le (gridOf (a .s) hotelCells) (a .book .now) (a .visitor + 1) (a .from) (a .to + 1) (omega (arith, l .ranges .hotels)) in
-    let k2 = rows-le (gridOf (a .s) rideCells) (a .book .now) (a .visitor + 1) (t .result .from) (t .result .to) (omega (arith, l .ranges .transports)) in
-    let k3 = column-le (gridOf (a .s) attendCells) (a .book .now) (a .visitor) (p .result .from) (p .result .to) in
+    let k1 = rows-le (gridOf (a .s) hotelCells) (reading (a .book .now)) (a .visitor + 1) (a .from) (a .to + 1) (omega (arith, l .ranges .hotels)) in
+    let k2 = rows-le (gridOf (a .s) rideCells) (reading (a .book .now)) (a .visitor + 1) (t .result .from) (t .result .to) (omega (arith, l .ranges .transports)) in
+    let k3 = column-le (gridOf (a .s) attendCells) (reading (a .book .now)) (a .visitor) (p .result .from) (p .result .to) in
     omega (arith, e1, e2, e3, k1, k2, k3, all-times (a .s) (l .ranges), all-sessions (a .s) (l .ranges), t .ensures .ends .most, p .ensures .ends .most, l .ranges .dates)
 
 add-result-2 : tie.Need-add-result-2
@@ -85,9 +86,9 @@ add-result-2 c =
     let e1 = rw (s .pre .1 .0) at (c .before .before .rows-count .ensures) in
     let e2 = rw (s .pre .1 .0) at (c .before .rows-count2 .ensures) in
     let e3 = rw (s .pre .1 .0) at (c .column-count .ensures) in
-    let k1 = rows-le (gridOf (a .s) hotelCells) (a .book .now) (a .visitor + 1) (a .from) (a .to + 1) (omega (arith, l .ranges .hotels)) in
-    let k2 = rows-le (gridOf (a .s) rideCells) (a .book .now) (a .visitor + 1) (t .result .from) (t .result .to) (omega (arith, l .ranges .transports)) in
-    let k3 = column-le (gridOf (a .s) attendCells) (a .book .now) (a .visitor) (p .result .from) (p .result .to) in
+    let k1 = rows-le (gridOf (a .s) hotelCells) (reading (a .book .now)) (a .visitor + 1) (a .from) (a .to + 1) (omega (arith, l .ranges .hotels)) in
+    let k2 = rows-le (gridOf (a .s) rideCells) (reading (a .book .now)) (a .visitor + 1) (t .result .from) (t .result .to) (omega (arith, l .ranges .transports)) in
+    let k3 = column-le (gridOf (a .s) attendCells) (reading (a .book .now)) (a .visitor) (p .result .from) (p .result .to) in
     omega (arith, e1, e2, e3, k1, k2, k3, all-times (a .s) (l .ranges), all-sessions (a .s) (l .ranges), t .ensures .ends .most, p .ensures .ends .most, l .ranges .dates)
 
 returns : tie.Need-returns
@@ -100,7 +101,7 @@ returns c =
     let e2 = rw (s .pre .1 .0) at (c .before .rows-count2 .ensures) in
     let e3 = rw (s .pre .1 .0) at (c .column-count .ensures) in
     ap₂ _+_ (ap₂ _+_ e1 e2) e3
-    ∙ bookings-is (a .s) (a .book .now) (s .pre .0) (a .visitor) (a .from) (a .to) (s .pre .1 .1 .0) (s .pre .1 .1 .1 .0) (s .pre .1 .1 .1 .1) _ _ _ _ t p
+    ∙ bookings-is (a .s) (reading (a .book .now)) (s .pre .0) (a .visitor) (a .from) (a .to) (s .pre .1 .1 .0) (s .pre .1 .1 .1 .0) (s .pre .1 .1 .1 .1) _ _ _ _ t p
 
 pub entries-spec : {M : Type 1} → statement M
 entries-spec =

@@ -1,5 +1,6 @@
 -- `bookings::has_bookings` meets its contract: none without leave; else a hotel room, a meeting or a ride is one, and there is no other.
 -- Assumes nothing.
+use Rattle.book.specs.Lent.{reading}
 use Prim.Native.Nat.{ℕ}
 use mathlib.Core.Path.{_≡_, refl, sym, _∙_, ap}
 use mathlib.Core.Bool.{not}
@@ -11,7 +12,7 @@ use Rattle.model.specs.Words.{attendCells, hotelCells, rideCells}
 use Rattle.model.specs.Questions.{bookings}
 use Rattle.model.specs.Reading.{stateOf}
 use Rattle.book.specs.declared.units.Slot.the-variants.{Sessions, Times}
-use Rattle.book.proofs.Regions.{fits, all-sessions}
+use Rattle.book.proofs.Regions.{lies, all-sessions}
 use Rattle.book.proofs.Goods.{good-laid}
 use Rattle.queries.proofs.Runs.{run-order, bookings-is, nights-le, seated-le}
 use Rattle.queries.proofs.Spans.{bookings-none-on}
@@ -36,15 +37,15 @@ rows-count-requires : tie.Need-rows-count-requires
 rows-count-requires c κs =
     let s = c .before .before .before in
     let l = good-laid (s .pre .0) in
-    (rw (s .pre .1 .0) (fits (s .args .s) (s .args .book .now) l hotelCells), (rw (s .pre .1 .0) (refl, l .ranges .hotels .0), rw (s .pre .1 .0) (omega arith, omega (arith, s .pre .1 .1 .1))))
+    (rw (s .pre .1 .0) (lies (s .args .s) (reading (s .args .book .now)) l hotelCells), (rw (s .pre .1 .0) (refl, l .ranges .hotels .0), rw (s .pre .1 .0) (omega arith, omega (arith, s .pre .1 .1 .1))))
 
 returns-2 : tie.Need-returns-2
 returns-2 c =
     let s = c .before .before .before .before .before in
     let a = s .args in
     let e = rw (s .pre .1 .0) at (c .before .rows-count .ensures) in
-    let k = nights-le (a .s) (a .book .now) (s .pre .0) (a .visitor) (a .date) (a .date) (s .pre .1 .1 .0) (omega arith) (s .pre .1 .1 .1) in
-    sym (ap not (ne-eqb (bookings (stateOf (a .book .now)) (a .visitor) (a .date) (a .date)) 0 (λ z. c .if2 .taken (omega (arith, e, k, z)))))
+    let k = nights-le (a .s) (reading (a .book .now)) (s .pre .0) (a .visitor) (a .date) (a .date) (s .pre .1 .1 .0) (omega arith) (s .pre .1 .1 .1) in
+    sym (ap not (ne-eqb (bookings (stateOf (reading (a .book .now))) (a .visitor) (a .date) (a .date)) 0 (λ z. c .if2 .taken (omega (arith, e, k, z)))))
 
 slots-on-requires : tie.Need-slots-on-requires
 slots-on-requires c κs =
@@ -57,7 +58,7 @@ column-count-requires c κs =
     let s = c .before .before .before .before .before .before in
     let l = good-laid (s .pre .0) in
     let p = c .slots-on .ensures in (
-      rw (s .pre .1 .0) (fits (s .args .s) (s .args .book .now) l attendCells),
+      rw (s .pre .1 .0) (lies (s .args .s) (reading (s .args .book .now)) l attendCells),
       (
         rw (s .pre .1 .0) (s .pre .1 .1 .0),
         rw (s .pre .1 .0) (run-order (s .args .s) Sessions _ _ _ _ p (omega arith), p .ends .most, omega (arith, all-sessions (s .args .s) (l .ranges))),
@@ -69,8 +70,8 @@ returns-3 c =
     let s = c .before .before .before .before .before .before .before .before in
     let a = s .args in
     let e = rw (s .pre .1 .0) at (c .before .column-count .ensures) in
-    let k = seated-le (a .s) (a .book .now) (s .pre .0) (a .visitor) (a .date) (a .date) (s .pre .1 .1 .0) (omega arith) (s .pre .1 .1 .1) _ _ (c .before .before .slots-on .ensures) in
-    sym (ap not (ne-eqb (bookings (stateOf (a .book .now)) (a .visitor) (a .date) (a .date)) 0 (λ z. c .if3 .taken (omega (arith, e, k, z)))))
+    let k = seated-le (a .s) (reading (a .book .now)) (s .pre .0) (a .visitor) (a .date) (a .date) (s .pre .1 .1 .0) (omega arith) (s .pre .1 .1 .1) _ _ (c .before .before .slots-on .ensures) in
+    sym (ap not (ne-eqb (bookings (stateOf (reading (a .book .now))) (a .visitor) (a .date) (a .date)) 0 (λ z. c .if3 .taken (omega (arith, e, k, z)))))
 
 slots-on-requires-2 : tie.Need-slots-on-requires-2
 slots-on-requires-2 c κs =
@@ -88,7 +89,7 @@ rows-count-requires-2 c κs =
     let s = c .before .before .before .before .before .before .before .before .before in
     let l = good-laid (s .pre .0) in
     let t = c .slots-on2 .ensures in (
-      rw (s .pre .1 .0) (fits (s .args .s) (s .args .book .now) l rideCells),
+      rw (s .pre .1 .0) (lies (s .args .s) (reading (s .args .book .now)) l rideCells),
       (rw (s .pre .1 .0) (refl, l .ranges .transports .0), rw (s .pre .1 .0) (run-order (s .args .s) Times _ _ _ _ t (omega arith), t .ends .most)),
     )
 
@@ -99,8 +100,8 @@ returns-4 c =
     let e1 = rw (s .pre .1 .0) at (c .before .before .before .before .before .before .rows-count .ensures) in
     let e2 = rw (s .pre .1 .0) at (c .rows-count2 .ensures) in
     let e3 = rw (s .pre .1 .0) at (c .before .before .before .column-count .ensures) in
-    let k = bookings-is (a .s) (a .book .now) (s .pre .0) (a .visitor) (a .date) (a .date) (s .pre .1 .1 .0) (omega arith) (s .pre .1 .1 .1) _ _ _ _ (c .before .slots-on2 .ensures) (c .before .before .before .before .slots-on .ensures) in
-    let e : c .rows-count2 .result ≡ bookings (stateOf (a .book .now)) (a .visitor) (a .date) (a .date)
+    let k = bookings-is (a .s) (reading (a .book .now)) (s .pre .0) (a .visitor) (a .date) (a .date) (s .pre .1 .1 .0) (omega arith) (s .pre .1 .1 .1) _ _ _ _ (c .before .slots-on2 .ensures) (c .before .before .before .before .slots-on .ensures) in
+    let e : c .rows-count2 .result ≡ bookings (stateOf (reading (a .book .now))) (a .visitor) (a .date) (a .date)
     = omega (arith, e1, e2, e3, k, c .before .before .before .before .before .if2 .left, c .before .before .if3 .left) in
     ap (λ (n : ℕ). not (eqb n 0)) e
 

@@ -1,5 +1,6 @@
 -- `bookings::some_leave` meets its contract: no date passed so far has leave.
 -- Assumes nothing.
+use Rattle.book.specs.Lent.{reading}
 use Prim.Native.Nat.{ℕ, suc, _-_, _≤_, _<_}
 use mathlib.Core.Path.{_≡_, sym, _∙_}
 use mathlib.Core.Bool.{false, false≢true}
@@ -12,7 +13,7 @@ use Rattle.queries.proofs.bookings.some_leave.Statement.{statement}
 use Rattle.queries.proofs.bookings.some_leave.Tie as tie
 
 abbrev Inv-loop : tie.InvT-loop
-Inv-loop book s g visitor from to date₀ date = (from ≤ date) × ((d : ℕ) → from ≤ d → d < date → stateOf book .leave d visitor ≡ false)
+Inv-loop book s g visitor from to date₀ date = (from ≤ date) × ((d : ℕ) → from ≤ d → d < date → stateOf (reading book) .leave d visitor ≡ false)
 
 abbrev μ-loop : tie.MeasureT-loop
 μ-loop book s g visitor from to date₀ date = suc to - date

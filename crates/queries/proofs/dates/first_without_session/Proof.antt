@@ -1,5 +1,6 @@
 -- `dates::first_without_session` meets its contract: the meeting stands on each date passed, and i is where the next one begins.
 -- Assumes nothing.
+use Rattle.book.specs.Lent.{reading}
 use Prim.Native.Nat.{ℕ, suc, _-_, _≤_, _<_}
 use mathlib.Core.Path.{_≡_, refl, sym, _∙_, ap}
 use mathlib.Core.Bool.{true}
@@ -18,7 +19,7 @@ use Rattle.queries.proofs.dates.first_without_session.Statement.{statem
 use Rattle.queries.proofs.dates.first_without_session.Tie as tie
 
 abbrev Inv-loop : tie.InvT-loop
-Inv-loop book s g meeting first last sessions i₀ date₀ i date = (first ≤ date) × Cut s Sessions date i × ((d : ℕ) → first ≤ d → d < date → standsOn (stateOf book) d meeting ≡ true)
+Inv-loop book s g meeting first last sessions i₀ date₀ i date = (first ≤ date) × Cut s Sessions date i × ((d : ℕ) → first ≤ d → d < date → standsOn (stateOf (reading book)) d meeting ≡ true)
 
 abbrev μ-loop : tie.MeasureT-loop
 μ-loop book s g meeting first last sessions i₀ date₀ i date = suc last - date
@@ -47,7 +48,7 @@ returns c =
     let l = c .before .before .before .before .loop in
     ap foundOf
     (sym (failing-at _ _ _ (l .date) (l .inv .0) (c .before .before .before .loop-test .taken)
-    (sym (date-any (s .args .s) (s .args .book .now) (s .pre .0) (l .date) (s .args .meeting) _ _ (l .inv .1) (c .before .before .next-on .ensures))
+    (sym (date-any (s .args .s) (reading (s .args .book .now)) (s .pre .0) (l .date) (s .args .meeting) _ _ (l .inv .1) (c .before .before .next-on .ensures))
     ∙ sym (c .before .stands-between .ensures) ∙ not-true _ (c .if1 .taken)) (l .inv .2)))
 
 add-date : tie.Need-add-date Inv-loop μ-loop
@@ -63,7 +64,7 @@ loop-again c =
       omega arith,
       c .before .before .next-on .ensures,
       passed-more _ _ _ (l .inv .2)
-          (sym (date-any (s .args .s) (s .args .book .now) (s .pre .0) (l .date) (s .args .meeting) _ _ (l .inv .1) (c .before .before .next-on .ensures))
+          (sym (date-any (s .args .s) (reading (s .args .book .now)) (s .pre .0) (l .date) (s .args .meeting) _ _ (l .inv .1) (c .before .before .next-on .ensures))
           ∙ sym (c .before .stands-between .ensures) ∙ not-false _ (c .if1 .left)),
     )
 

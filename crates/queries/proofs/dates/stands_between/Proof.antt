@@ -1,5 +1,6 @@
 -- `dates::stands_between` meets its contract: the sessions before i have it not.
 -- Assumes nothing.
+use Rattle.book.specs.Lent.{reading}
 use Prim.Native.Nat.{ℕ, _-_, _≤_, _<_}
 use mathlib.Core.Path.{_≡_, sym, _∙_}
 use mathlib.Core.Bool.{false}
@@ -11,7 +12,7 @@ use Rattle.queries.proofs.dates.stands_between.Statement.{statement}
 use Rattle.queries.proofs.dates.stands_between.Tie as tie
 
 abbrev Inv-loop : tie.InvT-loop
-Inv-loop book s g meeting lo hi i₀ i = (lo ≤ i) × ((k : ℕ) → lo ≤ k → k < i → stateOf book .standing k meeting ≡ false)
+Inv-loop book s g meeting lo hi i₀ i = (lo ≤ i) × ((k : ℕ) → lo ≤ k → k < i → stateOf (reading book) .standing k meeting ≡ false)
 
 abbrev μ-loop : tie.MeasureT-loop
 μ-loop book s g meeting lo hi i₀ i = hi - i
@@ -42,7 +43,7 @@ returns-2 : tie.Need-returns-2 Inv-loop μ-loop
 returns-2 c =
     let l = c .before .loop in
     let a = c .before .before .before .args in
-    between-no (λ k. stateOf (a .book .now) .standing k (a .meeting)) (a .lo) (a .hi) (λ k h g. l .inv .1 k h (omega (arith, g, c .loop-test .left)))
+    between-no (λ k. stateOf (reading (a .book .now)) .standing k (a .meeting)) (a .lo) (a .hi) (λ k h g. l .inv .1 k h (omega (arith, g, c .loop-test .left)))
 
 pub stands-between-spec : {M : Type 1} → statement M
 stands-between-spec =

@@ -1,9 +1,10 @@
 -- `entries::attended` meets its contract.
 -- Assumes nothing.
+use Rattle.book.specs.Lent.{reading}
 use mathlib.Core.Path.{sym, _∙_}
 use native.Mathlib.Omega.{arith}
 use Rattle.model.specs.Words.{attendCells}
-use Rattle.book.proofs.Regions.{fits}
+use Rattle.book.proofs.Regions.{lies}
 use Rattle.book.proofs.Goods.{good-laid}
 use Rattle.queries.proofs.Shows.{attended-is}
 use Rattle.queries.proofs.entries.attended.Statement.{statement}
@@ -15,13 +16,13 @@ add-row-has c = omega (arith, good-laid (c .before .pre .0) .ranges .meetings)
 row-has-requires : tie.Need-row-has-requires
 row-has-requires c κs =
     let s = c .before in
-    (rw (s .pre .1 .0) (fits (s .args .s) (s .args .book .now) (good-laid (s .pre .0)) attendCells), rw (s .pre .1 .0) (s .pre .1 .1 .0))
+    (rw (s .pre .1 .0) (lies (s .args .s) (reading (s .args .book .now)) (good-laid (s .pre .0)) attendCells), rw (s .pre .1 .0) (s .pre .1 .1 .0))
 
 returns : tie.Need-returns
 returns c =
     let s = c .before .before in
     let a = s .args in
-    c .row-has .ensures ∙ rw (s .pre .1 .0) (sym (attended-is (a .s) (a .book .now) (s .pre .0) (a .session) (a .meeting) (s .pre .1 .1 .0) (s .pre .1 .1 .1)))
+    c .row-has .ensures ∙ rw (s .pre .1 .0) (sym (attended-is (a .s) (reading (a .book .now)) (s .pre .0) (a .session) (a .meeting) (s .pre .1 .1 .0) (s .pre .1 .1 .1)))
 
 pub attended-spec : {M : Type 1} → statement M
 attended-spec = tie.close (tie.spec add-row-has row-has-requires returns)

@@ -1,5 +1,6 @@
 -- `rooms::lowest_free` meets its contract: the rooms below `next` are taken in some session, and the room in hand is free before `session`.
 -- Assumes nothing.
+use Rattle.book.specs.Lent.{reading}
 use Prim.Native.Nat.{ℕ, _-_, _≤_, _<_}
 use mathlib.Core.Path.{_≡_, sym, _∙_, ap}
 use mathlib.Core.Bool.{false}
@@ -15,13 +16,13 @@ use Rattle.queries.proofs.rooms.lowest_free.Statement.{statement}
 use Rattle.queries.proofs.rooms.lowest_free.Tie as tie
 
 abbrev Inv-loop : tie.InvT-loop
-Inv-loop book s g first last rooms next room session₀ session = (first ≤ session) × (session ≤ last) × ((k : ℕ) → first ≤ k → k < session → roomTaken (stateOf book) room k ≡ false)
+Inv-loop book s g first last rooms next room session₀ session = (first ≤ session) × (session ≤ last) × ((k : ℕ) → first ≤ k → k < session → roomTaken (stateOf (reading book)) room k ≡ false)
 
 abbrev μ-loop : tie.MeasureT-loop
 μ-loop book s g first last rooms next room session₀ session = last - session
 
 abbrev Inv-rooms : tie.InvT-rooms
-Inv-rooms book s g first last rooms next₀ next = (rooms ≡ s .rooms) × (next ≤ rooms) × ((c : ℕ) → c < next → freeIn (stateOf book) first last c ≡ false)
+Inv-rooms book s g first last rooms next₀ next = (rooms ≡ s .rooms) × (next ≤ rooms) × ((c : ℕ) → c < next → freeIn (stateOf (reading book)) first last c ≡ false)
 
 abbrev μ-rooms : tie.MeasureT-rooms
 μ-rooms book s g first last rooms next₀ next = rooms - next
@@ -48,7 +49,7 @@ rooms-again c =
     let a = c .before .before .before .before .before .before .before .args in
     let r = c .before .before .before .before .before .rooms in
     let l = c .before .before .before .loop in
-    (search needs, omega arith, passed-false _ (r .next) (r .inv .2) (free-no (stateOf (a .book .now)) (a .first) (a .last) (r .next) (l .session) (l .inv .0) (l .inv .1) (sym (c .before .taken .ensures) ∙ c .if2 .taken)))
+    (search needs, omega arith, passed-false _ (r .next) (r .inv .2) (free-no (stateOf (reading (a .book .now))) (a .first) (a .last) (r .next) (l .session) (l .inv .0) (l .inv .1) (sym (c .before .taken .ensures) ∙ c .if2 .taken)))
 
 add-session : tie.Need-add-session Inv-loop μ-loop Inv-rooms μ-rooms
 add-session c = omega arith
@@ -67,8 +68,8 @@ returns c =
     let s = c .before .before .before in
     let a = s .args in
     let r = c .before .rooms in
-    let n : stateOf (a .book .now) .settings .rooms ≡ a .s .rooms = ap (λ (x : State). x .settings .rooms) (good-state (s .pre .0)) in
-    lowest-none (stateOf (a .book .now)) (a .first) (a .last) (λ k h. r .inv .2 k (omega (arith, h, n, c .if1 .taken, r .inv .0)))
+    let n : stateOf (reading (a .book .now)) .settings .rooms ≡ a .s .rooms = ap (λ (x : State). x .settings .rooms) (good-state (s .pre .0)) in
+    lowest-none (stateOf (reading (a .book .now))) (a .first) (a .last) (λ k h. r .inv .2 k (omega (arith, h, n, c .if1 .taken, r .inv .0)))
 
 returns-2 : tie.Need-returns-2 Inv-loop μ-loop Inv-rooms μ-rooms
 returns-2 c = absurd (omega arith)
@@ -80,10 +81,10 @@ returns-3 c =
     let a = s .args in
     let r = c .before .before .before .before .before .before .rooms in
     let l = c .before .before .before .before .loop in
-    let n : stateOf (a .book .now) .settings .rooms ≡ a .s .rooms = ap (λ (x : State). x .settings .rooms) (good-state (s .pre .0)) in
+    let n : stateOf (reading (a .book .now)) .settings .rooms ≡ a .s .rooms = ap (λ (x : State). x .settings .rooms) (good-state (s .pre .0)) in
     let all = passed-from _ _ (l .session) (l .inv .2) (sym (c .before .before .taken .ensures) ∙ c .before .if2 .left) in
-    lowest-at (stateOf (a .book .now)) (a .first) (a .last) (r .next) (omega (arith, n)) (r .inv .2)
-    (free-yes (stateOf (a .book .now)) (a .first) (a .last) (r .next) (λ k h g. all k h (omega (arith, g))))
+    lowest-at (stateOf (reading (a .book .now))) (a .first) (a .last) (r .next) (omega (arith, n)) (r .inv .2)
+    (free-yes (stateOf (reading (a .book .now))) (a .first) (a .last) (r .next) (λ k h g. all k h (omega (arith, g))))
 
 pub lowest-free-spec : {M : Type 1} → statement M
 lowest-free-spec =
