@@ -20,28 +20,38 @@ fn passes_before_14(state: &State, lunch: &Request) -> bool {
     QUESTIONS.iter().filter(|(number, _)| *number < 14).all(|(_, ask)| ask(state, lunch).is_ok())
 }
 
-/// "Kind 19 says how many seats you can still book": on one date a lunch is refused by 14 exactly
-/// when it passes the questions before and wants more seats than kind 19 answers.
+/// "Kind 19 says how many seats you can still book": a lunch is refused by 14 at a date exactly when
+/// it passes the questions before and that is its first date on which it wants more seats than kind
+/// 19 answers.
 #[test]
 fn seats_left_decide_a_lunch() {
     let mut rng = Rng::new(SEED);
     let mut counts = Counts::new();
     for _ in 0..STATES {
         let state = some_state(&mut rng);
-        for _ in 0..30 {
+        for _ in 0..80 {
             let mut lunch = candidate(&mut rng, &state, 14);
-            lunch.last = lunch.first;
+            lunch.last = (lunch.first + rng.below(3)).min(state.settings.dates - 1);
             let answer = after(&state, &lunch).0;
-            let left = after(&state, &ask(19, lunch.a, 0, lunch.first, lunch.first)).0;
-            let Answer::Done(seats) = left else { panic!("kind 19 of a room and date of the site: {left:?}") };
-            let short = passes_before_14(&state, &lunch) && seats < lunch.n;
-            assert_eq!(answer == Answer::Refused { number: 14, place: lunch.first }, short, "{lunch:?}");
-            assert_eq!(answer == DONE, passes_before_14(&state, &lunch) && !short, "{lunch:?}");
-            let sort = if short { "more than left" } else { "done or an earlier question" };
-            counts.add(if lunch.n == seats && answer == DONE { "exactly what is left" } else { sort });
+            let left = |date| match after(&state, &ask(19, lunch.a, 0, date, date)).0 {
+                Answer::Done(seats) => seats,
+                refused => panic!("kind 19 of a room and date of the site: {refused:?}"),
+            };
+            let passes = passes_before_14(&state, &lunch);
+            let short = (lunch.first..=lunch.last).find(|date| left(*date) < lunch.n).filter(|_| passes);
+            let refused = short.map(|place| Answer::Refused { number: 14, place });
+            assert_eq!(if answer.number() == 14 { Some(answer) } else { None }, refused, "{lunch:?}");
+            assert_eq!(answer == DONE, passes && short.is_none(), "{lunch:?}");
+            counts.add(match short {
+                Some(date) if date == lunch.first => "more than left",
+                Some(_) => "more than left on a later date",
+                None if lunch.n == left(lunch.first) && answer == DONE => "exactly what is left",
+                None => "done or an earlier question",
+            });
         }
     }
-    let sorts = ["more than left", "exactly what is left", "done or an earlier question"];
+    let sorts =
+        ["more than left", "more than left on a later date", "exactly what is left", "done or an earlier question"];
     counts.want(SEED, "19 decides 14", sorts, 100);
 }
 

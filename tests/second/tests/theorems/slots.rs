@@ -1,6 +1,8 @@
 //! Theorem 4, proofs/Slots: "A range is its slots."
 
-use crate::common::{after, at_slot, slots_word, walk_ranges, Counts, DONE};
+use crate::common::{after, at_slot, is_done, slots_word, some_state, walk_ranges, Counts, DONE};
+use second::gen::requests::aim;
+use second::gen::Rng;
 use second::machine::{run, Answer, Request, State};
 
 const SEED: u64 = 0x7e40;
@@ -32,6 +34,29 @@ fn an_accepted_range_is_its_one_slot_requests() {
     });
     let sorts = (1..=15).flat_map(|kind| [(kind, "one"), (kind, "more")]);
     counts.want(SEED, "range by kind and slots", sorts, 20);
+}
+
+/// A request over a run that may reach past what would be accepted: it is accepted exactly when its
+/// one-slot requests in slot order are all done.
+#[test]
+fn a_range_is_accepted_exactly_when_its_slots_are() {
+    let mut rng = Rng::new(SEED + 2);
+    let mut counts = Counts::new();
+    for _ in 0..300 {
+        let state = some_state(&mut rng);
+        for _ in 0..60 {
+            let aimed = aim(&mut rng, &state, 0);
+            if !(1..=15).contains(&aimed.kind) {
+                continue;
+            }
+            let request = Request { last: aimed.first + rng.below(4), ..aimed };
+            let accepted = is_done(after(&state, &request).0);
+            assert_eq!(accepted, slot_by_slot(&state, &request).0.is_some(), "{request:?}");
+            counts.add((request.kind, if accepted { "accepted" } else { "refused" }));
+        }
+    }
+    let sorts = (1..=15).flat_map(|kind| [(kind, "accepted"), (kind, "refused")]);
+    counts.want(SEED + 2, "range accepted or refused by kind", sorts, 20);
 }
 
 /// Kind 16 is left out of the theorem because of this: the first of two sessions of one date takes
