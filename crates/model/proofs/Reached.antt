@@ -1,7 +1,7 @@
 -- Reachable = lawful: the books of 32-bit words that pass questions 1 and 2 are the books after a list of requests of 32-bit words on
 -- a fresh one.
 -- Assumes nothing.
-use Prim.Native.Nat.{ℕ, zero, suc, _/_, _%_, _<_, _≤_}
+use Prim.Native.Nat.{ℕ, zero, suc, _/_, _%_, _<_}
 use mathlib.Core.Path.{_≡_, refl, sym, _∙_, ap}
 use mathlib.Core.Logic.{_↔_}
 use mathlib.Core.Bool.{Bool, true, false, cond}
@@ -12,7 +12,6 @@ use lib.Dec.{ltb}
 use lib.ListN.{getD}
 use borrow.Author.Tests.{lt-ltb, ltb-true}
 use Rattle.model.specs.declared.Settings.{Settings}
-use Rattle.model.specs.declared.Request.{Request}
 use Rattle.model.specs.Bounded.{every, isSome}
 use Rattle.model.specs.Site.{validSettings}
 use Rattle.model.specs.State.{State, Lunch, emptyState, Pairs, hotels, rides, attends, confs, lunches}
@@ -27,7 +26,7 @@ use Rattle.model.proofs.Lengths.{sessions-le, times-le}
 use Rattle.model.proofs.Calls.{empty-sound, from-fresh, run-sound}
 use Rattle.model.proofs.Shows.{Shows, Passes, passes-shows, shows-passes}
 use Rattle.model.proofs.Reachable.{Stage, toLeave, toStanding, toHotel, toRide, toAttend, toConf, toLunch}
-use Rattle.model.proofs.Reachable.{adding, addIf, addConfIf, addLunchIf, visitorIf, entry, entriesOf, Made, made-each, built}
+use Rattle.model.proofs.Reachable.{adding, addIf, addConfIf, addLunchIf, entry, entriesOf, Made, made-each, built}
 
 -- a number that is a 32-bit word, and a request of seven such words
 abbrev pub isWord : ℕ → Bool
