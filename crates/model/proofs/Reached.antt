@@ -48,7 +48,8 @@ adding-words : (k i a b n w : ℕ) → k < 4294967296 → i < 4294967296 → a <
     → ofWords (request (adding k i a b n w)) ≡ true
 adding-words k i a b n w hk hi ha hb hn hw =
     and-true (is-word k hk)
-    (and-true (is-word a ha) (and-true (is-word b hb) (and-true (is-word i hi) (and-true (is-word i hi) (and-true (is-word n hn) (and-true (is-word w hw) refl))))))
+    (and-true (is-word a ha) (and-true (is-word b hb)
+    (and-true (is-word i hi) (and-true (is-word i hi) (and-true (is-word n hn) (and-true (is-word w hw) refl))))))
 
 -- the slots, a and b of an entry are words
 record Small (i a b : ℕ) : Type 0 where
@@ -57,11 +58,36 @@ record Small (i a b : ℕ) : Type 0 where
   second : b < 4294967296
 
 small : (S : Settings) → validSettings S ≡ true → (p : Pairs) (i a b : ℕ) → Bounds S p i a b → Small i a b
-small S e hotels i a b n = record { slot = omega (arith, n .slot, valid-is S e .dates); first = omega (arith, n .first, valid-is S e .hotels); second = omega (arith, n .second, valid-is S e .visitors) }
-small S e rides i a b n = record { slot = omega (arith, n .slot, times-le S e); first = omega (arith, n .first, valid-is S e .transports); second = omega (arith, n .second, valid-is S e .visitors) }
-small S e attends i a b n = record { slot = omega (arith, n .slot, sessions-le S e); first = omega (arith, n .first, valid-is S e .meetings); second = omega (arith, n .second, valid-is S e .visitors) }
-small S e confs i a b n = record { slot = omega (arith, n .slot, sessions-le S e); first = omega (arith, n .first, valid-is S e .rooms); second = omega (arith, n .second, valid-is S e .meetings) }
-small S e lunches i a b n = record { slot = omega (arith, n .slot, valid-is S e .dates); first = omega (arith, n .first, valid-is S e .few); second = omega (arith, n .second, valid-is S e .meetings) }
+small S e hotels i a b n =
+    record {
+      slot = omega (arith, n .slot, valid-is S e .dates);
+      first = omega (arith, n .first, valid-is S e .hotels);
+      second = omega (arith, n .second, valid-is S e .visitors);
+    }
+small S e rides i a b n =
+    record {
+      slot = omega (arith, n .slot, times-le S e);
+      first = omega (arith, n .first, valid-is S e .transports);
+      second = omega (arith, n .second, valid-is S e .visitors);
+    }
+small S e attends i a b n =
+    record {
+      slot = omega (arith, n .slot, sessions-le S e);
+      first = omega (arith, n .first, valid-is S e .meetings);
+      second = omega (arith, n .second, valid-is S e .visitors);
+    }
+small S e confs i a b n =
+    record {
+      slot = omega (arith, n .slot, sessions-le S e);
+      first = omega (arith, n .first, valid-is S e .rooms);
+      second = omega (arith, n .second, valid-is S e .meetings);
+    }
+small S e lunches i a b n =
+    record {
+      slot = omega (arith, n .slot, valid-is S e .dates);
+      first = omega (arith, n .first, valid-is S e .few);
+      second = omega (arith, n .second, valid-is S e .meetings);
+    }
 
 -- information and seats come from the book
 module _ (b : List ℕ) (h : every isWord b ≡ true) where
@@ -85,7 +111,8 @@ module _ (b : List ℕ) (h : every isWord b ≡ true) where
       info : ℕ
       info = address (settingsOf b) lunchTriples d m 2
 
-      go : (t : Bool) → cond t (some (record { seats = getD b seats 0; info = getD b info 0 })) none ≡ some l → (l .seats < 4294967296) × (l .info < 4294967296)
+      go : (t : Bool) → cond t (some (record { seats = getD b seats 0; info = getD b info 0 })) none ≡ some l
+          → (l .seats < 4294967296) × (l .info < 4294967296)
       go true q =
           let z : record { seats = getD b seats 0; info = getD b info 0 } ≡ l = cc in (
             omega (arith, ap (λ (l : Lunch). l .seats) z, word-at b seats h),
@@ -180,7 +207,9 @@ passes-iff-reached b w = (to, from)
           valid = h .sound .valid;
           list = entriesOf x;
           small = words-each x (h .sound) (info-word b w) (lunch-words b w);
-          book = ap (λ (l : Calls). l .book) (from-fresh (x .settings) (h .sound .valid) (entriesOf x)) ∙ ap words (built x (h .sound) .state) ∙ sym (h .is);
+          book =
+              ap (λ (l : Calls). l .book) (from-fresh (x .settings) (h .sound .valid) (entriesOf x)) ∙ ap words (built x (h .sound) .state)
+              ∙ sym (h .is);
         }
 
     from : Reached b → Passes b
