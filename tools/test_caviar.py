@@ -129,10 +129,10 @@ class Conversations(Tested):
             answers = answered(program, framed)
             self.assertEqual(answers, b"000000000000000000000000\n000000170000000000000000\n")
             self.assertEqual(self.wrote("explain", given=answers).decode(), "Done, value 0.\nRefused by 23. "
-                             "[23. Is the line lower-case hexadecimal of 56 digits?]\n")
+                             "[rule 5.23: a line must be a frame: 56 digits of lower-case hexadecimal]\n")
 
     def test_refused_settings(self):
-        refused = "\n    Refused by 24: these are not good settings, {}. [24. {}]\n"
+        refused = "\n    Refused by 24: these are not good settings, {}. [rule 5.24: {}]\n"
         not_words = "it is not whole words of lower-case hexadecimal"
         one_more = f"raw {SETTINGS_LINE}00000004"
         cases = {
@@ -150,7 +150,7 @@ class Conversations(Tested):
         for program in programs():
             self.assertEqual(answered(program, self.wrote("frame", given=largest)), b"")
         why = "the book of these settings has 16,386 words, more than 16,384"
-        self.refused_at_once(over, f"{over}\n    Refused by 25: {why}. [25. {paper.QUESTIONS[25][0]}]\n")
+        self.refused_at_once(over, f"{over}\n    Refused by 25: {why}. [rule 5.25: {paper.QUESTIONS[25][0]}]\n")
 
     def refused_at_once(self, typed_text, expected):
         framed = self.wrote("frame", given=typed_text)
@@ -274,8 +274,9 @@ class Explain(Tested):
         given = "".join(f"{number:08x}{place:08x}{value:08x}\n" for number, place, value in
                         [(0, 0, 0), (0, 0, 7), (1, 0, 0), (2, 0, 0), (8, 0, 0), (9, 3, 0), (17, 2, 0), (22, 0, 0)])
         said = self.wrote("explain", given=given).decode().splitlines()
-        starts = ["Done, value 0.", "Done, value 7.", "Refused by 1. [1. ", "Refused by 2. [2. ", "Refused by 8. [8. ",
-                  "Refused by 9 at slot 3. [9. ", "Refused by 17 at date 2. [17. ", "Refused by 22. [22. "]
+        starts = ["Done, value 0.", "Done, value 7.", "Refused by 1. [rule 5.1: ", "Refused by 2. [rule 5.2: ",
+                  "Refused by 8. [rule 5.8: ", "Refused by 9 at slot 3. [rule 5.9: ",
+                  "Refused by 17 at date 2. [rule 5.17: ", "Refused by 22. [rule 5.22: "]
         self.assertEqual(len(said), len(starts))
         for sentence, start in zip(said, starts):
             self.assertTrue(sentence.startswith(start), sentence)
