@@ -369,5 +369,47 @@ class Commands(Tested):
         self.assertRaises(Problem, lines.settings_in, "zz")
 
 
+class Documents(Tested):
+    """The tables of the documents are those of the tool."""
+
+    @staticmethod
+    def rows(path, pattern):
+        """What a pattern finds in a document, line by line."""
+        return re.findall(pattern, (ROOT / path).read_text(), re.MULTILINE)
+
+    @staticmethod
+    def asked(kind):
+        """The questions of a kind past 7."""
+        return [number for number in range(8, 23) if kind.number in paper.QUESTIONS[number][1]]
+
+    def test_the_table_of_kinds_in_the_rules(self):
+        expected = []
+        for kind in paper.KINDS:
+            slots = f"one {kind.unit}" if kind.one else f"{kind.unit}s"
+            also = ", ".join(["n"] * kind.seats + ["info"] * kind.info)
+            nouns = [thing.noun if thing else "" for thing in (kind.a, kind.b)]
+            expected.append([str(kind.number), kind.name, *nouns, slots, also, ", ".join(map(str, self.asked(kind)))])
+        found = self.rows("docs/RULES.md", r"^\| (\d+) \| ([a-z-]+) \|(.*)\|$")
+        self.assertEqual([[number, name, *map(str.strip, rest.split("|"))] for number, name, rest in found], expected)
+
+    def test_the_kinds_of_the_questions(self):
+        """Rules 5.8 to 5.22 and the header's table of numbers say of which kinds a question is asked."""
+        for path, pattern in (("docs/RULES.md", r"^\*\*5\.(\d+)\*\* [^.(]*\(([\d, ]+)\)"),
+                              ("include/caviar.h", r"^ \* +(\d+)  [^(\n]*\(([\d, ]+)\)")):
+            found = {int(number): tuple(map(int, kinds.split(", "))) for number, kinds in self.rows(path, pattern)}
+            found[10] = (10, 12, 14)
+            self.assertEqual(found, {number: paper.QUESTIONS[number][1] for number in range(8, 23)}, path)
+
+    def test_the_limits(self):
+        for path, pattern in (("docs/RULES.md", r"^\| \d \| [A-Z] \| .* \| 1 \| (\d+) \|$"),
+                              ("include/caviar.h", r"^ \*     \d  [A-Z]   .* (\d+)$")):
+            self.assertEqual([int(most) for most in self.rows(path, pattern)], list(paper.LIMITS.values()), path)
+
+    def test_the_tour_of_the_readme(self):
+        told = (ROOT / "tools" / "conversations" / "site.txt").read_text().partition("\n")[2]
+        indented = "".join(f"    {line}\n" for line in told.splitlines())
+        self.assertIn(indented, (ROOT / "README.md").read_text())
+
+
 if __name__ == "__main__":
     unittest.main()
