@@ -1,15 +1,128 @@
 /* The CAVIAR booking book, for C.
  *
+ * This file is a manual: everything a caller needs is in it. Rule numbers such as 5.14 are those of docs/RULES.md, which says the same
+ * things at more length.
+ *
+ * BOOK AND CALLER
+ *
  * A book is an array of 32-bit words that the caller owns: settings first, then seven regions of leave, bookings and meetings. The
- * functions below keep nothing between calls and allocate nothing. Two calls on different books may run at the same time.
+ * functions below keep nothing between calls and allocate nothing.
  *
  * Every function takes any words in the arrays that it is lent, of any length, and says so where they are not a book: none has a
- * condition on contents. What each one promises below is proved, for all words, against a specification of the paper. What the caller
- * owes is what C owes any function that takes arrays: a pointer to as many words as the length says (an empty array may be a null
- * pointer), aligned for uint32_t, no two of the arrays overlapping where one of them is written, and nobody else writing to them
- * during the call.
+ * condition on contents. What each one promises below is proved, for all words. What the caller owes is what C owes any function that
+ * takes arrays: a pointer to as many words as the length says (an empty array may be a null pointer), aligned for uint32_t, no two of
+ * the arrays overlapping where one of them is written. All lengths are counted in words, not in bytes.
  *
- * Link with target/staticlib/libcapi.a, which `rt staticlib capi` writes:
+ * Threads: calls on different books may run at the same time. On one book, calls of caviar_check may run beside each other; every
+ * other call that is lent a book or answers counts as writing to them, whatever its requests are, so nobody else may read or write
+ * them meanwhile.
+ *
+ * SETTINGS (rules 1.1 to 1.3)
+ *
+ * Settings are 9 + G words: nine limits in this order, then the seat capacities of dining rooms 0, 1, .., G - 1.
+ *
+ *     word   limit                        from 1 to
+ *     0  D   dates                        400
+ *     1  P   sessions of one date         16
+ *     2  Q   ride times of one date       96
+ *     3  V   visitors                     512
+ *     4  M   meetings                     128
+ *     5  C   conference rooms             64
+ *     6  G   dining rooms                 16
+ *     7  H   hotel rooms                  512
+ *     8  K   transports                   128
+ *     9 ..   capacities, one for each of the G dining rooms, each from 1 to 1000
+ *
+ * The book of these settings has, with W(n) = (n + 31) / 32 rounded down, so many words (caviar_book_len computes it):
+ *
+ *     9 + G  +  D * (W(V) + H + 3 * M)  +  D * P * (W(M) + V + 2 * C)  +  D * Q * K
+ *
+ * UNITS (rules 2.1 and 2.2)
+ *
+ * Dates are 0 to D - 1, sessions 0 to D * P - 1, times 0 to D * Q - 1. Session s is on date s / P and time t on date t / Q, rounded
+ * down. Visitors, meetings, rooms and transports are numbered from 0 too.
+ *
+ * REQUESTS (section 4)
+ *
+ * A request is the seven words of struct caviar_request_words. Its slots are `first` to `last`, both included, in the unit of its kind.
+ * A field that the table leaves empty is 0. Kinds 17, 18 and 19 take one slot: first = last.
+ *
+ *     kind                        a                b         slots         also
+ *      1  add leave                                visitor   dates
+ *      2  end leave                                visitor   dates
+ *      3  remove a visitor                         visitor   dates
+ *      4  book a hotel room       hotel room       visitor   dates
+ *      5  erase that booking      hotel room       visitor   dates
+ *      6  book a ride             transport        visitor   times
+ *      7  erase that booking      transport        visitor   times
+ *      8  let a meeting stand     meeting                    sessions
+ *      9  end that                meeting                    sessions
+ *     10  attend a meeting        meeting          visitor   sessions
+ *     11  erase that              meeting          visitor   sessions
+ *     12  give a room             conference room  meeting   sessions      info
+ *     13  take back all rooms                      meeting   sessions
+ *     14  reserve a lunch         dining room      meeting   dates         n seats, info
+ *     15  erase that lunch        dining room      meeting   dates
+ *     16  13, and its lunches                      meeting   sessions
+ *     17  which meeting                            visitor   one session   value: the meeting's number
+ *     18  who has leave                                      one date      value: how many visitors
+ *     19  seats left              dining room                one date      value: how many seats
+ *     20  a free room                                        sessions      value: the lowest conference room that is free in all of them
+ *
+ * Kind 3 ends the visitor's leave on its dates and erases all their hotel, ride and attend entries on them; its value is how many
+ * entries went. Kind 9 erases the attendance of the meeting in its sessions. Kind 13 erases every conference room of the meeting in
+ * its sessions; kind 16 does the same and erases the meeting's lunches on every date from that of `first` to that of `last`. Kinds 17
+ * to 20 change nothing. Values that are not said are 0. `info` is kept beside the entry and never looked into.
+ *
+ * ANSWERS (section 6)
+ *
+ * An answer is the three words of struct caviar_answer. Done: number and place are 0. Refused: `number` says which question was the
+ * first with the answer no, `value` is 0, and nothing has changed: not a word of the book, nor of a lent list of answers.
+ *
+ *     number  means (asked of the kinds)                                                        place
+ *      1      no book: under 9 words, a limit or capacity out of range, or another length       0
+ *      2      a book that breaks a law, or has a cell with what it may not hold                 0
+ *      3      unknown kind                                                                      0
+ *      4      a field that the kind does not use is not 0                                       0
+ *      5      a is not below its limit                                                          0
+ *      6      b is not below its limit                                                          0
+ *      7      first after last, last past the end, or several slots for 17, 18 or 19            0
+ *      8      no seat, or more than the dining room has (14)                                    0
+ *      9      the visitor has no leave on the slot's date (4, 6, 10)                            the slot
+ *     10      the meeting does not stand (10, 12), or in no session of the date (14)            the slot
+ *     11      this very booking is there already (4, 6, 10, 12, 14)                             the slot
+ *     12      the room or transport is in use (4, 6, 12)                                        the slot
+ *     13      the visitor or meeting has another one (4, 6, 10, 14)                             the slot
+ *     14      too few seats left (14)                                                           the slot, a date
+ *     15      this booking is not there (5, 7, 11, 15)                                          the slot
+ *     16      the meeting has no conference room (13, 16)                                       the slot
+ *     17      the meeting has no lunch on a date of the run (16)                                the date, not a session
+ *     18      the visitor has a booking left (2)                                                the slot, a date
+ *     19      the meeting has a conference room in the slot, or a lunch on its date (9)         the slot
+ *     20      nobody attends the meeting (9)                                                    the slot
+ *     21      the visitor attends no meeting (17)                                               the slot
+ *     22      no conference room is free in all the slots (20)                                  0
+ *     23      (the program `frames` alone: the line is no frame)                                0
+ *     24      bad settings                                                                      0
+ *     25      the book has another length than the settings ask for                             0
+ *
+ * Questions are asked in the order of their numbers, each of all slots before the next. The place is the lowest slot with the answer
+ * no, in the unit of the kind; for 17 it is a date though the slots of kind 16 are sessions.
+ *
+ * AN EXAMPLE
+ *
+ *     const uint32_t settings[] = {2, 2, 2, 3, 2, 2, 1, 2, 1, 4};
+ *     uint32_t book[64];                                           caviar_book_len(settings, 10) is 64
+ *     caviar_request_words leave = {.kind = 1, .b = 1, .first = 0, .last = 1};
+ *     caviar_request_words hotel = {.kind = 4, .a = 0, .b = 1, .first = 0, .last = 1};
+ *     caviar_answer answer;
+ *
+ *     answer = caviar_lay(settings, 10, book, 64);                 0 0 0
+ *     answer = caviar_request(book, 64, hotel);                    9 0 0: visitor 1 has no leave on date 0
+ *     answer = caviar_request(book, 64, leave);                    0 0 0
+ *     answer = caviar_request(book, 64, hotel);                    0 0 0
+ *
+ * examples/c/visit.c is a whole program. Link with target/staticlib/libcapi.a, which `rt staticlib capi` writes:
  *
  *     gcc -Iinclude prog.c target/staticlib/libcapi.a
  */
@@ -31,16 +144,14 @@ extern "C" {
 #define CAVIAR_REQUEST_WORDS 7
 #define CAVIAR_ANSWER_WORDS 3
 
-/* An answer: done with a value, or refused. `number` is 0 when done, else the number of the first question that was answered no.
- * `place` is the lowest slot that fails that question, in the unit of the request's kind, and 0 for numbers that have none.
- * `value` is what the request asks for, and 0 when refused. */
+/* An answer: done with a value, or refused with a number and a place. See ANSWERS above. */
 typedef struct caviar_answer {
-    uint32_t number;
-    uint32_t place;
-    uint32_t value;
+    uint32_t number; /* 0 when done */
+    uint32_t place;  /* 0 when done, and for 1 to 8 and 22 to 25 */
+    uint32_t value;  /* 0 when refused */
 } caviar_answer;
 
-/* A request: seven words. A field that the kind does not use is 0. */
+/* A request. See REQUESTS above; a field that the kind does not use is 0. */
 typedef struct caviar_request_words {
     uint32_t kind;  /* 1 to 20 */
     uint32_t a;     /* a room, a transport or a meeting, by kind */
@@ -51,33 +162,32 @@ typedef struct caviar_request_words {
     uint32_t info;  /* information, for kinds 12 and 14 */
 } caviar_request_words;
 
-/* How many words the book of these settings has: 20 to CAVIAR_MOST_WORDS. 0 for settings that question 24 refuses, that is when
- * they are not 9 + G words (nine limits, then G capacities) with all ranges kept. */
+/* How many words the book of these settings has: 20 to CAVIAR_MOST_WORDS. 0 for bad settings, those that 24 refuses: fewer than nine
+ * words, not 9 + G of them, or one out of its range. (rule 9.3) */
 uint64_t caviar_book_len(const uint32_t *settings, size_t settings_len);
 
-/* Lays a book: the settings, then zeros in all other words, whatever the book held before. Done with 0.
- * Refused with 24 for bad settings, and with 25 when book_len is not caviar_book_len of the settings; the book is then as before. */
+/* Lays a book: the settings, then zeros in all other words, whatever the book held before. Done with 0. Refused with 24 for bad
+ * settings, and with 25 when book_len is not caviar_book_len of the settings; the book is then as before. (section 9) */
 caviar_answer caviar_lay(const uint32_t *settings, size_t settings_len, uint32_t *book, size_t book_len);
 
-/* Asks questions 1 and 2 of any words: are they a book by its limits, capacities and length (1), and do all laws hold (2)?
- * Done with 0, or refused with the number; place and value are 0. It reads each word about once and changes nothing. */
+/* Asks 1 and 2 of any words. Done with 0, or refused with 1 or 2. It reads each word about once and changes nothing. (rule 10.1) */
 caviar_answer caviar_check(const uint32_t *book, size_t book_len);
 
-/* One request on a book that may hold any words. A book that question 1 or 2 refuses gives that refusal. Else the answer and every
- * word of the book afterwards are those of the paper's diary machine, started in the state that the book shows. A refusal leaves the
- * book as it was. Each call checks the whole book: caviar_requests checks it once for a list. */
+/* One request on any words. Refused with 1 or 2 as by caviar_check. Else the answer is the one of sections 4 to 6 from the sets that
+ * the book shows, and when it is done, the book shows those sets with the change, in every word. Each call checks the whole book:
+ * caviar_requests checks it once for a list. (rule 10.3) */
 caviar_answer caviar_request(uint32_t *book, size_t book_len, caviar_request_words request);
 
-/* A list of requests on a book that may hold any words. `requests` has seven words a request, `answers` room for three words an
- * answer. min(requests_len / 7, answers_len / 3) requests are answered (at most 4294967295), each as caviar_request would answer it
- * after those before, and the answer is done with that number; words of `answers` behind them stay. The book is checked once. One
- * that question 1 or 2 refuses gives that refusal, and then the book and the answers stay as they were. */
+/* A list of requests on any words. `requests` has seven words a request, one behind the other; `answers` has room for three words an
+ * answer. Refused with 1 or 2 as by caviar_check, and then book and answers are as before. Else n requests are answered, n being the
+ * least of requests_len / 7, answers_len / 3 and 4294967295, each as caviar_request would answer it after those before, and the call is
+ * done with the value n. Words of `answers` behind the first 3 * n stay; words of `requests` behind the first 7 * n are not read. A
+ * refused request is one answer of the list and does not end it. The book is checked once. (rule 10.4) */
 caviar_answer caviar_requests(uint32_t *book, size_t book_len, const uint32_t *requests, size_t requests_len, uint32_t *answers,
                               size_t answers_len);
 
-/* Lays the book and answers a list of requests on it: caviar_lay, then caviar_requests without a check. The answers and every word of
- * the book are the diary machine's from fresh, for every list. Refused with 24 or 25 as laying is, and then the book and the answers
- * stay as they were. */
+/* caviar_lay, and then a list as in caviar_requests, without a check. Refused with 24 or 25 as laying is, and then book and answers are
+ * as before. (rule 10.5) */
 caviar_answer caviar_serve(const uint32_t *settings, size_t settings_len, uint32_t *book, size_t book_len, const uint32_t *requests,
                            size_t requests_len, uint32_t *answers, size_t answers_len);
 

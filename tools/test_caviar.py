@@ -129,10 +129,10 @@ class Conversations(Tested):
             answers = answered(program, framed)
             self.assertEqual(answers, b"000000000000000000000000\n000000170000000000000000\n")
             self.assertEqual(self.wrote("explain", given=answers).decode(), "Done, value 0.\nRefused by 23. "
-                             "[23. Is the line lower-case hexadecimal of 56 digits?]\n")
+                             "[rule 5.23: a line must be a frame: 56 digits of lower-case hexadecimal]\n")
 
     def test_refused_settings(self):
-        refused = "\n    Refused by 24: these are not good settings, {}. [24. {}]\n"
+        refused = "\n    Refused by 24: these are not good settings, {}. [rule 5.24: {}]\n"
         not_words = "it is not whole words of lower-case hexadecimal"
         one_more = f"raw {SETTINGS_LINE}00000004"
         cases = {
@@ -150,7 +150,7 @@ class Conversations(Tested):
         for program in programs():
             self.assertEqual(answered(program, self.wrote("frame", given=largest)), b"")
         why = "the book of these settings has 16,386 words, more than 16,384"
-        self.refused_at_once(over, f"{over}\n    Refused by 25: {why}. [25. {paper.QUESTIONS[25][0]}]\n")
+        self.refused_at_once(over, f"{over}\n    Refused by 25: {why}. [rule 5.25: {paper.QUESTIONS[25][0]}]\n")
 
     def refused_at_once(self, typed_text, expected):
         framed = self.wrote("frame", given=typed_text)
@@ -274,8 +274,9 @@ class Explain(Tested):
         given = "".join(f"{number:08x}{place:08x}{value:08x}\n" for number, place, value in
                         [(0, 0, 0), (0, 0, 7), (1, 0, 0), (2, 0, 0), (8, 0, 0), (9, 3, 0), (17, 2, 0), (22, 0, 0)])
         said = self.wrote("explain", given=given).decode().splitlines()
-        starts = ["Done, value 0.", "Done, value 7.", "Refused by 1. [1. ", "Refused by 2. [2. ", "Refused by 8. [8. ",
-                  "Refused by 9 at slot 3. [9. ", "Refused by 17 at date 2. [17. ", "Refused by 22. [22. "]
+        starts = ["Done, value 0.", "Done, value 7.", "Refused by 1. [rule 5.1: ", "Refused by 2. [rule 5.2: ",
+                  "Refused by 8. [rule 5.8: ", "Refused by 9 at slot 3. [rule 5.9: ",
+                  "Refused by 17 at date 2. [rule 5.17: ", "Refused by 22. [rule 5.22: "]
         self.assertEqual(len(said), len(starts))
         for sentence, start in zip(said, starts):
             self.assertTrue(sentence.startswith(start), sentence)
@@ -366,6 +367,48 @@ class Commands(Tested):
         self.assertEqual(largest.book_length(), 9_401_625)
         self.assertEqual(lines.read_first("zz"), Raw("zz"))
         self.assertRaises(Problem, lines.settings_in, "zz")
+
+
+class Documents(Tested):
+    """The tables of the documents are those of the tool."""
+
+    @staticmethod
+    def rows(path, pattern):
+        """What a pattern finds in a document, line by line."""
+        return re.findall(pattern, (ROOT / path).read_text(), re.MULTILINE)
+
+    @staticmethod
+    def asked(kind):
+        """The questions of a kind past 7."""
+        return [number for number in range(8, 23) if kind.number in paper.QUESTIONS[number][1]]
+
+    def test_the_table_of_kinds_in_the_rules(self):
+        expected = []
+        for kind in paper.KINDS:
+            slots = f"one {kind.unit}" if kind.one else f"{kind.unit}s"
+            also = ", ".join(["n"] * kind.seats + ["info"] * kind.info)
+            nouns = [thing.noun if thing else "" for thing in (kind.a, kind.b)]
+            expected.append([str(kind.number), kind.name, *nouns, slots, also, ", ".join(map(str, self.asked(kind)))])
+        found = self.rows("docs/RULES.md", r"^\| (\d+) \| ([a-z-]+) \|(.*)\|$")
+        self.assertEqual([[number, name, *map(str.strip, rest.split("|"))] for number, name, rest in found], expected)
+
+    def test_the_kinds_of_the_questions(self):
+        """Rules 5.8 to 5.22 and the header's table of numbers say of which kinds a question is asked."""
+        for path, pattern in (("docs/RULES.md", r"^\*\*5\.(\d+)\*\* [^.(]*\(([\d, ]+)\)"),
+                              ("include/caviar.h", r"^ \* +(\d+)  [^(\n]*\(([\d, ]+)\)")):
+            found = {int(number): tuple(map(int, kinds.split(", "))) for number, kinds in self.rows(path, pattern)}
+            found[10] = (10, 12, 14)
+            self.assertEqual(found, {number: paper.QUESTIONS[number][1] for number in range(8, 23)}, path)
+
+    def test_the_limits(self):
+        for path, pattern in (("docs/RULES.md", r"^\| \d \| [A-Z] \| .* \| 1 \| (\d+) \|$"),
+                              ("include/caviar.h", r"^ \*     \d  [A-Z]   .* (\d+)$")):
+            self.assertEqual([int(most) for most in self.rows(path, pattern)], list(paper.LIMITS.values()), path)
+
+    def test_the_tour_of_the_readme(self):
+        told = (ROOT / "tools" / "conversations" / "site.txt").read_text().partition("\n")[2]
+        indented = "".join(f"    {line}\n" for line in told.splitlines())
+        self.assertIn(indented, (ROOT / "README.md").read_text())
 
 
 if __name__ == "__main__":

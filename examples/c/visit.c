@@ -15,7 +15,7 @@ static void say(const char *what, caviar_answer answer)
         printf("%s: refused by question %u at %u\n", what, answer.number, answer.place);
 }
 
-/* The small site of the paper's rehearsal, request by request. */
+/* The small site of docs/RULES.md, section 13, request by request. */
 static void small_site(void)
 {
     const uint32_t settings[] = {2, 2, 2, 3, 2, 2, 1, 2, 1, 4};

@@ -1,2 +1,2 @@
-"""The booking book for people: `paper` holds the paper's tables, `lines` hexadecimal, `typed` the words that a person
-types, `explain` the sentences, `main` the commands."""
+"""The booking book for people: `paper` holds the tables of docs/RULES.md, `lines` hexadecimal, `typed` the words that
+a person types, `explain` the sentences, `main` the commands."""

@@ -198,7 +198,7 @@ def checked(answer):
 
 
 def question(number):
-    return f"[{number}. {QUESTIONS[number][0]}]"
+    return f"[rule 5.{number}: {QUESTIONS[number][0]}]"
 
 
 def sentence_alone(answer):

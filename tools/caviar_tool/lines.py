@@ -9,7 +9,7 @@ WORDS_OF_ANSWER = 3
 
 
 def text_lines(text):
-    """The lines of a text, ended by byte 10 or its end; after a last byte 10 no further line begins."""
+    """The lines of a text (rule 11.1)."""
     lines = text.split("\n")
     return lines[:-1] if lines[-1] == "" else lines
 

@@ -85,16 +85,17 @@ def explain(options):
 
 
 def table(_):
-    """The refusal numbers with their questions in words."""
+    """The refusal numbers with their rules in words."""
     lines = []
     for number, (question, asked) in QUESTIONS.items():
         of = f"  (kind{'s' * (len(asked) > 1)} {', '.join(map(str, asked))})" if 8 <= number <= 22 else ""
         lines.append(f"{number:2}  {question}{of}")
     return lines + [
         "",
-        "An answer carries the number of the first question answered no. Its place is the lowest slot that fails (9 to",
-        "16 and 19 to 21), a date (17 and 18) or 0. n is the seats. a is the hotel, conference or dining room, the",
-        "transport, or the meeting of kinds 8 to 11. b is the visitor, or the meeting of kinds 12 to 16.",
+        "A refusal has the number n of the first rule 5.n of docs/RULES.md that is not kept. Its place is the lowest",
+        "slot where it is not kept (9 to 16 and 19 to 21), a date (17 and 18) or 0. a is the hotel, conference or",
+        "dining room, the transport, or the meeting of kinds 8 to 11. b is the visitor, or the meeting of kinds 12",
+        "to 16.",
     ]
 
 
@@ -123,7 +124,7 @@ def parser():
     explaining = command(explain, "explain", "say each answer line on standard input in a sentence")
     explaining.add_argument("--with", dest="requests", metavar="REQUESTS",
                             help="the file that was answered, typed or in lines; sentences then say what and when")
-    command(table, "table", "print the refusal numbers 1 to 25 with their questions")
+    command(table, "table", "print the refusal numbers 1 to 25 with their rules")
     command(kinds, "kinds", "print the kinds of requests and the words that each takes")
     return top
 

@@ -1,4 +1,4 @@
-"""The paper's tables: the limits of a site, the kinds of requests and the questions."""
+"""The tables of docs/RULES.md: the limits of a site, the kinds of requests and the questions."""
 
 from typing import NamedTuple, Optional
 
@@ -65,59 +65,60 @@ class Kind(NamedTuple):
 KINDS = [
     Kind(1, "add-leave", "give the visitor leave", None, VISITOR, "date"),
     Kind(2, "end-leave", "end the visitor's leave", None, VISITOR, "date"),
-    Kind(3, "remove-visitor", "end leave, erase their hotel, ride and attend entries of those dates",
+    Kind(3, "remove-visitor", "end the visitor's leave, and erase all bookings of theirs on those dates",
          None, VISITOR, "date"),
     Kind(4, "add-hotel", "book the hotel room for the visitor", HOTEL_ROOM, VISITOR, "date"),
     Kind(5, "erase-hotel", "erase that booking", HOTEL_ROOM, VISITOR, "date"),
     Kind(6, "add-ride", "book the transport for the visitor", TRANSPORT, VISITOR, "time"),
     Kind(7, "erase-ride", "erase that booking", TRANSPORT, VISITOR, "time"),
     Kind(8, "add-standing", "let the meeting stand", MEETING, None, "session"),
-    Kind(9, "end-standing", "end standing, erase the meeting's attend entries there", MEETING, None, "session"),
+    Kind(9, "end-standing", "let the meeting stand no longer; nobody attends it then", MEETING, None, "session"),
     Kind(10, "add-attend", "let the visitor attend the meeting", MEETING, VISITOR, "session"),
     Kind(11, "erase-attend", "erase that attendance", MEETING, VISITOR, "session"),
     Kind(12, "add-conf", "give the meeting the conference room", CONFERENCE_ROOM, MEETING, "session", info=True),
-    Kind(13, "erase-conf", "erase all the meeting's conference rooms there", None, MEETING, "session"),
+    Kind(13, "erase-conf", "take back the meeting's conference rooms", None, MEETING, "session"),
     Kind(14, "add-lunch", "reserve seats in the dining room for the meeting", DINING_ROOM, MEETING, "date",
          seats=True, info=True),
     Kind(15, "erase-lunch", "erase that lunch", DINING_ROOM, MEETING, "date"),
-    Kind(16, "erase-conf-and-lunch", "erase its conference rooms, and its lunches on dates from first's to last's",
+    Kind(16, "erase-conf-and-lunch", "take back its conference rooms, and its lunches on the dates of the sessions",
          None, MEETING, "session"),
     Kind(17, "which-meeting", "which meeting the visitor attends", None, VISITOR, "session", one=True),
-    Kind(18, "count-leave", "the number of visitors with leave", None, None, "date", one=True),
-    Kind(19, "seats-left", "the dining room's capacity less the seats reserved", DINING_ROOM, None, "date", one=True),
-    Kind(20, "free-room", "the lowest conference room free in every slot", None, None, "session"),
+    Kind(18, "count-leave", "how many visitors have leave", None, None, "date", one=True),
+    Kind(19, "seats-left", "how many seats of the dining room are left", DINING_ROOM, None, "date", one=True),
+    Kind(20, "free-room", "the lowest conference room that is free throughout", None, None, "session"),
 ]
 BY_NUMBER = {kind.number: kind for kind in KINDS}
 BY_NAME = {kind.name: kind for kind in KINDS}
 
-# The questions with the kinds that they are asked of; none where a line, a book or settings are asked about.
+# The questions of section 5, as what must be so, with the kinds that they are asked of; none where a line, a book or
+# settings are asked about.
 EVERY = tuple(BY_NUMBER)
 QUESTIONS = {
-    1: ("Is the book at least 9 words, are limits and capacities in range, and is its length as laid out?", ()),
-    2: ("Do all laws hold?", ()),
-    3: ("Is the kind 1..20?", ()),
-    4: ("Is every unused field 0?", EVERY),
-    5: ("Is a below its limit?", (4, 5, 6, 7, 8, 9, 10, 11, 12, 14, 15, 19)),
-    6: ("Is b below its limit?", (1, 2, 3, 4, 5, 6, 7, 10, 11, 12, 13, 14, 15, 16, 17)),
-    7: ("Is first ≤ last, last a slot of the unit, and first = last for kinds 17 to 19?", EVERY),
-    8: ("Is n from 1 to the room's capacity?", (14,)),
-    9: ("Has the visitor leave on each slot's date?", (4, 6, 10)),
-    10: ("Does the meeting stand in each slot, or for kind 14 in some session of each date?", (10, 12, 14)),
-    11: ("Is this very pair absent in each slot?", (4, 6, 10, 12, 14)),
-    12: ("Is a free in each slot?", (4, 6, 12)),
-    13: ("Has b no such entry with any other a in each slot?", (4, 6, 10, 14)),
-    14: ("Is reserved + n at most capacity on each date?", (14,)),
-    15: ("Is this pair present in each slot?", (5, 7, 11, 15)),
-    16: ("Has the meeting a conference room in each slot?", (13, 16)),
-    17: ("Has it a lunch on each of the dates?", (16,)),
-    18: ("Has the visitor no hotel, ride or attend entry on each date?", (2,)),
-    19: ("In each slot, has the meeting no conf there and no lunch on its date?", (9,)),
-    20: ("Does somebody attend it in each slot?", (9,)),
-    21: ("Does the visitor attend a meeting?", (17,)),
-    22: ("Is there such a room?", (20,)),
-    23: ("Is the line lower-case hexadecimal of 56 digits?", ()),
-    24: ("Are the settings of length 9 + G with all ranges kept?", ()),
-    25: ("Has the lent book the needed length, in the program at most 16,384 words?", ()),
+    1: ("the words must be as many as their settings ask for, and these settings in range", ()),
+    2: ("every cell must be well formed and every law kept", ()),
+    3: ("a kind is a number from 1 to 20", ()),
+    4: ("fields that the kind has no use for must be 0", EVERY),
+    5: ("a must be something that the site has", (4, 5, 6, 7, 8, 9, 10, 11, 12, 14, 15, 19)),
+    6: ("b must be something that the site has", (1, 2, 3, 4, 5, 6, 7, 10, 11, 12, 13, 14, 15, 16, 17)),
+    7: ("the slots must run forward and end inside the site; kinds 17, 18 and 19 take one", EVERY),
+    8: ("a lunch must have a seat, and no more of them than its dining room", (14,)),
+    9: ("the visitor must have leave on the date of every slot", (4, 6, 10)),
+    10: ("the meeting must stand in every slot; for a lunch, in one session of every date", (10, 12, 14)),
+    11: ("the booking must not be there yet, in any slot", (4, 6, 10, 12, 14)),
+    12: ("the room or transport must not be in use, in any slot", (4, 6, 12)),
+    13: ("the visitor or meeting must have no other booking of this sort, in any slot", (4, 6, 10, 14)),
+    14: ("the seats must fit beside those of other lunches, on every date", (14,)),
+    15: ("the booking must be there, in every slot", (5, 7, 11, 15)),
+    16: ("the meeting must hold a conference room, in every slot", (13, 16)),
+    17: ("the meeting must have a lunch, on every date of the run", (16,)),
+    18: ("the visitor must have no bookings left, on any of the dates", (2,)),
+    19: ("the meeting must hold no conference room in the slot and have no lunch that day, for every slot", (9,)),
+    20: ("somebody must attend the meeting, in every slot", (9,)),
+    21: ("the visitor must attend some meeting in that session", (17,)),
+    22: ("some conference room must be free in all the slots", (20,)),
+    23: ("a line must be a frame: 56 digits of lower-case hexadecimal", ()),
+    24: ("settings must be complete and in range", ()),
+    25: ("the book must have the length that its settings ask for; in the program, at most 16,384 words", ()),
 }
 
 
@@ -127,7 +128,7 @@ def has_place(number):
 
 
 class Settings(NamedTuple):
-    """The limits in the paper's order, and the seat capacities."""
+    """The limits in the order of rule 1.1, and the seat capacities."""
 
     limits: tuple
     capacities: tuple

@@ -3,8 +3,8 @@
 //! A book is a slice of 32-bit words that the caller owns: settings first, then seven regions of
 //! leave, bookings and meetings. The functions keep nothing between calls and allocate nothing.
 //! Each takes any words of any length, and says so where they are not a book. What each function
-//! promises is proved, for all words, against a specification of the paper; this crate only lends
-//! the slices.
+//! promises is proved, for all words; this crate only lends the slices. include/caviar.h has the
+//! tables of kinds and of refusal numbers, and docs/RULES.md everything that the book does.
 //!
 //! ```
 //! let settings = [2, 2, 2, 3, 2, 2, 1, 2, 1, 4];
@@ -34,8 +34,8 @@ pub const MOST_SETTINGS: usize = 25;
 pub struct Answer {
     /// 0 when done, else the number of the first question that was answered no.
     pub number: u32,
-    /// The lowest slot that fails that question, in the unit of the request's kind; 0 for numbers
-    /// that have none, and when done.
+    /// The lowest slot with the answer no, in the unit of the request's kind, for 9 to 21; for 17 a
+    /// date, though the slots of its kind are sessions. 0 for other numbers, and when done.
     pub place: u32,
     /// What the request asks for; 0 when refused.
     pub value: u32,
@@ -56,7 +56,7 @@ impl Answer {
     }
 }
 
-/// The number of the question that was answered no, and the lowest slot that fails it.
+/// The number of the question that was answered no, and the place: see [`Answer`].
 #[derive(Clone, Copy, Debug, PartialEq, Eq)]
 pub struct Refusal {
     pub number: u32,
@@ -91,8 +91,8 @@ impl Request {
 }
 
 /// How many words the book of these settings has: 20 to [`MOST_WORDS`]. 0 for settings that
-/// question 24 refuses, that is when they are not 9 + G words (nine limits, then G capacities) with
-/// all ranges kept.
+/// question 24 refuses: fewer than nine words, not nine limits with a capacity for each dining
+/// room, or one out of its range (rule 9.3).
 pub fn book_len(settings: &[u32]) -> usize {
     // SAFETY: the pointer and the length are those of one slice, which is only read.
     unsafe { ffi::caviar_book_len(settings.as_ptr(), settings.len()) as usize }
@@ -100,24 +100,24 @@ pub fn book_len(settings: &[u32]) -> usize {
 
 /// Lays a book: the settings, then zeros in all other words, whatever the book held before. Done
 /// with 0. Refused with 24 for bad settings, and with 25 when the book is not [`book_len`] words;
-/// the book is then as before.
+/// the book is then as before (section 9).
 pub fn lay(settings: &[u32], book: &mut [u32]) -> Answer {
     // SAFETY: each pointer has its slice's length, and the slices do not overlap, since one is `&mut`.
     unsafe { ffi::caviar_lay(settings.as_ptr(), settings.len(), book.as_mut_ptr(), book.len()) }
 }
 
 /// Asks questions 1 and 2 of any words: are they a book by its limits, capacities and length (1),
-/// and do all laws hold (2)? Done with 0, or refused with the number; place and value are 0. It
-/// reads each word about once.
+/// and is every cell and law kept (2)? Done with 0, or refused with the number; place and value are
+/// 0. It reads each word about once (rule 10.1).
 pub fn check(book: &[u32]) -> Answer {
     // SAFETY: the pointer and the length are those of one slice, which is only read.
     unsafe { ffi::caviar_check(book.as_ptr(), book.len()) }
 }
 
 /// One request on a book that may hold any words. A book that question 1 or 2 refuses gives that
-/// refusal. Else the answer and every word of the book afterwards are those of the paper's diary
-/// machine, started in the state that the book shows. A refusal leaves the book as it was. Each
-/// call checks the whole book: [`requests`] checks it once for a list.
+/// refusal. Else the answer is the one of the rules' sections 4 to 6, from the sets that the book
+/// shows, and when it is done, the book shows those sets with the change. A refusal leaves the book
+/// as it was. Each call checks the whole book: [`requests`] checks it once for a list (rule 10.3).
 pub fn request(book: &mut [u32], request: Request) -> Answer {
     // SAFETY: the pointer and the length are those of one slice, lent as `&mut`.
     unsafe { ffi::caviar_request(book.as_mut_ptr(), book.len(), request) }
@@ -126,7 +126,7 @@ pub fn request(book: &mut [u32], request: Request) -> Answer {
 /// A list of requests on a book that may hold any words: as many are answered as both slices have
 /// places for, each as [`request`] would answer it after those before, and the answer is done with
 /// that number. Places of `answers` behind them stay. The book is checked once. One that question 1
-/// or 2 refuses gives that refusal, and then the book and the answers stay as they were.
+/// or 2 refuses gives that refusal, and then the book and the answers stay as they were (rule 10.4).
 pub fn requests(book: &mut [u32], list: &[Request], answers: &mut [Answer]) -> Answer {
     requests_words(book, request_words(list), answer_words(answers))
 }
@@ -148,8 +148,9 @@ pub fn requests_words(book: &mut [u32], list: &[u32], answers: &mut [u32]) -> An
 }
 
 /// Lays the book and answers a list of requests on it: [`lay`], then [`requests`] without a check.
-/// The answers and every word of the book are the diary machine's from fresh, for every list.
-/// Refused with 24 or 25 as laying is, and then the book and the answers stay as they were.
+/// The answers and every word of the book are those of the rules from fresh, for every list.
+/// Refused with 24 or 25 as laying is, and then the book and the answers stay as they were (rule
+/// 10.5).
 pub fn serve(settings: &[u32], book: &mut [u32], list: &[Request], answers: &mut [Answer]) -> Answer {
     serve_words(settings, book, request_words(list), answer_words(answers))
 }

@@ -10,7 +10,7 @@ fn say(what: &str, answer: Answer) {
     }
 }
 
-/// The small site of the paper's rehearsal, request by request.
+/// The small site of docs/RULES.md, section 13, request by request.
 fn small_site() {
     let settings = [2, 2, 2, 3, 2, 2, 1, 2, 1, 4];
     let mut book = vec![0; caviar::book_len(&settings)];

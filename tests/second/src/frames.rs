@@ -1,4 +1,4 @@
-//! "Lines": hexadecimal, frame lines, and the whole program from input bytes to output bytes.
+//! Lines and the program (docs/RULES.md, sections 11 and 12), from input bytes to output bytes.
 
 use crate::book::{length, words};
 use crate::machine::{step, Answer, Request, Settings, State};
@@ -8,7 +8,7 @@ pub const MOST_WORDS: u64 = 16_384;
 
 const LINE_END: u8 = 10;
 
-/// The words of a line of lower-case hexadecimal, eight digits a word, high digit first, no gaps.
+/// The words of a line that is whole words (rules 11.2 and 11.3).
 pub fn line_words(line: &[u8]) -> Option<Vec<u32>> {
     if !line.len().is_multiple_of(8) {
         return None;
@@ -28,15 +28,14 @@ fn digit(byte: u8) -> Option<u32> {
     }
 }
 
-/// The line of these words, with its byte 10.
+/// The line of these words, with its byte 10 (rule 11.5).
 pub fn words_line(words: &[u32]) -> Vec<u8> {
     let mut line: Vec<u8> = words.iter().flat_map(|word| format!("{word:08x}").into_bytes()).collect();
     line.push(LINE_END);
     line
 }
 
-/// The lines of an input, each "ended by byte 10 or the end of input"; "after a last byte 10 no
-/// further line begins".
+/// The lines of an input (rule 11.1).
 pub fn lines(input: &[u8]) -> Vec<&[u8]> {
     let mut lines: Vec<&[u8]> = input.split(|byte| *byte == LINE_END).collect();
     if lines.last().is_some_and(|line| line.is_empty()) {
@@ -51,8 +50,7 @@ pub struct Desk {
 }
 
 impl Desk {
-    /// "first a settings line, silent if good, else one answer with 24 (not whole words, bad or
-    /// missing) or 25 (over 16,384 words) and the end"
+    /// The first line (rule 12.2): a desk for good settings, else the one answer.
     pub fn open(settings_line: Option<&[u8]>) -> Result<Desk, Answer> {
         let words = settings_line.and_then(line_words);
         let settings = words.and_then(|words| Settings::from_words(&words));
@@ -63,7 +61,7 @@ impl Desk {
         Ok(Desk { state: State::empty(settings) })
     }
 
-    /// 23. "Is the line that?" A frame line has 56 digits.
+    /// A later line (rule 12.3).
     pub fn answer(&mut self, line: &[u8]) -> Answer {
         let words = line_words(line).and_then(|words| <[u32; 7]>::try_from(words).ok());
         match words {

@@ -1,6 +1,6 @@
-//! The second program: the booking book written a second time, straight from the paper, with sets
-//! of tuples. It shares nothing with the engine. It is slow and plain on purpose: each function
-//! can be held beside the sentence of the paper that it copies.
+//! The second program: the booking book written a second time, with sets of tuples. It shares
+//! nothing with the engine. It is slow and plain on purpose: each function can be held beside the
+//! rule of docs/RULES.md that it names.
 //!
 //! - `machine`: the diary machine, its questions 3 to 22 and its changes
 //! - `book`: the words of a book, reading them back, questions 1 and 2, laying, calls

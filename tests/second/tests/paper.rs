@@ -1,4 +1,4 @@
-//! The paper's own numbers: the example input, the rehearsal, and the two lengths.
+//! The worked examples (docs/RULES.md, section 13): the input of lines, the sixteen requests, and the lengths.
 
 use second::book::{book_len, check, lay, words};
 use second::frames::{frames, trace, words_line};
@@ -38,7 +38,7 @@ const EXAMPLE_OUT: &[u8] = b"\
 ";
 
 fn rehearsal_state() -> State {
-    State::empty(Settings::from_words(&REHEARSAL_SITE).expect("the paper's settings"))
+    State::empty(Settings::from_words(&REHEARSAL_SITE).expect("good settings"))
 }
 
 #[test]
@@ -74,9 +74,9 @@ fn seats_and_last_session_at_their_ends() {
     let mut state = rehearsal_state();
     run(&mut state, &REHEARSAL.map(|(request, _)| Request::from_words(request))[..11]);
     let ask = |w| step(&mut state.clone(), &Request::from_words(w)).words();
-    assert_eq!(ask([14, 0, 0, 0, 0, 5, 7]), [8, 0, 0], "seats 5 would give 8");
-    assert_eq!(ask([20, 0, 0, 0, 4, 0, 0]), [7, 0, 0], "last = 4 sessions gives 7");
-    assert_eq!(ask([20, 0, 0, 0, 3, 0, 0]), [0, 0, 0], "3 passes");
+    assert_eq!(ask([14, 0, 0, 0, 0, 5, 7]), [8, 0, 0], "5 seats of 4 (rule 5.8)");
+    assert_eq!(ask([20, 0, 0, 0, 4, 0, 0]), [7, 0, 0], "there is no session 4 (rule 5.7)");
+    assert_eq!(ask([20, 0, 0, 0, 3, 0, 0]), [0, 0, 0], "session 3 is the last");
 }
 
 #[test]
@@ -99,7 +99,7 @@ fn laying_writes_the_settings_then_zeros_or_keeps_the_book() {
     assert_eq!(book.to_vec(), words(&rehearsal_state()));
 }
 
-/// The readings of lines that the paper's text decides.
+/// What is a line, and what is a settings line (rules 11.1 and 12.2).
 #[test]
 fn settings_lines_and_line_ends() {
     let refused = |number: u32| format!("{number:08x}0000000000000000\n").into_bytes();

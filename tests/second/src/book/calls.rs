@@ -9,8 +9,7 @@ fn refused(number: u32) -> Answer {
     Answer::Refused { number, place: 0 }
 }
 
-/// 1. "Is the book at least 9 words, are limits and capacities in range, and is its length as
-///    laid out below?" The settings, or None for no.
+/// Rule 5.1: the settings at the head of a well-laid book, or None for no.
 pub fn question_1(book: &[u32]) -> Option<Settings> {
     let settings = Settings::of_book(book)?;
     if length(&settings) == book.len() as u64 {
@@ -30,7 +29,7 @@ pub fn open(book: &[u32]) -> Result<State, Answer> {
     }
 }
 
-/// "Checking asks questions 1 and 2 alone and is done with value 0."
+/// Checking (rule 10.1).
 pub fn check(book: &[u32]) -> Answer {
     match open(book) {
         Ok(_) => Answer::Done(0),
@@ -38,7 +37,7 @@ pub fn check(book: &[u32]) -> Answer {
     }
 }
 
-/// "Refused, it keeps the book; done, it writes the settings, then zeros."
+/// Laying (section 9).
 pub fn lay(settings_words: &[u32], book: &mut [u32]) -> Answer {
     let Some(settings) = Settings::from_words(settings_words) else { return refused(24) };
     if length(&settings) != book.len() as u64 {
@@ -49,7 +48,7 @@ pub fn lay(settings_words: &[u32], book: &mut [u32]) -> Answer {
     Answer::Done(0)
 }
 
-/// One request on a raw book: questions 1 and 2, then the machine's step from the state shown.
+/// One request on a raw book (rule 10.3): questions 1 and 2, then a step from the state shown.
 pub fn request(book: &mut [u32], request: &Request) -> Answer {
     match open(book) {
         Err(refusal) => refusal,
@@ -61,8 +60,7 @@ pub fn request(book: &mut [u32], request: &Request) -> Answer {
     }
 }
 
-/// A list of requests, seven words each: min(list / 7, answers / 3) of them are answered in three
-/// words each. Done with that number; a book that 1 or 2 refuses gives that refusal alone.
+/// A list of requests in words on a raw book (rule 10.4).
 pub fn requests(book: &mut [u32], list: &[u32], answers: &mut [u32]) -> Answer {
     match open(book) {
         Err(refusal) => refusal,
@@ -74,7 +72,7 @@ pub fn requests(book: &mut [u32], list: &[u32], answers: &mut [u32]) -> Answer {
     }
 }
 
-/// Lays the book and answers the list from fresh. A refused laying answers nothing.
+/// Lays the book and answers the list from fresh (rule 10.5). A refused laying answers nothing.
 pub fn serve(settings: &[u32], book: &mut [u32], list: &[u32], answers: &mut [u32]) -> Answer {
     match lay(settings, book) {
         Answer::Done(_) => requests(book, list, answers),
@@ -93,7 +91,7 @@ fn answer_list(state: &mut State, list: &[u32], answers: &mut [u32]) -> u32 {
     count
 }
 
-/// The words that the settings need; 0 for settings that 24 refuses.
+/// The words that the settings need; 0 for settings that 24 refuses (rule 9.3).
 pub fn book_len(settings_words: &[u32]) -> u64 {
     Settings::from_words(settings_words).map_or(0, |settings| length(&settings))
 }

@@ -1,4 +1,4 @@
-//! "Laws", and the names of everything that question 2 asks.
+//! The laws (docs/RULES.md, section 7), and the names of everything that question 2 asks.
 
 use super::reading::read;
 use crate::machine::{Date, Settings, State};
@@ -7,7 +7,7 @@ use std::collections::BTreeSet;
 /// Each cell rule and each law by its own name, so that a test can say which one a book breaks.
 #[derive(Clone, Copy, Debug, PartialEq, Eq, PartialOrd, Ord)]
 pub enum Rule {
-    // Cell rules, from "Words of the book".
+    // Rules 8.8 to 8.12, of single cells.
     LeaveUnusedBits,
     StandingUnusedBits,
     HotelCellLimit,
@@ -20,7 +20,7 @@ pub enum Rule {
     EmptyLunchInfo,
     LunchSeatsNone,
     LunchSeatsOverCapacity,
-    // Laws, in the paper's order.
+    // The laws 7.1 to 7.14.
     HotelRoomHasOneVisitor,
     VisitorHasOneHotelRoom,
     TransportHasOneVisitor,
@@ -70,8 +70,8 @@ impl Rule {
         Rule::ReservedWithinCapacity,
     ];
 
-    /// The laws that the layout keeps by itself: each of these pairs has one cell in a book, so a
-    /// state of sets can break them and a book cannot.
+    /// The laws that the layout keeps by itself (rule 8.14): a state of sets can break them, and a
+    /// book cannot.
     pub fn kept_by_layout(self) -> bool {
         matches!(
             self,
@@ -104,8 +104,7 @@ pub fn laws_broken(state: &State) -> BTreeSet<Rule> {
     Rule::LAWS.into_iter().filter(|law| !holds(state, *law)).collect()
 }
 
-/// "Per slot: a hotel room has one visitor and a visitor one hotel room; the same for rides; a
-/// visitor attends one meeting; a conference room has one meeting; a meeting has one dining room."
+/// The laws 7.1 to 7.7: two things that meet at most once in a slot.
 fn holds(state: &State, law: Rule) -> bool {
     match law {
         Rule::HotelRoomHasOneVisitor => once(state.hotel.iter().map(|(date, room, _)| (date, room))),
@@ -119,9 +118,7 @@ fn holds(state: &State, law: Rule) -> bool {
     }
 }
 
-/// "A meeting attended or holding a conference room stands then; one with a lunch stands in some
-/// session of that date. Guests in hotel, ride or attend have leave on that date. Reserved is at
-/// most capacity."
+/// The laws 7.8 to 7.14: meetings stand, visitors have leave, seats fit.
 fn stands_leave_or_seats(state: &State, law: Rule) -> bool {
     let s = &state.settings;
     let stands = |session, meeting| state.standing.contains(&(session, meeting));

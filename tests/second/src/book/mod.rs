@@ -1,4 +1,4 @@
-//! "Words of the book": the words that a state gives, and how many a site needs.
+//! The words of the book (docs/RULES.md, section 8): those of a state, and how many a site needs.
 
 pub mod calls;
 pub mod laws;
@@ -12,17 +12,17 @@ pub use calls::{book_len, check, lay, request, requests, serve};
 pub use laws::{broken, laws_broken, Rule};
 pub use reading::{read, shown};
 
-/// How many words the bits of a pool of members take: "32 to a word".
+/// How many words the bits of a pool of members take (rule 8.1).
 pub fn pool_words(members: u32) -> u32 {
     members.div_ceil(32)
 }
 
-/// The needed length of a site's book, region by region in the paper's order.
+/// The length of a site's book (rule 8.5), region by region.
 pub fn length(settings: &Settings) -> u64 {
     regions::regions(settings).iter().fold(settings.word_count() as u64, |sum, region| sum + region.length())
 }
 
-/// The words that "Words of the book" gives for the state.
+/// The words that show the state (rule 8.13).
 pub fn words(state: &State) -> Vec<u32> {
     let s = &state.settings;
     let mut out = s.words();
@@ -58,7 +58,7 @@ fn sessions(s: &Settings) -> impl Iterator<Item = Session> {
     (0..s.sessions()).map(Session)
 }
 
-/// "one bit a visitor, 32 to a word, visitor 0 lowest"; bits of no member stay 0.
+/// A row of bits (rules 8.4 and 8.8).
 fn bits(members: u32, holds: impl Fn(u32) -> bool) -> Vec<u32> {
     let mut row = vec![0u32; pool_words(members) as usize];
     for member in (0..members).filter(|member| holds(*member)) {
@@ -67,7 +67,7 @@ fn bits(members: u32, holds: impl Fn(u32) -> bool) -> Vec<u32> {
     row
 }
 
-/// "A hotel or ride cell holds the visitor plus 1, or 0 for none."
+/// Hotel and ride cells (rule 8.6): one more than the visitor.
 fn hotel_cell(state: &State, date: Date, room: u32) -> u32 {
     let mut of_room = state.hotel.range((date, room, 0)..=(date, room, u32::MAX));
     of_room.next().map_or(0, |(_, _, visitor)| visitor + 1)
@@ -79,7 +79,7 @@ fn ride_cell(state: &State, time: u32, transport: u32) -> u32 {
     of_transport.next().map_or(0, |(_, _, visitor)| visitor + 1)
 }
 
-/// "attend cells (session, visitor)": the meeting plus 1.
+/// The attend cells of a session (rule 8.6): for each visitor one more than the meeting.
 fn attend_cells(state: &State, session: Session) -> Vec<u32> {
     let entries = state.attend.range((session, 0, 0)..=(session, u32::MAX, u32::MAX));
     let meeting_of: BTreeMap<u32, u32> = entries.map(|(_, meeting, visitor)| (*visitor, *meeting)).collect();
@@ -87,13 +87,14 @@ fn attend_cells(state: &State, session: Session) -> Vec<u32> {
     (0..state.settings.visitors).map(cell).collect()
 }
 
-/// "conf pairs (session, room)": the meeting plus 1, then info.
+/// A conf cell (rules 8.6 and 8.7): one more than the meeting, information.
 fn conf_pair(state: &State, session: Session, room: u32) -> [u32; 2] {
     let mut of_room = state.conf.range((session, room, 0)..=(session, room, u32::MAX));
     of_room.next().map_or([0, 0], |((_, _, meeting), info)| [meeting + 1, *info])
 }
 
-/// "lunch triples (date, meeting)": the dining room plus 1, then seats, then info.
+/// The lunch cells of a date (rules 8.6 and 8.7): for each meeting one more than the dining room,
+/// seats, information.
 fn lunch_triples(state: &State, date: Date) -> Vec<u32> {
     let entries = state.lunch.range((date, 0, 0)..=(date, u32::MAX, u32::MAX));
     let lunch_of: BTreeMap<u32, [u32; 3]> =

@@ -12,8 +12,7 @@ pub struct Reading {
     pub broken: BTreeSet<Rule>,
 }
 
-/// "A book shows a state of the machine when its words are exactly those that 'Words of the book'
-/// gives for that state." None when it shows none.
+/// The state that the book shows (rule 8.13). None when it shows none.
 pub fn shown(book: &[u32]) -> Option<State> {
     let settings = super::calls::question_1(book)?;
     let reading = read(settings, book);
@@ -58,7 +57,7 @@ impl Reader<'_> {
         self.reading.broken.insert(rule);
     }
 
-    /// The members of one row of bits; a bit of no member breaks the rule.
+    /// The members of one row of bits; a bit of no member breaks rule 8.8.
     fn members(&mut self, members: u32, unused: Rule) -> Vec<u32> {
         let mut found = Vec::new();
         for place in 0..pool_words(members) {
@@ -72,7 +71,7 @@ impl Reader<'_> {
         found
     }
 
-    /// A cell: None for 0, else the number it holds less 1, which must be within its limit.
+    /// A cell: None for 0, else the number it holds less 1, which must be within its limit (rule 8.9).
     fn cell(&mut self, limit: u32, past_limit: Rule) -> Option<u32> {
         match self.next() {
             0 => None,
@@ -116,7 +115,7 @@ impl Reader<'_> {
         }
     }
 
-    /// "An empty cell has zeros beside it"
+    /// Rule 8.10.
     fn conf(&mut self, s: &Settings) {
         for session in (0..s.sessions()).map(Session) {
             for room in 0..s.conference_rooms {
@@ -139,7 +138,7 @@ impl Reader<'_> {
         }
     }
 
-    /// "An empty cell has zeros beside it, a full lunch has seats 1..capacity"
+    /// Rules 8.11 and 8.12.
     fn lunch_triple(&mut self, s: &Settings, date: Date, meeting: u32) {
         let empty = self.rest[0] == 0;
         let cell = self.cell(s.dining_rooms, Rule::LunchCellLimit);

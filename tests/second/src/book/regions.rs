@@ -1,4 +1,4 @@
-//! Where the seven regions of a book lie. Writing and reading walk the book in order and need no
+//! Where the seven regions of a book lie (rules 8.1 to 8.3). Writing and reading walk the book in order and need no
 //! addresses; these are for the length and for whoever wants to damage one cell.
 
 use super::pool_words;
@@ -44,7 +44,7 @@ pub fn regions(s: &Settings) -> [Region; 7] {
     ]
 }
 
-/// The index of the first word of an item: "The last index runs fastest."
+/// The index of the first word of an item (rule 8.3).
 pub fn address(s: &Settings, name: Name, slot: u32, item: u32) -> usize {
     let mut start = s.word_count() as u64;
     for region in regions(s) {

@@ -22,7 +22,7 @@ pub enum Size {
     Any,
 }
 
-/// Greatest limits of a small site and of a site for tables, in the order D P Q V M C G H K.
+/// Greatest limits of a small site and of a site for tables, in the order of rule 1.1.
 const SMALL: [u32; LIMITS] = [5, 3, 4, 7, 5, 4, 3, 5, 4];
 const TABLE: [u32; LIMITS] = [3, 3, 3, 5, 4, 3, 2, 3, 2];
 

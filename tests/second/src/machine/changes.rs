@@ -1,12 +1,11 @@
-//! The column "does" of the table of kinds: the change of an accepted request, and its value.
+//! What each kind does when it is done (docs/RULES.md, section 4): its change, and its value.
 
 use super::questions::{dates_of_sessions, lowest_free_room, meeting_attended};
 use super::site::{Date, Session};
 use super::{Request, State};
 use std::collections::BTreeSet;
 
-/// Makes the change in all the slots and gives the value. "The value of kind 3 counts the hotel,
-/// ride and attend entries erased; kinds 17 to 20 give what they ask; the rest give 0."
+/// Makes the change in all the slots (rules 4.1 to 4.16) and gives the value (rule 4.26).
 pub fn change(state: &mut State, r: &Request) -> u32 {
     match r.kind {
         1 => state.leave.extend(r.dates().map(|date| (date, r.b))),
@@ -30,7 +29,7 @@ pub fn change(state: &mut State, r: &Request) -> u32 {
     0
 }
 
-/// The value of kinds 17 to 20, which change nothing.
+/// The value of kinds 17 to 20 (rules 4.17 to 4.20), which change nothing.
 fn what_it_asks(state: &State, r: &Request) -> u32 {
     match r.kind {
         17 => meeting_attended(state, Session(r.first), r.b).unwrap_or(0),
@@ -47,7 +46,7 @@ fn end_leave(state: &mut State, r: &Request) {
     }
 }
 
-/// Kind 3: "end leave, erase their hotel, ride and attend entries of those dates"
+/// Rule 4.3: leave goes, and every booking on those dates; the value is how many.
 fn remove_visitor(state: &mut State, r: &Request) -> u32 {
     end_leave(state, r);
     let settings = &state.settings;
@@ -76,7 +75,7 @@ fn erase<Entry: Ord>(set: &mut BTreeSet<Entry>, meant: impl Fn(&Entry) -> bool) 
     before - set.len()
 }
 
-/// Kind 9: "end standing, erase the meeting's attend entries there"
+/// Rule 4.9: whoever attends the meeting in those sessions attends it no longer.
 fn end_standing(state: &mut State, r: &Request) {
     for session in r.sessions() {
         state.standing.remove(&(session, r.a));
@@ -84,12 +83,12 @@ fn end_standing(state: &mut State, r: &Request) {
     state.attend.retain(|(session, meeting, _)| !(*meeting == r.a && in_slots(r, session.0)));
 }
 
-/// Kind 13: "erase all the meeting's conf"
+/// Rule 4.13: the meeting gives up its conference rooms, whichever they are.
 fn erase_confs(state: &mut State, r: &Request) {
     state.conf.retain(|(session, _, meeting), _| !(*meeting == r.b && in_slots(r, session.0)));
 }
 
-/// Kind 16: "kind 13, and erase its lunches on dates from first's to last's"
+/// Rule 4.16: as kind 13, and the lunches on the dates of the run go too.
 fn cancel_meeting(state: &mut State, r: &Request) {
     erase_confs(state, r);
     let dates: BTreeSet<Date> = dates_of_sessions(state, r).collect();

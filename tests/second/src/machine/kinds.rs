@@ -1,4 +1,4 @@
-//! The table of kinds: which fields a kind uses, and for what.
+//! The table of kinds (docs/RULES.md, section 4): which fields a kind uses, and for what.
 
 use super::site::Settings;
 
@@ -32,7 +32,7 @@ pub struct Uses {
     pub unit: Unit,
     pub n: bool,
     pub info: bool,
-    /// "one" session or date: first = last
+    /// the kind takes one slot: first and last are equal (rule 4.23)
     pub one: bool,
 }
 
@@ -60,7 +60,7 @@ impl Unit {
     }
 }
 
-/// The column "uses" of the table; None for a kind that is not in it.
+/// A line of the table; None for a kind that is not in it.
 pub fn uses(kind: u32) -> Option<Uses> {
     use Thing::*;
     use Unit::*;

@@ -1,4 +1,5 @@
-//! "The diary machine": its state is the settings and seven sets; `step` answers one request.
+//! The diary machine: `State` holds settings and sets (docs/RULES.md, section 3), `step` answers one
+//! request (section 6).
 
 pub mod changes;
 pub mod kinds;
@@ -9,7 +10,7 @@ use std::collections::{BTreeMap, BTreeSet};
 
 pub use site::{Date, Session, Settings, Time};
 
-/// The settings and the seven sets. Tuples are in the paper's order.
+/// The settings and the seven sets, with the tuples of rules 3.1 to 3.7.
 #[derive(Clone, Debug, PartialEq, Eq)]
 pub struct State {
     pub settings: Settings,
@@ -23,14 +24,14 @@ pub struct State {
     pub ride: BTreeSet<(Time, u32, u32)>,
     /// (session, meeting, visitor)
     pub attend: BTreeSet<(Session, u32, u32)>,
-    /// (session, room, meeting) with information
+    /// (session, room, meeting): information
     pub conf: BTreeMap<(Session, u32, u32), u32>,
-    /// (date, dining room, meeting) with seats and information
+    /// (date, dining room, meeting): seats, information
     pub lunch: BTreeMap<(Date, u32, u32), (u32, u32)>,
 }
 
 impl State {
-    /// "seven sets, all empty at first"
+    /// The fresh state (rule 3.8).
     pub fn empty(settings: Settings) -> State {
         State {
             settings,
@@ -44,8 +45,8 @@ impl State {
         }
     }
 
-    /// "Reserved seats of a dining room on a date are the sum of seats over its lunches." 64 bits,
-    /// so that a state that breaks the laws can be summed as well.
+    /// What is reserved of a dining room on a date (rule 3.9). 64 bits, so that a state that breaks
+    /// the laws can be summed as well.
     pub fn reserved(&self, date: Date, room: u32) -> u64 {
         let of_room = self.lunch.range((date, room, 0)..=(date, room, u32::MAX));
         of_room.map(|(_, (seats, _))| u64::from(*seats)).sum()
@@ -57,7 +58,7 @@ impl State {
     }
 }
 
-/// "A request is seven 32-bit words: kind, a, b, first, last, n, info."
+/// A request, its seven words in the order of section 4.
 #[derive(Clone, Copy, Debug, PartialEq, Eq)]
 pub struct Request {
     pub kind: u32,
@@ -92,7 +93,7 @@ impl Request {
     }
 }
 
-/// "An answer is either done with a value, or refused with number and place."
+/// An answer (rule 6.1).
 #[derive(Clone, Copy, Debug, PartialEq, Eq)]
 pub enum Answer {
     Done(u32),
@@ -100,7 +101,7 @@ pub enum Answer {
 }
 
 impl Answer {
-    /// "three words: number and place (both 0 when done), then value"
+    /// The three words of an answer (rule 6.2).
     pub fn words(&self) -> [u32; 3] {
         match *self {
             Answer::Done(value) => [0, 0, value],
@@ -114,8 +115,8 @@ impl Answer {
     }
 }
 
-/// "At the first no it refuses and changes no set. Otherwise it makes the change shown for the
-/// kind, in all the slots, and is done."
+/// Answers one request: the first question answered no refuses it and leaves the state as it is
+/// (rules 6.3 and 6.6); without one the change is made.
 pub fn step(state: &mut State, request: &Request) -> Answer {
     match questions::first_no(state, request) {
         Some((number, place)) => Answer::Refused { number, place },

@@ -1,4 +1,4 @@
-//! "Questions, in this order": 3 to 22, each a function of the machine's state and the request.
+//! Questions 3 to 22 (docs/RULES.md, section 5), each a function of the state and the request.
 //! A question answers Ok for yes and Err with the place for no; where it does not apply it says yes.
 
 use super::kinds::{uses, LAST_KIND};
@@ -10,7 +10,7 @@ pub type Verdict = Result<(), u32>;
 
 pub type Question = fn(&State, &Request) -> Verdict;
 
-/// The questions with their numbers, in the paper's order.
+/// The questions with their numbers, in the order of asking (rule 6.3).
 pub const QUESTIONS: [(u32, Question); 20] = [
     (3, kind_is_known),
     (4, unused_fields_are_0),
@@ -44,7 +44,7 @@ pub fn first_no(state: &State, request: &Request) -> Option<(u32, u32)> {
     None
 }
 
-/// "Place is the lowest slot that fails that question."
+/// A question over slots: no with the lowest slot that is answered no (rules 6.4 and 6.5).
 fn each<Slot>(mut slots: impl Iterator<Item = Slot>, yes: impl Fn(&Slot) -> bool) -> Verdict
 where
     Slot: Copy + Into<u32>,
@@ -55,7 +55,7 @@ where
     }
 }
 
-/// For the numbers whose place is 0.
+/// A question that is asked once: no with place 0.
 fn whole(yes: bool) -> Verdict {
     if yes {
         Ok(())
@@ -104,15 +104,14 @@ fn of_slot<'a, Slot: 'a>(entries: impl Iterator<Item = &'a (Slot, u32, u32)>) ->
     entries.map(|entry| (entry.1, entry.2)).collect()
 }
 
-/// The dates "from first's to last's" of a request in sessions.
+/// The dates of a run of sessions, each of them whole (rule 2.4).
 pub fn dates_of_sessions(state: &State, r: &Request) -> impl Iterator<Item = Date> {
     let first = state.settings.date_of_session(Session(r.first));
     let last = state.settings.date_of_session(Session(r.last));
     (first.0..=last.0).map(Date)
 }
 
-/// Has the visitor a hotel, ride or attend entry on the date? "an entry of a session or time is
-/// on that one's date"
+/// Has the visitor a booking on the date (rule 3.10)?
 fn has_booking_on(state: &State, date: Date, visitor: u32) -> bool {
     let settings = &state.settings;
     let hotel = pairs(state, 4, date.0).iter().any(|pair| pair.1 == visitor);
@@ -129,12 +128,12 @@ fn has_lunch(state: &State, date: Date, meeting: u32) -> bool {
     pairs(state, 14, date.0).iter().any(|pair| pair.1 == meeting)
 }
 
-/// 3. Is the kind 1..20?
+/// Rule 5.3: the kind is one of the table.
 fn kind_is_known(_: &State, r: &Request) -> Verdict {
     whole(1 <= r.kind && r.kind <= LAST_KIND)
 }
 
-/// 4. Is every unused field 0?
+/// Rule 5.4: fields that the kind has no use for are 0.
 fn unused_fields_are_0(_: &State, r: &Request) -> Verdict {
     let Some(used) = uses(r.kind) else { return Ok(()) };
     let a = used.a.is_some() || r.a == 0;
@@ -144,7 +143,7 @@ fn unused_fields_are_0(_: &State, r: &Request) -> Verdict {
     whole(a && b && n && info)
 }
 
-/// 5. Is a below its limit?
+/// Rule 5.5: a names something that the site has.
 fn a_is_below_its_limit(state: &State, r: &Request) -> Verdict {
     match uses(r.kind).and_then(|used| used.a) {
         Some(thing) => whole(r.a < thing.limit(&state.settings)),
@@ -152,7 +151,7 @@ fn a_is_below_its_limit(state: &State, r: &Request) -> Verdict {
     }
 }
 
-/// 6. Is b below its limit?
+/// Rule 5.6: b names something that the site has.
 fn b_is_below_its_limit(state: &State, r: &Request) -> Verdict {
     match uses(r.kind).and_then(|used| used.b) {
         Some(thing) => whole(r.b < thing.limit(&state.settings)),
@@ -160,14 +159,14 @@ fn b_is_below_its_limit(state: &State, r: &Request) -> Verdict {
     }
 }
 
-/// 7. Is first ≤ last, last a slot of the unit, and first = last for kinds 17 to 19?
+/// Rule 5.7: the slots run forward and end inside the site; a query of one slot has one.
 fn slots_are_in_order(state: &State, r: &Request) -> Verdict {
     let Some(used) = uses(r.kind) else { return Ok(()) };
     let one = !used.one || r.first == r.last;
     whole(r.first <= r.last && r.last < used.unit.slots(&state.settings) && one)
 }
 
-/// 8. Is n from 1 to the room's capacity? (14)
+/// Rule 5.8: a lunch has a seat, and no more than its dining room.
 fn seats_are_1_to_capacity(state: &State, r: &Request) -> Verdict {
     match r.kind {
         14 => whole(1 <= r.n && r.n <= state.settings.capacity(r.a)),
@@ -175,7 +174,7 @@ fn seats_are_1_to_capacity(state: &State, r: &Request) -> Verdict {
     }
 }
 
-/// 9. Has the visitor leave on each slot's date? (4, 6, 10)
+/// Rule 5.9: leave, asked of the date of every slot.
 fn visitor_has_leave(state: &State, r: &Request) -> Verdict {
     let on = |date| state.leave.contains(&(date, r.b));
     match r.kind {
@@ -186,7 +185,7 @@ fn visitor_has_leave(state: &State, r: &Request) -> Verdict {
     }
 }
 
-/// 10. Does the meeting stand in each slot (10, 12), or in some session of each date (14)?
+/// Rule 5.10: the meeting stands; for a lunch one session of the date is enough.
 fn meeting_stands(state: &State, r: &Request) -> Verdict {
     match r.kind {
         10 => each(r.sessions(), |session| state.standing.contains(&(*session, r.a))),
@@ -196,7 +195,7 @@ fn meeting_stands(state: &State, r: &Request) -> Verdict {
     }
 }
 
-/// 11. Is this very pair absent in each slot? (4, 6, 10, 12, 14)
+/// Rule 5.11: the booking is not there yet.
 fn pair_is_absent(state: &State, r: &Request) -> Verdict {
     match r.kind {
         4 | 6 | 10 | 12 | 14 => each(r.first..=r.last, |slot| !pairs(state, r.kind, *slot).contains(&(r.a, r.b))),
@@ -204,7 +203,7 @@ fn pair_is_absent(state: &State, r: &Request) -> Verdict {
     }
 }
 
-/// 12. Is a free in each slot? (4, 6, 12)
+/// Rule 5.12: the room or transport is not in use.
 fn a_is_free(state: &State, r: &Request) -> Verdict {
     match r.kind {
         4 | 6 | 12 => each(r.first..=r.last, |slot| !pairs(state, r.kind, *slot).iter().any(|(a, _)| *a == r.a)),
@@ -212,7 +211,7 @@ fn a_is_free(state: &State, r: &Request) -> Verdict {
     }
 }
 
-/// 13. Has b no such entry with any other a in each slot? (4, 6, 10, 14)
+/// Rule 5.13: the visitor or meeting has no other booking of this sort.
 fn b_has_no_other_a(state: &State, r: &Request) -> Verdict {
     match r.kind {
         4 | 6 | 10 | 14 => {
@@ -222,7 +221,7 @@ fn b_has_no_other_a(state: &State, r: &Request) -> Verdict {
     }
 }
 
-/// 14. Is reserved + n at most capacity on each date? (14)
+/// Rule 5.14: the seats fit beside those of other lunches.
 fn seats_fit(state: &State, r: &Request) -> Verdict {
     match r.kind {
         14 => each(r.dates(), |date| {
@@ -232,7 +231,7 @@ fn seats_fit(state: &State, r: &Request) -> Verdict {
     }
 }
 
-/// 15. Is this pair present in each slot? (5, 7, 11, 15)
+/// Rule 5.15: the booking is there.
 fn pair_is_present(state: &State, r: &Request) -> Verdict {
     match r.kind {
         5 | 7 | 11 | 15 => each(r.first..=r.last, |slot| pairs(state, r.kind, *slot).contains(&(r.a, r.b))),
@@ -240,7 +239,7 @@ fn pair_is_present(state: &State, r: &Request) -> Verdict {
     }
 }
 
-/// 16. Has the meeting a conference room in each slot? (13, 16)
+/// Rule 5.16: the meeting holds some conference room.
 fn meeting_has_a_conference_room(state: &State, r: &Request) -> Verdict {
     match r.kind {
         13 | 16 => each(r.sessions(), |session| has_conf(state, *session, r.b)),
@@ -248,7 +247,7 @@ fn meeting_has_a_conference_room(state: &State, r: &Request) -> Verdict {
     }
 }
 
-/// 17. Has it a lunch on each of the dates? (16)
+/// Rule 5.17: the meeting has a lunch; asked of dates, not of sessions.
 fn meeting_has_a_lunch(state: &State, r: &Request) -> Verdict {
     match r.kind {
         16 => each(dates_of_sessions(state, r), |date| has_lunch(state, *date, r.b)),
@@ -256,7 +255,7 @@ fn meeting_has_a_lunch(state: &State, r: &Request) -> Verdict {
     }
 }
 
-/// 18. Has the visitor no hotel, ride or attend entry on each date? (2)
+/// Rule 5.18: the visitor has no bookings left.
 fn visitor_has_no_booking(state: &State, r: &Request) -> Verdict {
     match r.kind {
         2 => each(r.dates(), |date| !has_booking_on(state, *date, r.b)),
@@ -264,7 +263,7 @@ fn visitor_has_no_booking(state: &State, r: &Request) -> Verdict {
     }
 }
 
-/// 19. In each slot, has the meeting no conf there and no lunch on its date? (9)
+/// Rule 5.19: the meeting holds nothing: neither a room in the session nor a lunch that day.
 fn meeting_has_no_conf_and_no_lunch(state: &State, r: &Request) -> Verdict {
     match r.kind {
         9 => each(r.sessions(), |session| {
@@ -275,7 +274,7 @@ fn meeting_has_no_conf_and_no_lunch(state: &State, r: &Request) -> Verdict {
     }
 }
 
-/// 20. Does somebody attend it in each slot? (9)
+/// Rule 5.20: the meeting is attended.
 fn somebody_attends(state: &State, r: &Request) -> Verdict {
     match r.kind {
         9 => each(r.sessions(), |session| pairs(state, 10, session.0).iter().any(|(meeting, _)| *meeting == r.a)),
@@ -283,7 +282,7 @@ fn somebody_attends(state: &State, r: &Request) -> Verdict {
     }
 }
 
-/// 21. Does the visitor attend a meeting? (17)
+/// Rule 5.21: the visitor attends some meeting.
 fn visitor_attends_a_meeting(state: &State, r: &Request) -> Verdict {
     match r.kind {
         17 => each(r.sessions(), |session| pairs(state, 10, session.0).iter().any(|(_, visitor)| *visitor == r.b)),
@@ -291,7 +290,7 @@ fn visitor_attends_a_meeting(state: &State, r: &Request) -> Verdict {
     }
 }
 
-/// 22. Is there such a room? (20)
+/// Rule 5.22: some conference room is free throughout.
 fn there_is_such_a_room(state: &State, r: &Request) -> Verdict {
     match r.kind {
         20 => whole(lowest_free_room(state, r).is_some()),
@@ -299,7 +298,7 @@ fn there_is_such_a_room(state: &State, r: &Request) -> Verdict {
     }
 }
 
-/// "lowest conference room free in every slot"
+/// The lowest conference room that no meeting holds in any of the slots (rule 4.20).
 pub fn lowest_free_room(state: &State, r: &Request) -> Option<u32> {
     let taken =
         |room: u32, session: Session| state.conf.range((session, room, 0)..=(session, room, u32::MAX)).next().is_some();

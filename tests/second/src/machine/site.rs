@@ -1,12 +1,12 @@
-//! "What a site fixes": nine limits, G seat capacities, and the three units.
+//! Settings and units (docs/RULES.md, sections 1 and 2).
 
 /// How many limits come before the capacities.
 pub const LIMITS: usize = 9;
 
-/// The greatest value of each limit, in the paper's order D P Q V M C G H K. The least is 1.
+/// The greatest value of each limit, in the order of rule 1.1. The least is 1.
 pub const GREATEST: [u32; LIMITS] = [400, 16, 96, 512, 128, 64, 16, 512, 128];
 
-/// A seat capacity is 1..1000.
+/// The greatest seat capacity (rule 1.2). The least is 1.
 pub const GREATEST_CAPACITY: u32 = 1000;
 
 #[derive(Clone, Copy, Debug, PartialEq, Eq, PartialOrd, Ord)]
@@ -16,7 +16,7 @@ pub struct Session(pub u32);
 #[derive(Clone, Copy, Debug, PartialEq, Eq, PartialOrd, Ord)]
 pub struct Time(pub u32);
 
-/// The settings. "per date" in the names where the paper says so.
+/// The settings (rule 1.3). Sessions and times are so many per date.
 #[derive(Clone, Debug, PartialEq, Eq)]
 pub struct Settings {
     pub dates: u32,
@@ -37,7 +37,7 @@ fn in_range(word: u32, greatest: u32) -> bool {
 }
 
 impl Settings {
-    /// Question 24: "Are the settings of length 9 + G with all ranges kept?"
+    /// Rule 5.24: the settings of these words, or None where they are not good ones.
     pub fn from_words(words: &[u32]) -> Option<Settings> {
         let limits = words.get(..LIMITS)?;
         let capacities = &words[LIMITS..];
@@ -101,22 +101,22 @@ impl Settings {
         self.capacities[dining_room as usize]
     }
 
-    /// "sessions below D×P"
+    /// How many sessions the site has (rule 2.1).
     pub fn sessions(&self) -> u32 {
         self.dates * self.sessions_per_date
     }
 
-    /// "times below D×Q"
+    /// How many times the site has (rule 2.1).
     pub fn times(&self) -> u32 {
         self.dates * self.times_per_date
     }
 
-    /// "The date of session s is s / P"
+    /// Rule 2.2.
     pub fn date_of_session(&self, session: Session) -> Date {
         Date(session.0 / self.sessions_per_date)
     }
 
-    /// "and of time t is t / Q, both rounded down"
+    /// Rule 2.2.
     pub fn date_of_time(&self, time: Time) -> Date {
         Date(time.0 / self.times_per_date)
     }
