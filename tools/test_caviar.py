@@ -1,6 +1,7 @@
 #!/usr/bin/env python3
-"""Tests of tools/caviar against the second program's `frames` and, where it is built, the proved one.
+"""Tests of tools/caviar against the second program's `frames` and the proved one, which must be built.
 
+    rt check frames
     python3 tools/test_caviar.py
 
 The files of tools/conversations hold settings, requests as they are typed, and indented below each one the sentence
@@ -40,11 +41,13 @@ def built(name):
 
 
 def programs():
-    """The programs that answer: the second one, and the proved one where it is built."""
-    return [built("frames")] + [PROVED] * PROVED.exists()
+    """The programs that answer: the second one and the proved one."""
+    return [built("frames"), PROVED]
 
 
 def setUpModule():
+    if not os.access(PROVED, os.X_OK):
+        raise RuntimeError(f"there is no program {PROVED}; `rt check frames` builds it")
     cargo = shutil.which("cargo") or str(Path.home() / ".cargo" / "bin" / "cargo")
     command = [cargo, "build", "--quiet", "--offline", "--locked", "--release", "--bins"]
     environment = dict(os.environ, CARGO_TARGET_DIR=str(CARGO_TARGET))
@@ -139,7 +142,7 @@ class Conversations(Tested):
             "": ("raw", not_words),
             "raw 0000001": ("raw 0000001", not_words),
             "raw 00000002": ("raw 00000002", "there are 1 numbers, and settings have 9 before the capacities"),
-            one_more + "\nadd-leave": (one_more, "dining 1 wants as many capacities, and there are 2"),
+            one_more + "\nadd-leave visitor 0 date 0": (one_more, "dining 1 wants as many capacities, and there are 2"),
         }
         for typed_text, (shown, why) in cases.items():
             self.refused_at_once(typed_text, shown + refused.format(why, paper.QUESTIONS[24][0]))
@@ -164,9 +167,11 @@ class Frame(Tested):
     def test_arguments_and_lines_say_the_same(self):
         line = b"00000004000000000000000100000000000000010000000000000000\n"
         self.assertEqual(self.wrote("frame", "add-hotel", "room", "0", "visitor", "1", "dates", "0..1"), line)
-        self.assertEqual(self.wrote("frame", "4 visitor 1 dates 0..1"), line)
-        self.assertEqual(self.wrote("frame", "4 visitor 1 dates 0..1", "add-hotel b 1 last 1"), line + line)
-        self.assertEqual(self.wrote("frame", given="\n # nothing\n\tADD-HOTEL  Visitor 0x1 date 0..1 # two\n"), line)
+        self.assertEqual(self.wrote("frame", "4 room 0 visitor 1 dates 0..1"), line)
+        by_fields = "add-hotel b 1 a 0 last 1 first 0"
+        self.assertEqual(self.wrote("frame", "4 visitor 1 dates 0..1 room 0", by_fields), line + line)
+        shouted = "\n # nothing\n\tADD-HOTEL  Room 0 Visitor 0x1 date 0..1 # two\n"
+        self.assertEqual(self.wrote("frame", given=shouted), line)
         as_it_stands = self.wrote("frame", given="raw\nRAW\t# as it  stands \n raw raw\n")
         self.assertEqual(as_it_stands, b"\n# as it  stands \nraw\n")
 
@@ -175,7 +180,31 @@ class Frame(Tested):
             fields = " ".join(f"{word} 1" for word in kind.uses())
             by_name, by_number = (typed.parse_line(f"{head} {fields}", False) for head in (kind.name, kind.number))
             self.assertEqual(by_name, by_number)
-            self.assertEqual(typed.parse_line(kind.name, False), Request(kind.number), "missing fields are 0")
+
+    def lacks(self, line, kind, words):
+        with self.assertRaises(Problem) as caught:
+            typed.parse_line(line, False)
+        self.assertEqual(str(caught.exception), f"{kind.name} lacks {', '.join(words)}")
+
+    def test_every_word_that_a_kind_takes_is_asked_for(self):
+        """Each word left out alone, and all of them; information alone may be left out, and is 0."""
+        asked = 0
+        for kind in paper.KINDS:
+            words = kind.uses()
+            for left_out in words:
+                line = " ".join([kind.name] + [f"{word} 1" for word in words if word != left_out])
+                if left_out == "info":
+                    self.assertEqual(typed.parse_line(line, False).info, 0)
+                else:
+                    asked += 1
+                    self.lacks(line, kind, [left_out])
+            self.lacks(kind.name, kind, [word for word in words if word != "info"])
+        fields = [(kind.a, kind.b, True, kind.seats) for kind in paper.KINDS]
+        self.assertEqual(asked, sum(bool(used) for of_kind in fields for used in of_kind))
+        self.complains("line 1: add-hotel lacks visitor, dates", "frame", "add-hotel room 9")
+        self.complains("line 1: add-lunch lacks last", "frame", "add-lunch dining 0 meeting 0 first 0 seats 1")
+        self.complains("line 1: add-leave lacks first", "frame", "add-leave visitor 0 last 0")
+        self.assertEqual(typed.parse_line("21 b 1", False), Request(21, b=1), "a kind that is none asks for nothing")
 
     def test_every_complaint(self):
         cases = {
@@ -222,7 +251,8 @@ class Frame(Tested):
             self.complains(f"line 1: {message}", "frame", given=line)
         self.complains("line 5: settings come first, before every request", "frame",
                        given=f"# one\n\n{SETTINGS}\n  # four\n{SETTINGS}\n")
-        self.complains("line 3: 'x' is not a number", "frame", given=f"{SETTINGS}\nadd-leave\nadd-leave visitor x\n4\n")
+        self.complains("line 3: 'x' is not a number", "frame",
+                       given=f"{SETTINGS}\ncount-leave date 0\nadd-leave visitor x\n4\n")
         self.complains("line 2: 'x' is not a number", "frame", SETTINGS, "add-leave visitor x")
 
 
@@ -283,7 +313,7 @@ class Explain(Tested):
 
     def test_no_answers_and_fewer_answers(self):
         self.assertEqual(self.wrote("explain"), b"")
-        requests = f"{SETTINGS}\nadd-leave\nadd-leave\n".encode()
+        requests = f"{SETTINGS}\nadd-leave visitor 0 date 0\nadd-leave visitor 0 date 1\n".encode()
         self.assertEqual(self.explained(requests, b""), b"Requests without an answer here: 2.\n")
         self.assertEqual(self.explained(requests, b"0" * 24), b"add-leave visitor 0 date 0\n"
                          b"    Done: visitor 0 has leave on date 0.\nRequests without an answer here: 1.\n")
@@ -303,21 +333,22 @@ class Explain(Tested):
     def test_every_complaint_about_requests(self):
         whose = "; are these the answers to these requests?"
         done = "0" * 24
+        leave, hotel = "add-leave visitor 0 date 0", "add-hotel room 0 visitor 0 date 0"
         cases = [
             (SETTINGS, done, "there are 1 answers and 0 requests"),
-            ("add-leave", done, "the requests do not begin with good settings, and are answered with 24 alone"),
+            (leave, done, "the requests do not begin with good settings, and are answered with 24 alone"),
             (SETTINGS, "00000018" + "0" * 16,
              "line 1: these settings are not refused by 24; is this the answer to these requests?"),
-            (f"{SETTINGS}\nadd-leave", "000000080000000000000000",
+            (f"{SETTINGS}\n{leave}", "000000080000000000000000",
              "line 1: add-leave with these words is not refused by 8" + whose),
-            (f"{SETTINGS}\nadd-hotel", "0000000f0000000000000000",
+            (f"{SETTINGS}\n{hotel}", "0000000f0000000000000000",
              "line 1: add-hotel with these words is not refused by 15" + whose),
-            (f"{SETTINGS}\nadd-hotel", "000000090000000100000000",
+            (f"{SETTINGS}\n{hotel}", "000000090000000100000000",
              "line 1: place 1 is not a slot of this add-hotel" + whose),
-            (f"{SETTINGS}\n16 sessions 2..3", "000000110000000200000000",
+            (f"{SETTINGS}\n16 meeting 0 sessions 2..3", "000000110000000200000000",
              "line 1: place 2 is not a slot of this erase-conf-and-lunch" + whose),
-            (f"{SETTINGS}\nadd-hotel", "000000000000000000000001", "line 1: add-hotel has value 0" + whose),
-            (f"{SETTINGS}\nadd-hotel room 2", done, "line 1: this line is refused by 5" + whose),
+            (f"{SETTINGS}\n{hotel}", "000000000000000000000001", "line 1: add-hotel has value 0" + whose),
+            (f"{SETTINGS}\nadd-hotel room 2 visitor 0 date 0", done, "line 1: this line is refused by 5" + whose),
             (f"{SETTINGS}\n21", done, "line 1: this line is refused by 3" + whose),
             (f"{SETTINGS}\nraw zz", done, "line 1: this line is refused by 23" + whose),
         ]

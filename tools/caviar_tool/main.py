@@ -8,7 +8,7 @@ from pathlib import Path
 from . import typed as words_typed
 from .explain import explained, sentence_alone
 from .lines import printable, read_answer, read_lines, text_lines, written
-from .paper import KINDS, QUESTIONS, Problem
+from .paper import INFO, KINDS, QUESTIONS, Problem
 
 BAD_INPUT = 2
 
@@ -100,10 +100,10 @@ def table(_):
 
 
 def kinds(_):
-    """The table of kinds."""
-    widest = max(len(kind.name) for kind in KINDS)
-    fields = max(len(" ".join(kind.uses())) for kind in KINDS)
-    return [f"{kind.number:2}  {kind.name:{widest}}  {' '.join(kind.uses()):{fields}}  {kind.does}" for kind in KINDS]
+    """The table of kinds, with what may be left out in brackets."""
+    takes = [" ".join(f"[{word}]" if word == INFO else word for word in kind.uses()) for kind in KINDS]
+    name, words = max(len(kind.name) for kind in KINDS), max(map(len, takes))
+    return [f"{kind.number:2}  {kind.name:{name}}  {taken:{words}}  {kind.does}" for kind, taken in zip(KINDS, takes)]
 
 
 def parser():

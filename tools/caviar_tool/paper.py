@@ -7,6 +7,9 @@ WORD_LIMIT = 2 ** 32
 # The program keeps a book of at most so many words.
 MOST_WORDS = 16_384
 
+# The one word of a request that may be left out.
+INFO = "info"
+
 # The limits in the order of the settings, each from 1 to its greatest.
 LIMITS = {
     "dates": 400,
@@ -55,11 +58,25 @@ class Kind(NamedTuple):
     info: bool = False
     one: bool = False
 
+    def fields(self):
+        """The words that a typed request of this kind takes, in their order, each with the fields that it fills."""
+        taken = {thing.word: (field,) for field, thing in (("a", self.a), ("b", self.b)) if thing}
+        taken[self.unit if self.one else self.unit + "s"] = ("first", "last")
+        taken.update({"seats": ("n",)} if self.seats else {})
+        taken.update({INFO: (INFO,)} if self.info else {})
+        return taken
+
     def uses(self):
-        """The words that a typed request of this kind takes, in their order."""
-        words = [thing.word for thing in (self.a, self.b) if thing]
-        words.append(self.unit if self.one else self.unit + "s")
-        return words + ["seats"] * self.seats + ["info"] * self.info
+        """The words alone."""
+        return list(self.fields())
+
+    def lacks(self, given):
+        """What a request with these fields leaves out and must say, by its word, or by its field if half is there."""
+        missing = []
+        for word, fields in self.fields().items():
+            absent = [field for field in fields if field not in given and word != INFO]
+            missing += [word] if len(absent) == len(fields) else absent
+        return missing
 
 
 KINDS = [

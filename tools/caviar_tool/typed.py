@@ -2,9 +2,10 @@
 
     settings dates 2 sessions 2 times 2 visitors 3 meetings 2 rooms 2 dining 1 hotels 2 transports 1 capacities 4
     add-hotel room 0 visitor 1 dates 0..1      # a kind by name or number, then its fields in any order
-    4 room 0 visitor 1 date 0                  # one slot; a field that is not given is 0
+    4 room 0 visitor 1 date 0                  # one slot
     add-leave b 1 first 0 last 1               # the paper's own field names do as well
 
+Every word that the kind takes must be there; only `info` may be left out, and is then 0.
 Settings come first. `raw TEXT` stands for the line TEXT as it is. Numbers are in base ten, or with 0x in base sixteen.
 The words are written as they are typed: whether a request is accepted is for the program to say.
 """
@@ -65,10 +66,7 @@ def fields_named(kind_number, word):
             raise Problem(f"{kind.name} takes {kind.unit}s, not {UNITS[word]}s")
         if kind:
             return ("first", "last")
-    names = {}
-    if kind:
-        names = {thing.word: (field,) for field, thing in (("a", kind.a), ("b", kind.b)) if thing}
-        names.update({"seats": ("n",)} if kind.seats else {})
+    names = kind.fields() if kind else {}
     if word not in names:
         takes = ", ".join(kind.uses()) if kind else ", ".join(FIELDS)
         raise Problem(f"{called(kind_number)} takes no '{word}'; it takes {takes}")
@@ -92,6 +90,9 @@ def parse_request(head, words):
             if field in given:
                 raise Problem(f"'{word}' says again what was said before")
             given[field] = value
+    missing = BY_NUMBER[kind_number].lacks(given) if kind_number in BY_NUMBER else []
+    if missing:
+        raise Problem(f"{called(kind_number)} lacks {', '.join(missing)}")
     return Request(kind_number, **given)
 
 

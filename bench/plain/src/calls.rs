@@ -1,9 +1,8 @@
-//! Laying, one step, one request on a raw book, and lists.
+//! Laying, one request on a raw book, and lists.
 
-use crate::apply::apply;
 use crate::check::check;
-use crate::judge::judge;
 use crate::site::{Answer, Request, Site};
+use crate::step::step;
 
 /// Writes the settings, then zeros; 24 and 25 keep the book.
 pub fn lay(settings: &[u32], book: &mut [u32]) -> Answer {
@@ -14,17 +13,6 @@ pub fn lay(settings: &[u32], book: &mut [u32]) -> Answer {
     book[..settings.len()].copy_from_slice(settings);
     book[settings.len()..].fill(0);
     Answer::done(0)
-}
-
-/// One request on a book that passes 1 and 2, whose site it is.
-#[inline]
-pub fn step(site: &Site, book: &mut [u32], request: &Request) -> Answer {
-    let answer = judge(site, book, request);
-    if answer.number != 0 {
-        return answer;
-    }
-    let erased = apply(site, book, request);
-    Answer::done(answer.value + erased)
 }
 
 /// One request on any words.
@@ -56,9 +44,8 @@ pub fn serve(settings: &[u32], book: &mut [u32], list: &[u32], answers: &mut [u3
 
 fn answer_list(site: &Site, book: &mut [u32], list: &[u32], answers: &mut [u32]) -> u32 {
     let mut count = 0;
-    for (asked, answer) in list.chunks_exact(7).zip(answers.chunks_exact_mut(3)) {
-        let words = [asked[0], asked[1], asked[2], asked[3], asked[4], asked[5], asked[6]];
-        answer.copy_from_slice(&step(site, book, &Request::new(words)).words());
+    for (asked, answer) in list.as_chunks::<7>().0.iter().zip(answers.as_chunks_mut::<3>().0) {
+        *answer = step(site, book, &Request::new(*asked)).words();
         count += 1;
     }
     count

@@ -86,7 +86,7 @@ fn unused_bits(pool: &[u32], members: u32) -> u32 {
     }
 }
 
-fn date_is_bad(site: &Site, book: &[u32], date: usize, tables: &mut Tables) -> bool {
+fn date_is_bad(site: &Site, book: &[u32], date: u32, tables: &mut Tables) -> bool {
     let leave = site.leave.row(book, date);
     let mut bad = unused_bits(leave, site.limits[3]) != 0;
     let nobody = or(leave) == 0;
@@ -96,7 +96,8 @@ fn date_is_bad(site: &Site, book: &[u32], date: usize, tables: &mut Tables) -> b
     }
     bad |= guests_are_bad(site, book, date, nobody, tables);
     let mut on_date = [0u32; 4];
-    for session in date * site.standing.per_date..(date + 1) * site.standing.per_date {
+    let per_date = site.standing.per_date as u32;
+    for session in date * per_date..(date + 1) * per_date {
         let standing = site.standing.row(book, session);
         on_date.iter_mut().zip(standing).for_each(|(all, word)| *all |= word);
         bad |= unused_bits(standing, site.limits[4]) != 0;
@@ -106,7 +107,7 @@ fn date_is_bad(site: &Site, book: &[u32], date: usize, tables: &mut Tables) -> b
 }
 
 /// Hotel and ride rows: every guest has leave and comes once in a row.
-fn guests_are_bad(site: &Site, book: &[u32], date: usize, nobody: bool, tables: &mut Tables) -> bool {
+fn guests_are_bad(site: &Site, book: &[u32], date: u32, nobody: bool, tables: &mut Tables) -> bool {
     let hotel = site.hotel.row(book, date);
     let rides = site.ride.date(book, date);
     if nobody {
@@ -137,7 +138,7 @@ fn row_is_bad(row: &[u32], stamp: u8, seen: &mut [u8; VISITOR_TABLE]) -> bool {
 
 /// Attend cells: the visitor has leave, the meeting stands. Conf pairs: the meeting stands, and an
 /// empty cell has no information.
-fn session_is_bad(s: &Site, book: &[u32], session: usize, nobody: bool, pool: &[u32], tables: &mut Tables) -> bool {
+fn session_is_bad(s: &Site, book: &[u32], session: u32, nobody: bool, pool: &[u32], tables: &mut Tables) -> bool {
     let attend = s.attend.row(book, session);
     let conf = s.conf.row(book, session);
     if or(pool) == 0 {
@@ -178,7 +179,7 @@ fn conf_is_bad(row: &[u32], stands: &[u8; MEETING_TABLE]) -> bool {
 }
 
 /// Seats are summed in 64 bits, so that junk cannot wrap round into a small sum.
-fn lunches_are_bad(site: &Site, book: &[u32], date: usize, on_date: &[u32; 4]) -> bool {
+fn lunches_are_bad(site: &Site, book: &[u32], date: u32, on_date: &[u32; 4]) -> bool {
     let row = site.lunch.row(book, date);
     if or(row) == 0 {
         return false;

@@ -1,154 +1,49 @@
-//! Questions 3 to 22 of a book that passes 1 and 2, read only. The laws are used: a visitor
-//! without leave has no booking on the date, and a free cell has no other entry behind it.
+//! Questions 9 to 22 of a book that passes 1 and 2, read only. The laws are used: a visitor without
+//! leave has no booking on the date, a meeting that does not stand has no room and nobody attends it
+//! in the session, and a free cell has no other entry behind it. Questions about the same words are
+//! asked in one pass, as far as the order of refusals lets them.
 
+use crate::kinds::{Refusal, ROOMS};
 use crate::site::{Answer, Grid, Request, Site};
 
-/// A line of the table of kinds: all ones where a field is unused, which limit a and b have (9 for
-/// none), the unit as an index of `Site::slots`, and whether it asks about one slot.
-struct Kind {
-    unused: [u32; 4],
-    a: usize,
-    b: usize,
-    unit: usize,
-    one: bool,
-}
+/// No slot has failed.
+const NEVER: u32 = u32::MAX;
 
-const NONE: usize = 9;
-const VISITORS: usize = 3;
-const MEETINGS: usize = 4;
-const ROOMS: usize = 5;
-const DINING: usize = 6;
-const HOTELS: usize = 7;
-const TRANSPORTS: usize = 8;
-const DATES: usize = 0;
-const SESSIONS: usize = 1;
-const TIMES: usize = 2;
+/// Words that are compared at once, without an exit between them.
+const BLOCK: usize = 32;
 
-const fn kind(a: usize, b: usize, unit: usize, n: bool, info: bool, one: bool) -> Kind {
-    Kind { unused: [ones(a == NONE), ones(b == NONE), ones(!n), ones(!info)], a, b, unit, one }
-}
-
-const fn ones(unused: bool) -> u32 {
-    if unused {
-        !0
-    } else {
-        0
-    }
-}
-
-/// By kind; entry 0 is no kind and is never asked.
-static KINDS: [Kind; 21] = [
-    kind(NONE, NONE, DATES, false, false, false),
-    kind(NONE, VISITORS, DATES, false, false, false),
-    kind(NONE, VISITORS, DATES, false, false, false),
-    kind(NONE, VISITORS, DATES, false, false, false),
-    kind(HOTELS, VISITORS, DATES, false, false, false),
-    kind(HOTELS, VISITORS, DATES, false, false, false),
-    kind(TRANSPORTS, VISITORS, TIMES, false, false, false),
-    kind(TRANSPORTS, VISITORS, TIMES, false, false, false),
-    kind(MEETINGS, NONE, SESSIONS, false, false, false),
-    kind(MEETINGS, NONE, SESSIONS, false, false, false),
-    kind(MEETINGS, VISITORS, SESSIONS, false, false, false),
-    kind(MEETINGS, VISITORS, SESSIONS, false, false, false),
-    kind(ROOMS, MEETINGS, SESSIONS, false, true, false),
-    kind(NONE, MEETINGS, SESSIONS, false, false, false),
-    kind(DINING, MEETINGS, DATES, true, true, false),
-    kind(DINING, MEETINGS, DATES, false, false, false),
-    kind(NONE, MEETINGS, SESSIONS, false, false, false),
-    kind(NONE, VISITORS, SESSIONS, false, false, true),
-    kind(NONE, NONE, DATES, false, false, true),
-    kind(DINING, NONE, DATES, false, false, true),
-    kind(NONE, NONE, SESSIONS, false, false, false),
-];
-
-/// No, with number and place.
-type Refusal = Result<(), (u32, u32)>;
-
-/// The answer of a request. Kind 3's value is counted by `apply`, which finds the entries anyway.
-#[inline]
-pub fn judge(site: &Site, book: &[u32], r: &Request) -> Answer {
-    let answer = form(site, r).and_then(|()| state(site, book, r));
-    match answer {
-        Ok(value) => Answer::done(value),
-        Err((number, place)) => Answer::refused(number, place),
-    }
-}
-
-/// Questions 3 to 8, whose place is 0.
-#[inline]
-fn form(site: &Site, r: &Request) -> Refusal {
-    if r.kind.wrapping_sub(1) >= 20 {
-        return Err((3, 0));
-    }
-    let kind = &KINDS[r.kind as usize];
-    let [a, b, n, info] = kind.unused;
-    if (r.a & a) | (r.b & b) | (r.n & n) | (r.info & info) != 0 {
-        return Err((4, 0));
-    }
-    if kind.a != NONE && r.a >= site.limits[kind.a] {
-        return Err((5, 0));
-    }
-    if kind.b != NONE && r.b >= site.limits[kind.b] {
-        return Err((6, 0));
-    }
-    if r.first > r.last || r.last >= site.slots[kind.unit] || (kind.one && r.first != r.last) {
-        return Err((7, 0));
-    }
-    if r.kind == 14 && r.n.wrapping_sub(1) >= site.capacities[r.a as usize] {
-        return Err((8, 0));
-    }
-    Ok(())
-}
-
-/// Questions 9 to 22, and the value.
-#[inline]
-fn state(site: &Site, book: &[u32], r: &Request) -> Result<u32, (u32, u32)> {
-    match r.kind {
-        2 => no_bookings(site, book, r)?,
-        4 => new_guest(site, book, &site.hotel, r)?,
-        5 => cells_hold(book, &site.hotel, r)?,
-        6 => new_guest(site, book, &site.ride, r)?,
-        7 => cells_hold(book, &site.ride, r)?,
-        9 => can_end(site, book, r)?,
-        10 => new_attend(site, book, r)?,
-        11 => attends(site, book, r)?,
-        12 => new_conf(site, book, r)?,
-        13 => has_rooms(site, book, r)?,
-        14 => new_lunch(site, book, r)?,
-        15 => has_this_lunch(site, book, r)?,
-        16 => has_rooms(site, book, r).and_then(|()| has_lunches(site, book, r))?,
-        17 => return which_meeting(site, book, r),
-        18 => return Ok(site.leave.row(book, r.first as usize).iter().map(|word| word.count_ones()).sum()),
-        19 => return Ok(site.capacities[r.a as usize] - reserved(site.lunch.row(book, r.first as usize), r.a)),
-        20 => return free_room(site, book, r).ok_or((22, 0)),
-        _ => {}
-    }
-    Ok(0)
-}
-
-/// Is the word in the row? No early exit, so that it is compared in vectors.
+/// Is the word in the row? No exit inside a block, so that it is compared in vectors.
 #[inline(always)]
 pub fn contains(row: &[u32], word: u32) -> bool {
-    row.iter().fold(0u32, |hit, cell| hit | u32::from(*cell == word)) != 0
-}
-
-/// The same over many words, with an exit after each block.
-#[inline]
-fn contains_in_blocks(words: &[u32], word: u32) -> bool {
-    words.chunks(512).any(|block| contains(block, word))
+    let (blocks, rest) = row.as_chunks::<BLOCK>();
+    blocks.iter().any(|block| holds(block, word)) || holds(rest, word)
 }
 
 #[inline(always)]
-pub fn has_bit(pool: &[u32], member: u32) -> bool {
-    pool[member as usize / 32] >> (member % 32) & 1 != 0
+pub fn holds(words: &[u32], word: u32) -> bool {
+    words.iter().fold(0u32, |hit, cell| hit | if *cell == word { !0 } else { 0 }) != 0
+}
+
+#[inline(always)]
+pub fn has_bit(pools: &Grid, book: &[u32], slot: u32, member: u32) -> bool {
+    book[pools.at(slot, member as usize / 32)] >> (member % 32) & 1 != 0
+}
+
+#[inline(always)]
+fn refused_at(number: u32, slot: u32) -> Refusal {
+    if slot == NEVER {
+        Ok(())
+    } else {
+        Err(Answer::refused(number, slot))
+    }
 }
 
 /// The lowest slot that fails.
 #[inline(always)]
-fn each(r: &Request, number: u32, yes: impl Fn(usize) -> bool) -> Refusal {
-    for slot in r.first..=r.last {
-        if !yes(slot as usize) {
-            return Err((number, slot));
+fn each(r: &Request, number: u32, yes: impl Fn(u32) -> bool) -> Refusal {
+    for slot in r.first..r.last + 1 {
+        if !yes(slot) {
+            return Err(Answer::refused(number, slot));
         }
     }
     Ok(())
@@ -156,162 +51,204 @@ fn each(r: &Request, number: u32, yes: impl Fn(usize) -> bool) -> Refusal {
 
 /// 9, asked once a date.
 #[inline(always)]
-fn has_leave(site: &Site, book: &[u32], r: &Request, per_date: usize) -> Refusal {
-    let per_date = per_date as u32;
-    for date in r.first / per_date..=r.last / per_date {
-        if !has_bit(site.leave.row(book, date as usize), r.b) {
-            return Err((9, r.first.max(date * per_date)));
+fn has_leave(site: &Site, book: &[u32], grid: &Grid, r: &Request) -> Refusal {
+    for date in grid.date_of(r.first)..grid.date_of(r.last) + 1 {
+        if !has_bit(&site.leave, book, date, r.b) {
+            return Err(Answer::refused(9, r.first.max(date * grid.per_date as u32)));
         }
     }
     Ok(())
 }
 
-/// 9, 11, 12, 13 for hotel and ride. The cells are looked at once for 11 and 12.
-#[inline]
-fn new_guest(site: &Site, book: &[u32], grid: &Grid, r: &Request) -> Refusal {
-    has_leave(site, book, r, grid.per_date)?;
-    let guest = r.b + 1;
-    let mut taken = None;
-    for slot in r.first..=r.last {
-        let cell = grid.row(book, slot as usize)[r.a as usize];
-        if cell == guest {
-            return Err((11, slot));
+/// 11 and the question after it, on the cells of an item: the wanted word is there already, or
+/// another one is.
+#[inline(always)]
+fn cells_free(book: &[u32], grid: &Grid, r: &Request, at: usize, wanted: u32, number: u32) -> Refusal {
+    let mut other = NEVER;
+    let mut at = grid.at(r.first, at);
+    for slot in r.first..r.last + 1 {
+        let cell = book[at];
+        if cell == wanted {
+            return Err(Answer::refused(11, slot));
         }
-        if cell != 0 && taken.is_none() {
-            taken = Some(slot);
+        if cell != 0 {
+            other = other.min(slot);
         }
+        at += grid.row;
     }
-    if let Some(slot) = taken {
-        return Err((12, slot));
+    refused_at(number, other)
+}
+
+/// 15: the cells of an item hold the word.
+#[inline(always)]
+fn cells_are(book: &[u32], grid: &Grid, r: &Request, at: usize, word: u32) -> Refusal {
+    let mut at = grid.at(r.first, at);
+    for slot in r.first..r.last + 1 {
+        if book[at] != word {
+            return Err(Answer::refused(15, slot));
+        }
+        at += grid.row;
     }
-    each(r, 13, |slot| !contains(grid.row(book, slot), guest))
+    Ok(())
+}
+
+/// 9, 11, 12, 13 for hotel and ride.
+#[inline(always)]
+pub fn new_guest(site: &Site, book: &[u32], grid: &Grid, r: &Request) -> Refusal {
+    has_leave(site, book, grid, r)?;
+    cells_free(book, grid, r, r.a as usize, r.b + 1, 12)?;
+    each(r, 13, |slot| !contains(grid.row(book, slot), r.b + 1))
 }
 
 /// 15 for hotel and ride.
-#[inline]
-fn cells_hold(book: &[u32], grid: &Grid, r: &Request) -> Refusal {
-    each(r, 15, |slot| grid.row(book, slot)[r.a as usize] == r.b + 1)
+#[inline(always)]
+pub fn cells_hold(book: &[u32], grid: &Grid, r: &Request) -> Refusal {
+    cells_are(book, grid, r, r.a as usize, r.b + 1)
 }
 
 /// 9, 10, 11, 13 for attend.
-#[inline]
-fn new_attend(site: &Site, book: &[u32], r: &Request) -> Refusal {
-    has_leave(site, book, r, site.attend.per_date)?;
-    each(r, 10, |session| has_bit(site.standing.row(book, session), r.a))?;
-    let cell = |session| site.attend.row(book, session)[r.b as usize];
-    each(r, 11, |session| cell(session) != r.a + 1)?;
-    each(r, 13, |session| cell(session) == 0)
+#[inline(always)]
+pub fn new_attend(site: &Site, book: &[u32], r: &Request) -> Refusal {
+    has_leave(site, book, &site.attend, r)?;
+    each(r, 10, |session| has_bit(&site.standing, book, session, r.a))?;
+    cells_free(book, &site.attend, r, r.b as usize, r.a + 1, 13)
 }
 
 /// 15 for attend.
-#[inline]
-fn attends(site: &Site, book: &[u32], r: &Request) -> Refusal {
-    each(r, 15, |session| site.attend.row(book, session)[r.b as usize] == r.a + 1)
+#[inline(always)]
+pub fn attends(site: &Site, book: &[u32], r: &Request) -> Refusal {
+    cells_are(book, &site.attend, r, r.b as usize, r.a + 1)
 }
 
 /// 10, 11, 12 for conf.
-#[inline]
-fn new_conf(site: &Site, book: &[u32], r: &Request) -> Refusal {
-    each(r, 10, |session| has_bit(site.standing.row(book, session), r.b))?;
-    let cell = |session| site.conf.row(book, session)[2 * r.a as usize];
-    each(r, 11, |session| cell(session) != r.b + 1)?;
-    each(r, 12, |session| cell(session) == 0)
+#[inline(always)]
+pub fn new_conf(site: &Site, book: &[u32], r: &Request) -> Refusal {
+    each(r, 10, |session| has_bit(&site.standing, book, session, r.b))?;
+    cells_free(book, &site.conf, r, 2 * r.a as usize, r.b + 1, 12)
 }
 
 /// 10, 11, 13, 14 for lunch.
-#[inline]
-fn new_lunch(site: &Site, book: &[u32], r: &Request) -> Refusal {
-    let at = r.b as usize / 32;
-    let (bit, width) = (1 << (r.b % 32), site.standing.row);
+#[inline(always)]
+pub fn new_lunch(site: &Site, book: &[u32], r: &Request) -> Refusal {
     each(r, 10, |date| {
-        let pools = site.standing.date(book, date);
-        pools.chunks_exact(width).fold(0, |any, pool| any | pool[at]) & bit != 0
+        let mut at = site.standing.at(date * site.standing.per_date as u32, r.b as usize / 32);
+        let mut any = 0;
+        for _ in 0..site.standing.per_date {
+            any |= book[at];
+            at += site.standing.row;
+        }
+        any >> (r.b % 32) & 1 != 0
     })?;
-    let cell = |date| site.lunch.row(book, date)[3 * r.b as usize];
-    each(r, 11, |date| cell(date) != r.a + 1)?;
-    each(r, 13, |date| cell(date) == 0)?;
+    cells_free(book, &site.lunch, r, 3 * r.b as usize, r.a + 1, 13)?;
     let left = site.capacities[r.a as usize] - r.n;
     each(r, 14, |date| reserved(site.lunch.row(book, date), r.a) <= left)
 }
 
 /// Seats of the dining room on a date.
-#[inline]
+#[inline(always)]
 fn reserved(row: &[u32], room: u32) -> u32 {
-    let seats = |triple: &[u32]| if triple[0] == room + 1 { triple[1] } else { 0 };
-    row.chunks_exact(3).map(seats).sum()
+    let of_room = |[cell, seats, _]: &[u32; 3]| if *cell == room + 1 { *seats } else { 0 };
+    let (eights, rest) = row.as_chunks::<24>();
+    let seats = |eight: &[u32; 24]| eight.as_chunks::<3>().0.iter().map(of_room).sum::<u32>();
+    eights.iter().map(seats).sum::<u32>() + rest.as_chunks::<3>().0.iter().map(of_room).sum::<u32>()
+}
+
+/// The value of kind 19.
+#[inline(always)]
+pub fn seats_left(site: &Site, book: &[u32], r: &Request) -> u32 {
+    site.capacities[r.a as usize] - reserved(site.lunch.row(book, r.first), r.a)
 }
 
 /// 15 for lunch.
-#[inline]
-fn has_this_lunch(site: &Site, book: &[u32], r: &Request) -> Refusal {
-    each(r, 15, |date| site.lunch.row(book, date)[3 * r.b as usize] == r.a + 1)
+#[inline(always)]
+pub fn has_this_lunch(site: &Site, book: &[u32], r: &Request) -> Refusal {
+    cells_are(book, &site.lunch, r, 3 * r.b as usize, r.a + 1)
 }
 
+/// A conference room of a meeting that may stand.
 #[inline(always)]
-fn has_conf(row: &[u32], meeting: u32) -> bool {
-    row.chunks_exact(2).fold(0u32, |hit, pair| hit | u32::from(pair[0] == meeting + 1)) != 0
+fn has_conf(site: &Site, book: &[u32], session: u32, meeting: u32) -> bool {
+    let pairs = site.conf.row(book, session).as_chunks::<2>().0;
+    has_bit(&site.standing, book, session, meeting)
+        && pairs.iter().fold(0u32, |hit, [cell, _]| hit | if *cell == meeting + 1 { !0 } else { 0 }) != 0
 }
 
 /// 16.
-#[inline]
-fn has_rooms(site: &Site, book: &[u32], r: &Request) -> Refusal {
-    each(r, 16, |session| has_conf(site.conf.row(book, session), r.b))
+#[inline(always)]
+pub fn has_rooms(site: &Site, book: &[u32], r: &Request) -> Refusal {
+    each(r, 16, |session| has_conf(site, book, session, r.b))
 }
 
 /// 17, whose place is a date.
-#[inline]
-fn has_lunches(site: &Site, book: &[u32], r: &Request) -> Refusal {
-    let per_date = site.conf.per_date as u32;
-    for date in r.first / per_date..=r.last / per_date {
-        if site.lunch.row(book, date as usize)[3 * r.b as usize] == 0 {
-            return Err((17, date));
+#[inline(always)]
+pub fn has_lunches(site: &Site, book: &[u32], r: &Request) -> Refusal {
+    for date in site.conf.date_of(r.first)..site.conf.date_of(r.last) + 1 {
+        if book[site.lunch.at(date, 3 * r.b as usize)] == 0 {
+            return Err(Answer::refused(17, date));
         }
     }
     Ok(())
 }
 
-/// 18. Without leave there are no bookings.
-#[inline]
-fn no_bookings(site: &Site, book: &[u32], r: &Request) -> Refusal {
-    let attend =
-        |date: usize| site.attend.date(book, date).chunks_exact(site.attend.row).any(|row| row[r.b as usize] != 0);
-    each(r, 18, |date| {
-        !has_bit(site.leave.row(book, date), r.b)
-            || !(contains(site.hotel.row(book, date), r.b + 1)
-                || attend(date)
-                || contains_in_blocks(site.ride.date(book, date), r.b + 1))
-    })
+/// 18. What is cheap to find is looked for first; without leave there is nothing.
+#[inline(always)]
+pub fn no_bookings(site: &Site, book: &[u32], r: &Request) -> Refusal {
+    each(r, 18, |date| !has_bit(&site.leave, book, date, r.b) || is_free(site, book, date, r.b))
+}
+
+#[inline(always)]
+fn is_free(site: &Site, book: &[u32], date: u32, visitor: u32) -> bool {
+    let mut at = site.attend.at(date * site.attend.per_date as u32, visitor as usize);
+    for _ in 0..site.attend.per_date {
+        if book[at] != 0 {
+            return false;
+        }
+        at += site.attend.row;
+    }
+    !contains(site.hotel.row(book, date), visitor + 1) && !contains(site.ride.date(book, date), visitor + 1)
 }
 
 /// 19, then 20.
-#[inline]
-fn can_end(site: &Site, book: &[u32], r: &Request) -> Refusal {
+#[inline(always)]
+pub fn can_end(site: &Site, book: &[u32], r: &Request) -> Refusal {
     each(r, 19, |session| {
-        let lunch = site.lunch.row(book, session / site.conf.per_date)[3 * r.a as usize];
-        lunch == 0 && !has_conf(site.conf.row(book, session), r.a)
+        book[site.lunch.at(site.conf.date_of(session), 3 * r.a as usize)] == 0 && !has_conf(site, book, session, r.a)
     })?;
-    each(r, 20, |session| contains(site.attend.row(book, session), r.a + 1))
+    each(r, 20, |session| {
+        has_bit(&site.standing, book, session, r.a) && contains(site.attend.row(book, session), r.a + 1)
+    })
 }
 
 /// 21, and the meeting.
-#[inline]
-fn which_meeting(site: &Site, book: &[u32], r: &Request) -> Result<u32, (u32, u32)> {
-    match site.attend.row(book, r.first as usize)[r.b as usize] {
-        0 => Err((21, r.first)),
+#[inline(always)]
+pub fn which_meeting(site: &Site, book: &[u32], r: &Request) -> Result<u32, Answer> {
+    match book[site.attend.at(r.first, r.b as usize)] {
+        0 => Err(Answer::refused(21, r.first)),
         cell => Ok(cell - 1),
     }
 }
 
-/// The lowest conference room free in every slot: a taken session goes on to the next room.
-#[inline]
-fn free_room(site: &Site, book: &[u32], r: &Request) -> Option<u32> {
+/// The value of kind 18.
+#[inline(always)]
+pub fn members(site: &Site, book: &[u32], r: &Request) -> u32 {
+    let (pairs, last) = site.leave.row(book, r.first).as_chunks::<2>();
+    let both = pairs.iter().map(|[low, high]| (u64::from(*low) | u64::from(*high) << 32).count_ones());
+    both.sum::<u32>() + last.iter().map(|word| word.count_ones()).sum::<u32>()
+}
+
+/// 22, and the lowest conference room free in every slot: a taken session goes on to the next room.
+#[inline(always)]
+pub fn free_room(site: &Site, book: &[u32], r: &Request) -> Result<u32, Answer> {
+    let start = site.conf.at(r.first, 0);
     'rooms: for room in 0..site.limits[ROOMS] {
-        for session in r.first..=r.last {
-            if site.conf.row(book, session as usize)[2 * room as usize] != 0 {
+        let mut at = start + 2 * room as usize;
+        for _ in r.first..r.last + 1 {
+            if book[at] != 0 {
                 continue 'rooms;
             }
+            at += site.conf.row;
         }
-        return Some(room);
+        return Ok(room);
     }
-    None
+    Err(Answer::refused(22, 0))
 }

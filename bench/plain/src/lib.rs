@@ -3,7 +3,8 @@
 //!
 //! - `site`: limits and where the regions lie, computed once for a list
 //! - `check`: questions 1 and 2 in one pass
-//! - `judge` and `apply`: questions 3 to 22, then the writes
+//! - `kinds`: the table of kinds, questions 3 to 8
+//! - `judge` and `apply`: questions 9 to 22, and the writes; `step` puts them together
 //! - `calls`: laying, requests on raw books, lists
 //! - `lines`: the line program in chunks
 //! - `traffic`: the trial load that all measurements use
@@ -12,10 +13,13 @@ pub mod apply;
 pub mod calls;
 pub mod check;
 pub mod judge;
+pub mod kinds;
 pub mod lines;
 pub mod site;
+pub mod step;
 pub mod traffic;
 
-pub use calls::{lay, request, requests, serve, step};
+pub use calls::{lay, request, requests, serve};
 pub use check::check;
 pub use site::{Answer, Request, Site};
+pub use step::step;

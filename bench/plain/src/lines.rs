@@ -1,8 +1,9 @@
 //! The line program: chunks of bytes in, answer lines out. A whole frame line in the chunk is
 //! decoded where it lies; only pieces of lines at the ends of chunks are copied.
 
-use crate::calls::{lay, step};
+use crate::calls::lay;
 use crate::site::{Answer, Request, Site};
+use crate::step::step;
 
 const MOST_WORDS: usize = 16_384;
 const FRAME: usize = 56;

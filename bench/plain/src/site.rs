@@ -12,34 +12,42 @@ pub struct Grid {
     pub row: usize,
     /// Slots of a date.
     pub per_date: usize,
+    /// 2^32 / per_date, rounded up: a slot's date is had by a multiplication.
+    reciprocal: u64,
 }
 
 impl Grid {
+    /// Where a word of a slot's row lies.
     #[inline(always)]
-    pub fn row<'a>(&self, book: &'a [u32], slot: usize) -> &'a [u32] {
-        let at = self.base + slot * self.row;
-        &book[at..at + self.row]
+    pub fn at(&self, slot: u32, word: usize) -> usize {
+        self.base + slot as usize * self.row + word
+    }
+
+    /// Exact, since slots times slots of a date are below 2^32.
+    #[inline(always)]
+    pub fn date_of(&self, slot: u32) -> u32 {
+        (u64::from(slot) * self.reciprocal >> 32) as u32
     }
 
     #[inline(always)]
-    pub fn row_mut<'a>(&self, book: &'a mut [u32], slot: usize) -> &'a mut [u32] {
-        let at = self.base + slot * self.row;
-        &mut book[at..at + self.row]
+    pub fn row<'a>(&self, book: &'a [u32], slot: u32) -> &'a [u32] {
+        &book[self.at(slot, 0)..][..self.row]
+    }
+
+    #[inline(always)]
+    pub fn row_mut<'a>(&self, book: &'a mut [u32], slot: u32) -> &'a mut [u32] {
+        &mut book[self.at(slot, 0)..][..self.row]
     }
 
     /// All rows of a date, which lie side by side.
     #[inline(always)]
-    pub fn date<'a>(&self, book: &'a [u32], date: usize) -> &'a [u32] {
-        let words = self.row * self.per_date;
-        let at = self.base + date * words;
-        &book[at..at + words]
+    pub fn date<'a>(&self, book: &'a [u32], date: u32) -> &'a [u32] {
+        &book[self.at(date * self.per_date as u32, 0)..][..self.row * self.per_date]
     }
 
     #[inline(always)]
-    pub fn date_mut<'a>(&self, book: &'a mut [u32], date: usize) -> &'a mut [u32] {
-        let words = self.row * self.per_date;
-        let at = self.base + date * words;
-        &mut book[at..at + words]
+    pub fn date_mut<'a>(&self, book: &'a mut [u32], date: u32) -> &'a mut [u32] {
+        &mut book[self.at(date * self.per_date as u32, 0)..][..self.row * self.per_date]
     }
 }
 
@@ -96,7 +104,7 @@ impl Site {
         let mut grid = |row: usize, per_date: usize| {
             let base = end;
             end += d * per_date * row;
-            Grid { base, row, per_date }
+            Grid { base, row, per_date, reciprocal: (1u64 << 32).div_ceil(per_date as u64) }
         };
         let leave = grid(v.div_ceil(32), 1);
         let hotel = grid(h, 1);
@@ -109,8 +117,8 @@ impl Site {
         Site { limits, capacities, slots, leave, hotel, standing, attend, conf, lunch, ride, length: end }
     }
 
-    pub fn dates(&self) -> usize {
-        self.limits[0] as usize
+    pub fn dates(&self) -> u32 {
+        self.limits[0]
     }
 }
 

@@ -12,9 +12,8 @@ const LINES: usize = 1_000_000;
 const TURNS: usize = 7;
 
 /// A program that `bench/run` names by a variable.
-fn program(variable: &str) -> Option<PathBuf> {
-    let path = PathBuf::from(std::env::var_os(variable)?);
-    path.exists().then_some(path)
+fn program(variable: &str) -> PathBuf {
+    PathBuf::from(std::env::var_os(variable).unwrap_or_else(|| panic!("{variable} names no program; use bench/run")))
 }
 
 fn run(program: &Path, input: &Path, output: Stdio) -> f64 {
@@ -26,10 +25,7 @@ fn run(program: &Path, input: &Path, output: Stdio) -> f64 {
 }
 
 pub fn measure() {
-    let (Some(proved), Some(plain)) = (program("FRAMES"), program("PLAIN_FRAMES")) else {
-        println!("| | lines | no program | | frames is not built |");
-        return;
-    };
+    let [proved, plain, split] = ["FRAMES", "PLAIN_FRAMES", "ONLY_SPLIT"].map(program);
     let folder = std::env::temp_dir();
     let input = folder.join(format!("caviar-lines-{}", std::process::id()));
     let mut bytes = words_line(&small().words());
@@ -37,18 +33,28 @@ pub fn measure() {
         bytes.extend(words_line(&request));
     }
     std::fs::write(&input, bytes).expect("room for the input");
-    let wrote = [&proved, &plain].map(|program| {
+    let wrote = [&proved, &plain, &split].map(|program| {
         let output = input.with_extension("out");
         run(program, &input, File::create(&output).expect("room for the output").into());
         let wrote = std::fs::read(&output).expect("the output");
         std::fs::remove_file(output).expect("the output");
         wrote
     });
-    assert_eq!(wrote[0].len(), LINES * 25);
+    assert!(wrote.iter().all(|bytes| bytes.len() == LINES * 25), "an answer for each line");
     assert!(wrote[0] == wrote[1], "the programs differ");
-    let [ours, theirs] =
-        turns(TURNS, [&mut || run(&proved, &input, Stdio::null()), &mut || run(&plain, &input, Stdio::null())]);
+    let [ours, theirs, limit] = turns(
+        TURNS,
+        [&mut || run(&proved, &input, Stdio::null()), &mut || run(&plain, &input, Stdio::null()), &mut || {
+            run(&split, &input, Stdio::null())
+        }],
+    );
     std::fs::remove_file(input).expect("the input");
-    let rate = |time: f64| format!("{:.2} M lines/s", LINES as f64 / time / 1e6);
-    row("lines, the program frames", ours, theirs, rate, &format!("{LINES} lines from a file, process start included"));
+    let each = |time: f64| format!("{:.1} ns", time / LINES as f64 * 1e9);
+    let note = format!(
+        "each of {LINES} lines from a file, process start included; limit {}, splitting lines alone: proved {:.1}, plain {:.1} times as long",
+        each(limit),
+        ours / limit,
+        theirs / limit
+    );
+    row("lines, the program frames", [ours, theirs], each, &note);
 }

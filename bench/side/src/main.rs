@@ -1,6 +1,7 @@
-//! One table: the proved engine beside the plain Rust engine, a plain sum, and SQLite in memory.
-//! The two sides take turns in one run, and each counts with its least processor time, so that a
-//! busy machine spoils little. `bench/run` builds what is needed and runs this.
+//! Two tables: the proved engine beside the plain Rust engine, the limits of both, and SQLite in
+//! memory; and the steps of each kind alone. The sides take turns in one run, and each counts with
+//! its least processor time, so that a busy machine spoils little. `bench/run` builds what is needed
+//! and runs this.
 
 mod checks;
 mod clock;
@@ -13,27 +14,42 @@ mod table;
 
 use second::gen::{full_book, Rng};
 
+/// The kinds that are named behind the word `kinds`; None without that word, for both tables.
+fn kinds_named() -> Option<Vec<u32>> {
+    let mut words = std::env::args().skip(1);
+    let first = words.next()?;
+    assert_eq!(first, "kinds", "usage: bench/run [kinds [KIND..]]");
+    Some(words.map(|word| word.parse().expect("a kind is a number")).collect())
+}
+
 fn main() {
+    let named = kinds_named();
     let seed = sites::SEED;
     println!("processor time, the least of several turns; seed {seed}\n");
     let mut rng = Rng::new(u64::from(seed));
     let largest = full_book(&mut rng, &sites::largest(), 50);
     let medium = full_book(&mut rng, &sites::medium(90), 50);
-    table::head();
-    if std::env::args().nth(1).as_deref() == Some("kinds") {
-        let named: Vec<u32> = std::env::args().skip(2).map(|word| word.parse().expect("a kind")).collect();
-        let all: Vec<u32> = (1..=20).collect();
-        steps::by_kinds("medium site", &medium, if named.is_empty() { &all } else { &named });
-        return;
+    if named.is_none() {
+        calls_and_program(&medium, &largest);
+        println!();
     }
+    let kinds = named.filter(|kinds| !kinds.is_empty()).unwrap_or((1..=20).collect());
+    table::head_of_kinds(&["medium site", "largest site"]);
+    let medium = steps::Site { book: &medium, requests: 5000, removals: 5000, turns: 40 };
+    let largest = steps::Site { book: &largest, requests: 100_000, removals: 5000, turns: 7 };
+    steps::by_kinds(&[medium, largest], &kinds);
+}
+
+fn calls_and_program(medium: &[u32], largest: &[u32]) {
+    table::head();
     checks::fresh(&sites::largest());
-    checks::half_full(&largest);
-    steps::measure("medium site, half full", &medium, 20_000);
-    steps::measure("largest site, half full", &largest, 50_000);
+    checks::half_full(largest);
+    steps::measure("medium site, half full", medium, 20_000);
+    steps::measure("largest site, half full", largest, 50_000);
     steps::by_dates();
     lines::measure();
     #[cfg(feature = "sqlite")]
-    sqlite::measure(&medium);
+    sqlite::measure(medium);
     #[cfg(not(feature = "sqlite"))]
     println!("\nno SQLite on this machine (Debian's libsqlite3-dev): its row is left out");
 }

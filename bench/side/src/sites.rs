@@ -26,6 +26,14 @@ pub fn small() -> Settings {
     settings(&[7, 4, 8, 60, 20, 6, 2, 40, 10, 60, 60])
 }
 
+/// So many requests of one kind out of the load, as a list.
+pub fn of_kind(settings: &Settings, kind: u32, count: usize) -> Vec<u32> {
+    let all = load(settings, 21 * count + 2000);
+    let list: Vec<u32> = all.into_iter().filter(|request| request[0] == kind).take(count).flatten().collect();
+    assert_eq!(list.len(), 7 * count, "the load has enough of kind {kind}");
+    list
+}
+
 /// The trial load of request F-12's recipe for a site: requests of all kinds that pass 3 to 7.
 pub fn load(settings: &Settings, count: usize) -> Vec<[u32; 7]> {
     let site = plain::Site::new(&settings.words()).expect("settings in range");

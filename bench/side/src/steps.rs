@@ -1,53 +1,67 @@
 //! One request with its check, a list with one check, and the steps of a list without it.
 
 use crate::clock::{seconds, turns};
-use crate::sites::{load, medium, SEED};
-use crate::table::row;
+use crate::sites::{load, medium, of_kind, SEED};
+use crate::table::{row, Row};
 use caviar::Request;
 use second::gen::{full_book, Rng};
 use second::machine::Settings;
 use std::cell::RefCell;
 use std::hint::black_box;
 
-const TURNS: usize = 15;
-
-/// The least time of a list on a copy of the book, by each engine, and of checking the book.
-struct Measured {
-    proved: f64,
-    plain: f64,
-    proved_check: f64,
-    plain_check: f64,
+/// Words to work in, fresh from the book each time. All turns use the same memory: where the system
+/// puts a copy of the book in its caches is then the same for all.
+struct Copy<'a> {
+    book: &'a [u32],
+    words: RefCell<(Vec<u32>, Vec<u32>)>,
 }
 
-/// Both engines work in the same memory: where the system puts a copy of the book in its caches is
-/// then the same for both.
-fn list_times(book: &[u32], list: &[u32]) -> Measured {
-    let room = list.len() / 7 * 3;
-    let copy = RefCell::new((book.to_vec(), vec![0; room]));
-    let (mut proved_left, mut plain_left) = (Vec::new(), Vec::new());
-    let [proved, plain, proved_check, plain_check] = turns(
-        TURNS,
-        [
-            &mut || {
-                let (words, answers) = &mut *copy.borrow_mut();
-                words.copy_from_slice(book);
-                let time = seconds(|| caviar::requests_words(words, black_box(list), answers));
-                proved_left = [words.as_slice(), answers].concat();
-                time
-            },
-            &mut || {
-                let (words, answers) = &mut *copy.borrow_mut();
-                words.copy_from_slice(book);
-                let time = seconds(|| plain::requests(words, black_box(list), answers));
-                plain_left = [words.as_slice(), answers].concat();
-                time
-            },
-            &mut || seconds(|| assert_eq!(caviar::check(black_box(book)).number, 0)),
-            &mut || seconds(|| assert_eq!(plain::check(black_box(book)).number, 0)),
-        ],
-    );
-    assert!(proved_left == plain_left, "the engines differ");
-    Measured { proved, plain, proved_check, plain_check }
+impl Copy<'_> {
+    fn of(book: &[u32], answers: usize) -> Copy<'_> {
+        Copy { book, words: RefCell::new((book.to_vec(), vec![0; answers])) }
+    }
+
+    /// The time of the work on words and answers.
+    fn time<Result>(&self, work: impl FnOnce(&mut [u32], &mut [u32]) -> Result) -> f64 {
+        let (words, answers) = &mut *self.words.borrow_mut();
+        words.copy_from_slice(self.book);
+        seconds(|| work(words, answers))
+    }
+
+    fn left(&self) -> (Vec<u32>, Vec<u32>) {
+        self.words.borrow().clone()
+    }
+}
+
+/// The least times of a list on a copy of the book, the proved engine's first.
+fn list_times(book: &[u32], list: &[u32], count: usize) -> [f64; 2] {
+    let copy = Copy::of(book, list.len() / 7 * 3);
+    copy.time(|words, answers| caviar::requests_words(words, list, answers));
+    let proved_left = copy.left();
+    copy.time(|words, answers| plain::requests(words, list, answers));
+    assert!(proved_left == copy.left(), "the engines differ");
+    turns(
+        count,
+        [&mut || copy.time(|words, answers| caviar::requests_words(words, black_box(list), answers)), &mut || {
+            copy.time(|words, answers| plain::requests(words, black_box(list), answers))
+        }],
+    )
+}
+
+/// The least times of checking a copy of the book, as a list begins.
+fn check_times(book: &[u32]) -> [f64; 2] {
+    let copy = Copy::of(book, 0);
+    turns(
+        40,
+        [&mut || copy.time(|words, _| assert_eq!(caviar::check(black_box(words)).number, 0)), &mut || {
+            copy.time(|words, _| assert_eq!(plain::check(black_box(words)).number, 0))
+        }],
+    )
+}
+
+/// What is left of the times of lists without the check.
+fn steps(lists: [f64; 2], checks: [f64; 2]) -> [f64; 2] {
+    [lists[0] - checks[0], lists[1] - checks[1]]
 }
 
 /// The rows of one site.
@@ -55,53 +69,58 @@ pub fn measure(name: &str, book: &[u32], count: usize) {
     let settings = Settings::of_book(book).expect("a full book");
     let requests = load(&settings, count);
     let list: Vec<u32> = requests.iter().flatten().copied().collect();
-    let m = list_times(book, &list);
-    let each = |time: f64| format!("{:.0} ns", time / count as f64 * 1e9);
+    let lists = list_times(book, &list, 15);
+    let each = |time: f64| format!("{:.1} ns", time / count as f64 * 1e9);
     let note = format!("each of {count} requests of all kinds");
-    row(&format!("requests, {name}"), m.proved, m.plain, each, &format!("{note}, one check"));
-    row(
-        &format!("steps, {name}"),
-        m.proved - m.proved_check,
-        m.plain - m.plain_check,
-        each,
-        &format!("{note}, without the check"),
-    );
+    row(&format!("requests, {name}"), lists, each, &format!("{note}, one check"));
+    row(&format!("steps, {name}"), steps(lists, check_times(book)), each, &format!("{note}, without the check"));
     one_request(name, book, &requests);
 }
 
 fn one_request(name: &str, book: &[u32], requests: &[[u32; 7]]) {
-    let (mut ours, mut theirs) = (book.to_vec(), book.to_vec());
+    let copy = Copy::of(book, 0);
     let (mut our_turn, mut their_turn) = (0, 0);
-    let [proved, plain] = turns(
-        TURNS,
+    let times = turns(
+        15,
         [
             &mut || {
                 our_turn += 1;
                 let request = Request::from_words(requests[our_turn]);
-                seconds(|| caviar::request(black_box(&mut ours), request))
+                copy.time(|words, _| caviar::request(black_box(words), request))
             },
             &mut || {
                 their_turn += 1;
                 let request = plain::Request::new(requests[their_turn]);
-                seconds(|| plain::request(black_box(&mut theirs), &request))
+                copy.time(|words, _| plain::request(black_box(words), &request))
             },
         ],
     );
     let micro = |time: f64| format!("{:.1} µs", time * 1e6);
-    row(&format!("request, {name}"), proved, plain, micro, "one request with its check");
+    row(&format!("request, {name}"), times, micro, "one request with its check");
 }
 
-/// The steps of each kind alone: the requests of that kind out of the load, on the same book.
-pub fn by_kinds(name: &str, book: &[u32], kinds: &[u32]) {
-    let settings = Settings::of_book(book).expect("a full book");
-    let requests = load(&settings, 100_000);
+/// A site of the table by kinds: how many requests of a kind, and how many turns. Many requests make
+/// the check, which is taken off, a small part; a removal costs more than that by itself.
+pub struct Site<'a> {
+    pub book: &'a [u32],
+    pub requests: usize,
+    pub removals: usize,
+    pub turns: usize,
+}
+
+/// The steps of each kind alone, on the same books.
+pub fn by_kinds(sites: &[Site], kinds: &[u32]) {
+    let checks: Vec<[f64; 2]> = sites.iter().map(|site| check_times(site.book)).collect();
     for kind in kinds {
-        let of_kind: Vec<u32> = requests.iter().filter(|request| request[0] == *kind).flatten().copied().collect();
-        let m = list_times(book, &of_kind);
-        let count = of_kind.len() / 7;
-        let each = |time: f64| format!("{:.0} ns", time / count as f64 * 1e9);
-        let (proved, plain) = (m.proved - m.proved_check, m.plain - m.plain_check);
-        row(&format!("steps, kind {kind}, {name}"), proved, plain, each, &format!("{count} requests"));
+        let mut line = Row::of(*kind);
+        for (site, checks) in sites.iter().zip(&checks) {
+            let settings = Settings::of_book(site.book).expect("a full book");
+            let count = if *kind == 3 { site.removals } else { site.requests };
+            let list = of_kind(&settings, *kind, count);
+            let times = steps(list_times(site.book, &list, site.turns), *checks);
+            line.add(times.map(|time| time / count as f64 * 1e9));
+        }
+        line.print();
     }
 }
 
@@ -109,20 +128,14 @@ pub fn by_kinds(name: &str, book: &[u32], kinds: &[u32]) {
 pub fn by_dates() {
     let few = medium(90);
     let list: Vec<u32> = load(&few, 20_000).into_iter().flatten().collect();
-    let mut steps = Vec::new();
+    let mut proved = Vec::new();
     for dates in [90, 360] {
         let book = full_book(&mut Rng::new(u64::from(SEED)), &medium(dates), 50);
-        let m = list_times(&book, &list);
-        let (proved, plain) = (m.proved - m.proved_check, m.plain - m.plain_check);
-        let each = |time: f64| format!("{:.0} ns", time / 20_000.0 * 1e9);
-        row(
-            &format!("steps, medium site, D {dates}"),
-            proved,
-            plain,
-            each,
-            &format!("book of {} words, same requests", book.len()),
-        );
-        steps.push(proved);
+        let times = steps(list_times(&book, &list, 15), check_times(&book));
+        let each = |time: f64| format!("{:.1} ns", time / 20_000.0 * 1e9);
+        let note = format!("book of {} words, same requests", book.len());
+        row(&format!("steps, medium site, D {dates}"), times, each, &note);
+        proved.push(times[0]);
     }
-    println!("| | | {:.2} | | steps of the longer book / steps of the shorter |", steps[1] / steps[0]);
+    println!("| | | {:.2} | | steps of the longer book / steps of the shorter |", proved[1] / proved[0]);
 }
