@@ -7,7 +7,7 @@ use mathlib.Core.Bool.{true, false≢true}
 use mathlib.Core.Option.{Option, none, some}
 use mathlib.Core.List.{List, [], _∷_, _++_}
 use native.Mathlib.Omega.{arith}
-use lib.ListN.{length, getD}
+use lib.ListN.{getD}
 use borrow.Author.Tests.{ltb-true}
 use Rattle.model.specs.declared.Settings.{Settings}
 use Rattle.model.specs.declared.Request.{Request}
@@ -20,7 +20,7 @@ use Rattle.model.specs.Kinds.{Kind.addStanding, Kind.endStanding, Kind.addAtten
 use Rattle.model.specs.Kinds.{Kind.addLunch, Kind.eraseLunch, Kind.eraseConfAndLunch, Kind.whichMeeting, Kind.countLeave, Kind.seatsLeft, Kind.freeRoom}
 use Rattle.model.specs.Questions.{Refusal, judge, test, below, always, further, Question.aBelow, Question.bBelow}
 use Rattle.model.specs.Machine.{Outcome, change, finish, stepKind, step}
-use Rattle.model.specs.Words.{Region, slots, items, words}
+use Rattle.model.specs.Words.{Region, slots, items, width, words}
 use Rattle.model.specs.Reading.{settingsOf, readState, stateOf}
 use Rattle.model.proofs.Laws.{Sound}
 use Rattle.model.proofs.ReadBack.{valid-is, seated}
@@ -31,34 +31,29 @@ use Rattle.model.proofs.Frame.{settings-change}
 use Rattle.model.proofs.Done.{Accepted, accepted-step, done-of}
 use Rattle.book.specs.declared.grid.Grid.{Grid}
 use Rattle.book.specs.declared.grid.Grids.{Grids}
-use Rattle.book.specs.Grids.{Fits, gridOf, gridsOf, Laid}
+use Rattle.book.specs.Grids.{gridOf, gridsOf, Laid}
+use Rattle.book.specs.Lent.{Lies}
 use Rattle.book.specs.Good.{Good}
-use Rattle.book.proofs.Regions.{fits, small, some-item}
+use Rattle.book.proofs.Regions.{lies, small, some-item}
 use Rattle.book.proofs.Goods.{good-laid}
 use Rattle.apply.specs.Accepted.{accepted}
-use Rattle.apply.specs.Stores.{Span}
+use Rattle.apply.specs.Stores.{Span, Single}
 use Rattle.apply.proofs.Stages.{Carries, carries-all, carries-words}
 
--- a grid of a region, in a book of the same length
-pub span-of : (S : Settings) (b : List ℕ) → Laid S b → (g : Region) (h : Grid) → h ≡ gridOf S g → (n last : ℕ) → n ≡ length b → last < slots S g → Span h n last
-span-of S b l g h e n last k q =
-    subst (λ (h : Grid). Span h n last) (sym e) (subst (λ (n : ℕ). Span (gridOf S g) n last) (sym k)
-    (record { fits = fits S b l g; narrow = small S (l .ranges) g .width; some = some-item S (l .ranges) g; slot = q }))
+-- a grid of a region, in words c that keep the grids of a laid book
+module _ (S : Settings) (b : List ℕ) (l : Laid S b) (g : Region) (h : Grid) (is : h ≡ gridOf S g) (c : List ℕ) (keep : (f : Grid) → Lies f b → Lies f c) where
+  pub span-of : (last : ℕ) → last < slots S g → Span h c last
+  span-of last q =
+      subst (λ (h : Grid). Span h c last) (sym is)
+      (record { lies = keep (gridOf S g) (lies S b l g); narrow = small S (l .ranges) g .width; slot = q })
+
+  pub single-of : width g ≡ 1 → (to : ℕ) → to ≤ slots S g → Single h c to
+  single-of one to q =
+      subst (λ (h : Grid). Single h c to) (sym is)
+      (record { lies = keep (gridOf S g) (lies S b l g); cells = (one, some-item S (l .ranges) g); most = q })
 
 pub item-of : (S : Settings) (g : Region) (h : Grid) → h ≡ gridOf S g → (j : ℕ) → j < items S g → j < h .items
 item-of S g h e j q = subst (λ (h : Grid). j < h .items) (sym e) q
-
--- the same up to before `to`
-pub record Reach (h : Grid) (n to : ℕ) : Type 0 where
-  pub fits : Fits h n
-  pub narrow : h .width ≤ 3
-  pub some : 1 ≤ h .items
-  pub most : to ≤ h .slots
-
-pub reach-of : (S : Settings) (b : List ℕ) → Laid S b → (g : Region) (h : Grid) → h ≡ gridOf S g → (n to : ℕ) → n ≡ length b → to ≤ slots S g → Reach h n to
-reach-of S b l g h e n to k q =
-    subst (λ (h : Grid). Reach h n to) (sym e) (subst (λ (n : ℕ). Reach (gridOf S g) n to) (sym k)
-    (record { fits = fits S b l g; narrow = small S (l .ranges) g .width; some = some-item S (l .ranges) g; most = q }))
 
 -- what is known in the arm of kind k: a good book, its grids, an accepted request, and its kind
 pub record Known (S : Settings) (b : List ℕ) (G : Grids) (r : Request) (k : Kind) : Type 0 where
@@ -105,8 +100,11 @@ module _ {S : Settings} {b : List ℕ} {G : Grids} {r : Request} {k : Kind} (w :
 
   -- one of the grids, and an item of it
   module _ (g : Region) (f : Grids → Grid) (is : f (gridsOf S) ≡ gridOf S g) where
-    pub span : slots S g ≡ slotsOf S (row k .unit) → Span (f G) (length b) (r .last)
-    span u = span-of S b laid g (f G) (ap f (w .grids) ∙ is) (length b) (r .last) refl (rw u slots-ok)
+    pub span : slots S g ≡ slotsOf S (row k .unit) → Span (f G) b (r .last)
+    span u = span-of S b laid g (f G) (ap f (w .grids) ∙ is) b (λ f l. l) (r .last) (rw u slots-ok)
+
+    pub single : width g ≡ 1 → slots S g ≡ slotsOf S (row k .unit) → Single (f G) b (r .last + 1)
+    single one u = single-of S b laid g (f G) (ap f (w .grids) ∙ is) b (λ f l. l) one (r .last + 1) (rw u (omega (arith, slots-ok)))
 
     pub item : (j : ℕ) → j < items S g → j < f G .items
     item j h = item-of S g (f G) (ap f (w .grids) ∙ is) j h

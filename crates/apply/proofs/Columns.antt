@@ -24,8 +24,9 @@ use Rattle.model.proofs.Laws.{Sound}
 use Rattle.model.proofs.Places.{Cell}
 use Rattle.model.proofs.Keeps.{Yes, yes, yes-slot, was-present, is-free, not-elsewhere}
 use Rattle.book.specs.Grids.{gridOf}
-use Rattle.apply.specs.declared.cells.Content.{Content}
-use Rattle.apply.specs.Stores.{wordIn, empty, full, filled}
+use Rattle.book.specs.declared.puts.Content.{Content}
+use Rattle.book.specs.Stores.{wordIn, empty}
+use Rattle.apply.specs.Stores.{full, filled}
 use Rattle.apply.proofs.Stages.{Frame, Carries, column, in-slots, last-slot}
 use Rattle.apply.proofs.Contents.{added, emptied, some-or, some-less}
 use Rattle.apply.proofs.Frames.{hotel-frame, ride-frame, attend-frame, conf-frame, lunch-frame}

@@ -25,7 +25,8 @@ use Rattle.book.specs.declared.units.Slot.the-variants.{Sessions, Times}
 use Rattle.book.specs.Grids.{gridOf}
 use Rattle.book.proofs.Regions.{group-lt, date-lt}
 use Rattle.book.proofs.Goods.{ranges-by}
-use Rattle.apply.specs.Stores.{wordIn, empty, filled, swept, markedAll}
+use Rattle.book.specs.Stores.{wordIn, empty, swept}
+use Rattle.apply.specs.Stores.{filled, markedAll}
 use Rattle.book.specs.Units.{OnDates}
 use Rattle.apply.proofs.Writes.{empty-word}
 use Rattle.apply.proofs.Stages.{Frame, Carries, column, rows, bits, up-to, in-slots, last-slot}

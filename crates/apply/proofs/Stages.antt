@@ -22,8 +22,9 @@ use Rattle.model.proofs.Search.{bool-eq}
 use Rattle.model.proofs.Places.{Seated, Cell, words-at, words-ext, length-words, length-settings}
 use Rattle.model.proofs.Keeps.{Yes, slots-fit}
 use Rattle.book.specs.Grids.{gridOf}
-use Rattle.apply.specs.declared.cells.Content.{Content}
-use Rattle.apply.specs.Stores.{wordIn, filled, swept, flipped, markedAll}
+use Rattle.book.specs.declared.puts.Content.{Content}
+use Rattle.book.specs.Stores.{wordIn, swept}
+use Rattle.apply.specs.Stores.{filled, flipped, markedAll}
 use Rattle.apply.proofs.Writes.{index, index-inj, Writes, writes-as, first-of, filled-writes, swept-writes, markedAll-writes}
 
 -- the book b, laid out by S, has the words of x

@@ -19,8 +19,10 @@ use Rattle.model.specs.Reading.{at}
 use Rattle.model.proofs.Search.{and-left, and-right, and-true, bool-eq}
 use Rattle.model.proofs.Places.{Cell, Same, address-inj, address-lt}
 use Rattle.book.specs.Grids.{place, cellAt, gridOf}
-use Rattle.apply.specs.declared.cells.Content.{Content}
-use Rattle.apply.specs.Stores.{times, over, wordIn, empty, puts, stored, filled, cleared, sweptRow, swept, flipped, marked, markedAll}
+use Rattle.book.specs.declared.puts.Content.{Content}
+use Rattle.book.proofs.Sweeps.{length-puts}
+use Rattle.book.specs.Stores.{times, over, wordIn, empty, puts, stored, cleared, sweptRow, swept, replaced}
+use Rattle.apply.specs.Stores.{filled, flipped, marked, markedAll}
 
 -- the regions by number, so that they can be compared
 abbrev pub index : Region → ℕ
@@ -199,10 +201,6 @@ empty-word (suc zero) = refl
 empty-word (suc (suc k)) = refl
 
 module _ (c : Content) (n : ℕ) where
-  length-puts : (m : ℕ) (b : List ℕ) → length (puts c n m b) ≡ length b
-  length-puts zero b = refl
-  length-puts (suc m) b = length-set (puts c n m b) (n + m) (wordIn c m) ∙ length-puts m b
-
   puts-head : (h m : ℕ) (b : List ℕ) → h ≤ n → take h (puts c n m b) ≡ take h b
   puts-head h zero b l = refl
   puts-head h (suc m) b l = take-set-le h (puts c n m b) (n + m) (wordIn c m) (omega arith) ∙ puts-head h m b l
@@ -219,7 +217,7 @@ module _ (c : Content) (n : ℕ) where
       q = omega arith
 
       go : (k ≡ m) ⊎ (k < m) → (k < m → getD (puts c n m b) (n + k) 0 ≡ wordIn c k) → getD (puts c n (suc m) b) (n + k) 0 ≡ wordIn c k
-      go (inl e) rest = rw e (getD-set-same (puts c n m b) (n + m) (wordIn c m) 0 (omega (arith, length-puts m b)))
+      go (inl e) rest = rw e (getD-set-same (puts c n m b) (n + m) (wordIn c m) 0 (omega (arith, length-puts c n m b)))
       go (inr r) rest = getD-set-other (puts c n m b) (n + m) (n + k) (wordIn c m) 0 (λ e. omega arith) ∙ rest r
 
 -- the place of a cell's words
@@ -304,7 +302,7 @@ module _ (S : Settings) (g : Region) (one-word : width g ≡ 1) (on : Bool) (v i
   n₀ = place (gridOf S g) i (v / 32) 0
 
   pub marked-writes : Writes S g d (λ k a o. flipped on o (v % 32)) (marked (gridOf S g) on v i)
-  unfolding marked cellAt address
+  unfolding marked replaced cellAt address
   marked-writes =
       record {
         long = λ b. length-set b n₀ _;

@@ -1,11 +1,12 @@
 // What the kinds write, in the slots first..last, both included.
 use crate::bits::mark_all;
-use crate::cells::Content;
-use crate::cells::EMPTY;
 use crate::cells::fill;
-use crate::cells::sweep;
+use crate::cells::sweep_rows;
 use book::grid::Grid;
 use book::grid::Grids;
+use book::puts::Content;
+use book::puts::EMPTY;
+use book::runs::sweep_run;
 use book::units::Slot;
 use book::units::date_of_session;
 use book::units::slots_on;
@@ -13,12 +14,12 @@ use model::Session;
 use model::Settings;
 ghost use mathlib.Core.Path.{_≡_};
 ghost use Prim.Native.Nat.{_+_, _/_, _≤_, _<_};
-ghost use lib.ListN.{length};
 ghost use mathlib.Core.Bool.{false};
 ghost use Rattle.model.specs.Site.{dateOfSession};
 ghost use Rattle.book.specs.Grids.{gridsOf, Laid};
-ghost use Rattle.apply.specs.Stores.{Span, full, empty, filled, swept, markedAll, Removed};
 ghost use Rattle.book.specs.Lent.{reading};
+ghost use Rattle.book.specs.Stores.{Wrote, empty, swept};
+ghost use Rattle.apply.specs.Stores.{Span, Single, full, filled, markedAll, Removed};
 
 // One entry into the cells of an item, with the words beside it.
 pub fn add(
@@ -31,10 +32,10 @@ pub fn add(
     first: u32,
     last: u32,
 )
-    requires { ⌜ Span g (length (reading (now book))) last ⌝ }
+    requires { ⌜ Span g (reading (now book)) last ⌝ }
     requires { ⌜ item < g .items ⌝ }
     requires { ⌜ who < 1000 ⌝ }
-    ensures { λ _. ⌜ reading (now (book .exit)) ≡ filled g item (full who second third) first (last + 1) (reading (now (book .entry))) ⌝ }
+    ensures { λ _. ⌜ Wrote (filled g item (full who second third) first (last + 1)) (reading (now (book .entry))) (reading (now (book .exit))) ⌝ }
 {
     let c = Content {
         entry: who + 1,
@@ -46,41 +47,42 @@ pub fn add(
 
 // The cells of an item emptied.
 pub fn take(book: &mut [u32], g: Grid, item: u32, first: u32, last: u32)
-    requires { ⌜ Span g (length (reading (now book))) last ⌝ }
+    requires { ⌜ Span g (reading (now book)) last ⌝ }
     requires { ⌜ item < g .items ⌝ }
-    ensures { λ _. ⌜ reading (now (book .exit)) ≡ filled g item empty first (last + 1) (reading (now (book .entry))) ⌝ }
+    ensures { λ _. ⌜ Wrote (filled g item empty first (last + 1)) (reading (now (book .entry))) (reading (now (book .exit))) ⌝ }
 {
     fill(book, g, item, EMPTY, first, last + 1);
 }
 
 // One entry erased from every cell that holds it.
 pub fn drop(book: &mut [u32], g: Grid, who: u32, first: u32, last: u32)
-    requires { ⌜ Span g (length (reading (now book))) last ⌝ }
+    requires { ⌜ Span g (reading (now book)) last ⌝ }
     requires { ⌜ who < 1000 ⌝ }
-    ensures { λ _. ⌜ reading (now (book .exit)) ≡ swept g (who + 1) first (last + 1) (reading (now (book .entry))) ⌝ }
+    ensures { λ _. ⌜ Wrote (swept g (who + 1) first (last + 1)) (reading (now (book .entry))) (reading (now (book .exit))) ⌝ }
 {
-    sweep(book, g, who + 1, first, last + 1);
+    sweep_rows(book, g, who + 1, first, last + 1);
 }
 
 // A member's bit set or cleared.
 pub fn turn(book: &mut [u32], g: Grid, on: bool, v: u32, first: u32, last: u32)
-    requires { ⌜ Span g (length (reading (now book))) last ⌝ }
+    requires { ⌜ Span g (reading (now book)) last ⌝ }
     requires { ⌜ v / 32 < g .items ⌝ }
-    ensures { λ _. ⌜ reading (now (book .exit)) ≡ markedAll g on v first (last + 1) (reading (now (book .entry))) ⌝ }
+    ensures { λ _. ⌜ Wrote (markedAll g on v first (last + 1)) (reading (now (book .entry))) (reading (now (book .exit))) ⌝ }
 {
     mark_all(book, g, on, v, first, last + 1);
 }
 
 // Kind 9: the meeting no longer stands, and nobody attends it.
 pub fn end_standing(book: &mut [u32], g: Grids, a: u32, first: u32, last: u32)
-    requires { ⌜ Span (g .standing) (length (reading (now book))) last ⌝ }
-    requires { ⌜ Span (g .attend) (length (reading (now book))) last ⌝ }
+    requires { ⌜ Span (g .standing) (reading (now book)) last ⌝ }
+    requires { ⌜ Single (g .attend) (reading (now book)) (last + 1) ⌝ }
     requires { ⌜ a / 32 < g .standing .items ⌝ }
     requires { ⌜ a < 1000 ⌝ }
-    ensures { λ _. ⌜ reading (now (book .exit)) ≡ swept (g .attend) (a + 1) first (last + 1) (markedAll (g .standing) false a first (last + 1) (reading (now (book .entry)))) ⌝ }
+    ensures { λ _. ⌜ Wrote (λ b. swept (g .attend) (a + 1) first (last + 1) (markedAll (g .standing) false a first (last + 1) b)) (reading (now (book .entry))) (reading (now (book .exit))) ⌝ }
 {
     turn(book, g.standing, false, a, first, last);
-    drop(book, g.attend, a, first, last);
+    let attend = g.attend;
+    sweep_run(book, attend, a + 1, first, last + 1);
 }
 
 // Kind 16: the meeting's conference rooms, and its lunches on the dates from first's to last's.
@@ -89,7 +91,7 @@ pub fn erase_conf_and_lunch(book: &mut [u32], s: Settings, g: Grids, b: u32, fir
     requires { ⌜ g ≡ gridsOf s ⌝ }
     requires { ⌜ last < g .conf .slots ⌝ }
     requires { ⌜ b < s .meetings ⌝ }
-    ensures { λ _. ⌜ reading (now (book .exit)) ≡ filled (g .lunch) b empty (dateOfSession s first) (dateOfSession s last + 1) (swept (g .conf) (b + 1) first (last + 1) (reading (now (book .entry)))) ⌝ }
+    ensures { λ _. ⌜ Wrote (λ x. filled (g .lunch) b empty (dateOfSession s first) (dateOfSession s last + 1) (swept (g .conf) (b + 1) first (last + 1) x)) (reading (now (book .entry))) (reading (now (book .exit))) ⌝ }
 {
     drop(book, g.conf, b, first, last);
     let from = date_of_session(s, Session(first));
@@ -108,10 +110,11 @@ pub fn remove_visitor(book: &mut [u32], s: Settings, g: Grids, v: u32, first: u3
     ensures { λ _. ⌜ Removed s v first last (reading (now (book .entry))) (reading (now (book .exit))) ⌝ }
 {
     turn(book, g.leave, false, v, first, last);
-    drop(book, g.hotel, v, first, last);
+    let hotels = g.hotel;
+    sweep_run(book, hotels, v + 1, first, last + 1);
     let times = slots_on(s, Slot::Times, g.ride.slots, first, last);
     let rides = g.ride;
-    sweep(book, rides, v + 1, times.from, times.to);
+    sweep_run(book, rides, v + 1, times.from, times.to);
     let sessions = slots_on(s, Slot::Sessions, g.attend.slots, first, last);
     fill(book, g.attend, v, EMPTY, sessions.from, sessions.to);
 }

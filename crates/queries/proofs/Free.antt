@@ -1,6 +1,6 @@
 -- Rooms free in a run of sessions, and meetings that stand in some session of a date.
 -- Assumes nothing.
-use Prim.Native.Nat.{ℕ, _+_, _-_, _≤_, _<_}
+use Prim.Native.Nat.{ℕ, _+_, _/_, _%_, _-_, _≤_, _<_}
 use mathlib.Core.Path.{_≡_, refl, sym, _∙_, ap, subst}
 use mathlib.Core.Bool.{Bool, true, false, not, _&&_}
 use mathlib.Core.Option.{Option, none, some}
@@ -9,20 +9,24 @@ use native.Mathlib.Omega.{arith}
 use lib.Dec.{leb, ltb, eqb}
 use borrow.Author.Tests.{eq-eqb, eqb-true, le-leb, lt-ltb, leb-true, ltb-true}
 use Rattle.model.specs.declared.Settings.{Settings}
-use Rattle.model.specs.Bounded.{isSome, any, failing}
+use Rattle.model.specs.Bounded.{isSome, any, bit, failing}
+use Rattle.model.specs.Kinds.{sessions}
 use Rattle.model.specs.Site.{allSessions, dateOfSession}
 use Rattle.model.specs.State.{State}
+use Rattle.model.specs.Words.{standings}
 use Rattle.model.specs.Questions.{lowestFree, standsOn}
 use Rattle.model.specs.Reading.{stateOf, readState}
 use Rattle.model.proofs.Search.{lowest-by, any-true, any-false, true-any, false-any, none-failing, failing-none, and-true, and-left, and-right, within-true, true-within, both}
 use Rattle.book.specs.declared.found.Found.the-variants.{At, Nothing}
-use Rattle.book.specs.declared.units.Slot.the-variants.{Sessions}
 use Rattle.book.specs.Founds.{foundOf}
 use Rattle.book.specs.Good.{Good}
+use Rattle.book.specs.Grids.{cellAt, gridOf}
 use Rattle.book.specs.Units.{Cut}
 use Rattle.book.proofs.Cuts.{between-cuts}
+use Rattle.book.proofs.Entries.{any-same}
 use Rattle.book.proofs.Goods.{good-state}
 use Rattle.queries.specs.Shown.{roomTaken}
+use Rattle.queries.proofs.Shows.{standing-is}
 
 -- room c is free in every session of first..last
 abbrev pub freeIn : State → ℕ → ℕ → ℕ → Bool
@@ -50,7 +54,7 @@ lowest-at x first last c l h e =
     sym (ap foundOf (lowest-by (freeIn x first last) 0 (x .settings .rooms) (some c) (record { low = omega arith; high = omega (arith, l); holds = e; first = λ j a b. h j b })))
 
 -- the sessions of a date are those between two cuts
-module _ (x : State) (d m lo hi : ℕ) (a : Cut (x .settings) Sessions d lo) (b : Cut (x .settings) Sessions (d + 1) hi) where
+module _ (x : State) (d m lo hi : ℕ) (a : Cut (x .settings) sessions d lo) (b : Cut (x .settings) sessions (d + 1) hi) where
   abbrev standsIn : ℕ → Bool
   standsIn s = eqb (dateOfSession (x .settings) s) d && x .standing s m
 
@@ -59,7 +63,7 @@ module _ (x : State) (d m lo hi : ℕ) (a : Cut (x .settings) Sessions d lo) (b 
   stands-yes s l k e =
       let n : s < allSessions (x .settings) = omega (arith, b .most) in
       let w : (d ≤ dateOfSession (x .settings) s) × (dateOfSession (x .settings) s ≤ d)
-      = within-true d d (dateOfSession (x .settings) s) (between-cuts (x .settings) Sessions d d lo hi a b s n ∙ and-true (le-leb lo s l) (lt-ltb s hi k)) in
+      = within-true d d (dateOfSession (x .settings) s) (between-cuts (x .settings) sessions d d lo hi a b s n ∙ and-true (le-leb lo s l) (lt-ltb s hi k)) in
       sym (true-any standsIn (allSessions (x .settings)) s n (and-true (eq-eqb (dateOfSession (x .settings) s) d (omega (arith, w))) e))
 
   pub stands-no : ((s : ℕ) → lo ≤ s → s < hi → x .standing s m ≡ false) → false ≡ standsOn x d m
@@ -71,27 +75,27 @@ module _ (x : State) (d m lo hi : ℕ) (a : Cut (x .settings) Sessions d lo) (b 
       go s n true q =
           let e : dateOfSession (x .settings) s ≡ d = eqb-true _ d q in
           let c : leb lo s && ltb s hi ≡ true
-          = sym (between-cuts (x .settings) Sessions d d lo hi a b s n) ∙ true-within d d (dateOfSession (x .settings) s) (omega (arith, e)) (omega (arith, e)) in
+          = sym (between-cuts (x .settings) sessions d d lo hi a b s n) ∙ true-within d d (dateOfSession (x .settings) s) (omega (arith, e)) (omega (arith, e)) in
           rw q (h s (leb-true lo s (and-left (leb lo s) (ltb s hi) c)) (ltb-true s hi (and-right (leb lo s) (ltb s hi) c)))
 
 -- the same of a good book, by the cuts of its settings
-module _ (S : Settings) (b : List ℕ) (good : Good S b) (d m lo hi : ℕ) (low : Cut S Sessions d lo) (high : Cut S Sessions (d + 1) hi) where
+module _ (S : Settings) (b : List ℕ) (good : Good S b) (d m lo hi : ℕ) (low : Cut S sessions d lo) (high : Cut S sessions (d + 1) hi) where
   settings-are : S ≡ stateOf b .settings
   unfolding readState
   settings-are = sym (ap (λ (x : State). x .settings) (good-state good))
 
   pub date-yes : (s : ℕ) → lo ≤ s → s < hi → stateOf b .standing s m ≡ true → true ≡ standsOn (stateOf b) d m
   date-yes =
-      stands-yes (stateOf b) d m lo hi (subst (λ (S : Settings). Cut S Sessions d lo) settings-are low)
-      (subst (λ (S : Settings). Cut S Sessions (d + 1) hi) settings-are high)
+      stands-yes (stateOf b) d m lo hi (subst (λ (S : Settings). Cut S sessions d lo) settings-are low)
+      (subst (λ (S : Settings). Cut S sessions (d + 1) hi) settings-are high)
 
   pub date-no : ((s : ℕ) → lo ≤ s → s < hi → stateOf b .standing s m ≡ false) → false ≡ standsOn (stateOf b) d m
   date-no =
-      stands-no (stateOf b) d m lo hi (subst (λ (S : Settings). Cut S Sessions d lo) settings-are low)
-      (subst (λ (S : Settings). Cut S Sessions (d + 1) hi) settings-are high)
+      stands-no (stateOf b) d m lo hi (subst (λ (S : Settings). Cut S sessions d lo) settings-are low)
+      (subst (λ (S : Settings). Cut S sessions (d + 1) hi) settings-are high)
 
   -- asked of the sessions between the cuts
-  pub date-any : any (λ i. leb lo i && stateOf b .standing i m) hi ≡ standsOn (stateOf b) d m
+  date-any : any (λ i. leb lo i && stateOf b .standing i m) hi ≡ standsOn (stateOf b) d m
   date-any = go (any at hi) refl
     where
       at : ℕ → Bool
@@ -105,6 +109,13 @@ module _ (S : Settings) (b : List ℕ) (good : Good S b) (d m lo hi : ℕ) (low 
           let w : (k : ℕ) × (k < hi) × (at k ≡ true) = any-true at hi q in
           q ∙ date-yes (w .0) (leb-true lo (w .0) (and-left (leb lo (w .0)) (stateOf b .standing (w .0) m) (w .2))) (w .1) (and-right (leb lo (w .0)) (stateOf b .standing (w .0) m) (w .2))
       go false q = q ∙ date-no (λ s l k. off s (le-leb lo s l) (any-false at hi q s k))
+
+  -- and of their words
+  pub date-bits : m < S .meetings → any (λ i. leb lo i && bit (cellAt (gridOf S standings) b i (m / 32)) (m % 32)) hi ≡ standsOn (stateOf b) d m
+  date-bits k =
+      any-same (λ i. leb lo i && bit (cellAt (gridOf S standings) b i (m / 32)) (m % 32)) (λ i. leb lo i && stateOf b .standing i m) hi
+      (λ i h. ap (λ (t : Bool). leb lo i && t) (sym (standing-is S b good i m (omega (arith, high .most)) k)))
+      ∙ date-any
 
 -- sessions from lo on, before hi
 pub between-yes : (t : ℕ → Bool) (lo hi i : ℕ) → lo ≤ i → i < hi → t i ≡ true → true ≡ any (λ i. leb lo i && t i) hi

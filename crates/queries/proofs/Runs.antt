@@ -12,6 +12,7 @@ use lib.Seq.{getD-drop, getD-take}
 use borrow.Author.Tests.{le-leb, lt-ltb, lt-leb, le-ltb, leb-true, leb-false, ltb-true}
 use Rattle.model.specs.declared.Settings.{Settings}
 use Rattle.model.specs.Bounded.{bit, one, sumFrom, count, count2, within}
+use Rattle.model.specs.Kinds.{Unit, sessions, times}
 use Rattle.model.specs.Site.{allSessions, allTimes, dateOfSession, dateOfTime}
 use Rattle.model.specs.State.{State, hotels, rides, attends, booked}
 use Rattle.model.specs.Questions.{bookings}
@@ -20,8 +21,6 @@ use Rattle.model.specs.Reading.{stateOf, readState}
 use Rattle.model.proofs.Search.{bool-eq, and-true}
 use Rattle.model.proofs.Sums.{sum-last, sum-agree, sum-empty, sum-most}
 use Rattle.book.specs.declared.grid.Grid.{Grid}
-use Rattle.book.specs.declared.units.Slot.{Slot}
-use Rattle.book.specs.declared.units.Slot.the-variants.{Sessions, Times}
 use Rattle.book.specs.Grids.{cellAt, gridOf, place, Index}
 use Rattle.book.specs.Rows.{rowCount}
 use Rattle.book.specs.Good.{Good}
@@ -74,7 +73,7 @@ module _ (t : ℕ → Bool) (q : ℕ → ℕ → Bool) (f : ℕ → ℕ) (lo hi 
       off i k = rw (le-leb lo i (omega arith), le-ltb i hi k)
 
 -- the slots of a run of dates begin no later than they end
-pub run-order : (S : Settings) (u : Slot) (first last from to : ℕ) → OnDates S u first last from to → first ≤ last → from ≤ to
+pub run-order : (S : Settings) (u : Unit) (first last from to : ℕ) → OnDates S u first last from to → first ≤ last → from ≤ to
 run-order S u first last from to r h = go (leb from to) refl
   where
     go : (t : Bool) → leb from to ≡ t → from ≤ to
@@ -98,22 +97,22 @@ module _ (S : Settings) (b : List ℕ) (good : Good S b) (v from to : ℕ) (hv :
       last : (d : ℕ) → leb d to ≡ ltb d (to + 1)
       last d = bool-eq _ _ (λ e. lt-ltb d (to + 1) (omega (arith, leb-true d to e))) (λ e. le-leb d to (omega (arith, ltb-true d (to + 1) e)))
 
-  taxis : (t0 t1 : ℕ) → OnDates S Times from to t0 t1 → count2 (λ t k. within from to (dateOfTime S t) && x .ride t k v) (allTimes S) (S .transports) ≡ rowsCount (gridOf S rideCells) b (v + 1) t0 t1
+  taxis : (t0 t1 : ℕ) → OnDates S times from to t0 t1 → count2 (λ t k. within from to (dateOfTime S t) && x .ride t k v) (allTimes S) (S .transports) ≡ rowsCount (gridOf S rideCells) b (v + 1) t0 t1
   unfolding rowsCount rowCount
   taxis t0 t1 rt =
       count-run (λ t. within from to (dateOfTime S t)) (λ t k. booked x rides t k v) (λ t. rowCount (gridOf S rideCells) b t (v + 1)) t0 t1 (allTimes S) (S .transports)
-      (run-order S Times from to t0 t1 rt hf) (rt .ends .most) (rt .exactly)
+      (run-order S times from to t0 t1 rt hf) (rt .ends .most) (rt .exactly)
       (λ t k. count-same (λ r. booked x rides t r v) (λ r. eqb (cellAt (gridOf S rideCells) b t r) (v + 1)) (S .transports) (λ r g. booked-eqb S b rides t k g hv))
 
-  seated : (s0 s1 : ℕ) → OnDates S Sessions from to s0 s1 → count2 (λ s m. within from to (dateOfSession S s) && x .attend s m v) (allSessions S) (S .meetings) ≡ columnCount (gridOf S attendCells) b v s0 s1
+  seated : (s0 s1 : ℕ) → OnDates S sessions from to s0 s1 → count2 (λ s m. within from to (dateOfSession S s) && x .attend s m v) (allSessions S) (S .meetings) ≡ columnCount (gridOf S attendCells) b v s0 s1
   unfolding columnCount
   seated s0 s1 rs =
       count-run (λ s. within from to (dateOfSession S s)) (λ s m. booked x attends s m v) (λ s. one (not (eqb (cellAt (gridOf S attendCells) b s v) 0))) s0 s1 (allSessions S) (S .meetings)
-      (run-order S Sessions from to s0 s1 rs hf) (rs .ends .most) (rs .exactly)
+      (run-order S sessions from to s0 s1 rs hf) (rs .ends .most) (rs .exactly)
       (λ s k. count-same (λ m. booked x attends s m v) (λ m. eqb (cellAt (gridOf S attendCells) b s v) (m + 1)) (S .meetings) (λ m g. booked-eqb S b attends s k g hv)
       ∙ count-cell (cellAt (gridOf S attendCells) b s v) (S .meetings) (good-cell good attends s v k hv))
 
-  pub bookings-is : (t0 t1 s0 s1 : ℕ) → OnDates S Times from to t0 t1 → OnDates S Sessions from to s0 s1
+  pub bookings-is : (t0 t1 s0 s1 : ℕ) → OnDates S times from to t0 t1 → OnDates S sessions from to s0 s1
       → rowsCount (gridOf S hotelCells) b (v + 1) from (to + 1) + rowsCount (gridOf S rideCells) b (v + 1) t0 t1 + columnCount (gridOf S attendCells) b v s0 s1
       ≡ bookings (stateOf b) v from to
   unfolding bookings readState
@@ -124,7 +123,7 @@ module _ (S : Settings) (b : List ℕ) (good : Good S b) (v from to : ℕ) (hv :
   unfolding bookings readState
   nights-le = rw (good-state good) (omega (arith, nights))
 
-  pub seated-le : (s0 s1 : ℕ) → OnDates S Sessions from to s0 s1 → columnCount (gridOf S attendCells) b v s0 s1 ≤ bookings (stateOf b) v from to
+  pub seated-le : (s0 s1 : ℕ) → OnDates S sessions from to s0 s1 → columnCount (gridOf S attendCells) b v s0 s1 ≤ bookings (stateOf b) v from to
   unfolding bookings readState
   seated-le s0 s1 rs = rw (good-state good) (omega (arith, seated s0 s1 rs))
 

@@ -6,18 +6,19 @@ use book::grid::at;
 use book::grid::cell;
 use book::grid::grids_of;
 use book::rows::part_count;
-use book::units::Slot;
-use book::units::slots_on;
+use book::units::after;
+use book::units::sessions_on;
+use book::units::times_on;
+use model::Date;
 use model::Settings;
 ghost use mathlib.Core.Path.{_≡_};
 ghost use Prim.Native.Nat.{ℕ, _≤_, _<_};
 ghost use mathlib.Core.Bool.{false, not};
 ghost use lib.Dec.{eqb};
-ghost use lib.ListN.{length};
 ghost use Rattle.model.specs.Bounded.{one};
 ghost use Rattle.model.specs.Questions.{bookings as bookingsIn};
 ghost use Rattle.model.specs.Reading.{stateOf};
-ghost use Rattle.book.specs.Grids.{Fits, gridsOf};
+ghost use Rattle.book.specs.Grids.{gridsOf};
 ghost use Rattle.book.specs.Good.{Good};
 ghost use Rattle.queries.specs.Shown.{rowsCount, columnCount};
 ghost use Rattle.book.specs.Lent.{reading, Lies};
@@ -62,76 +63,83 @@ fn column_count(book: &[u32], g: Grid, item: u32, lo: u32, hi: u32) -> u32
     n
 }
 
-// The entries of the visitor on the dates from..to, searched for in every slot of theirs.
-fn entries(book: &[u32], s: Settings, g: Grids, visitor: u32, from: u32, to: u32) -> u32
+// The entries of the visitor on the dates first..last, searched for in every slot of theirs.
+fn entries(book: &[u32], s: Settings, g: Grids, visitor: u32, first: Date, last: Date) -> u32
     requires { ⌜ Good s (reading (now book)) ⌝ }
     requires { ⌜ g ≡ gridsOf s ⌝ }
     requires { ⌜ visitor < s .visitors ⌝ }
-    requires { ⌜ from ≤ to ⌝ }
-    requires { ⌜ to < s .dates ⌝ }
-    ensures { λ r. ⌜ r ≡ bookingsIn (stateOf (reading (now (book .entry)))) visitor from to ⌝ }
+    requires { ⌜ first .0 ≤ last .0 ⌝ }
+    requires { ⌜ last .0 < s .dates ⌝ }
+    ensures { λ r. ⌜ r ≡ bookingsIn (stateOf (reading (now (book .entry)))) visitor (first .0) (last .0) ⌝ }
 {
-    let times = slots_on(s, Slot::Times, g.ride.slots, from, to);
-    let sessions = slots_on(s, Slot::Sessions, g.attend.slots, from, to);
-    let nights = rows_count(book, g.hotel, visitor + 1, from, to + 1);
-    let rides = rows_count(book, g.ride, visitor + 1, times.from, times.to);
-    let meetings = column_count(book, g.attend, visitor, sessions.from, sessions.to);
+    let times = times_on(s, first, last);
+    let sessions = sessions_on(s, first, last);
+    let nights = rows_count(book, g.hotel, visitor + 1, first.0, last.0 + 1);
+    let rides = rows_count(book, g.ride, visitor + 1, times.from.0, times.to.0);
+    let meetings = column_count(book, g.attend, visitor, sessions.from.0, sessions.to.0);
     nights + rides + meetings
 }
 
-// Has the visitor leave on some date of from..to?
-pub fn some_leave(book: &[u32], s: Settings, g: Grids, visitor: u32, from: u32, to: u32) -> bool
+// Has the visitor leave on some date of first..last?
+pub fn some_leave(
+    book: &[u32],
+    s: Settings,
+    g: Grids,
+    visitor: u32,
+    first: Date,
+    last: Date,
+) -> bool
     requires { ⌜ Good s (reading (now book)) ⌝ }
     requires { ⌜ g ≡ gridsOf s ⌝ }
     requires { ⌜ visitor < s .visitors ⌝ }
-    requires { ⌜ to < s .dates ⌝ }
-    ensures { λ r. ⌜ (r ≡ false → (d : ℕ) → from ≤ d → d ≤ to → stateOf (reading (now (book .entry))) .leave d visitor ≡ false) ⌝ }
+    requires { ⌜ last .0 < s .dates ⌝ }
+    ensures { λ r. ⌜ (r ≡ false → (d : ℕ) → first .0 ≤ d → d ≤ last .0 → stateOf (reading (now (book .entry))) .leave d visitor ≡ false) ⌝ }
 {
-    let mut date = from;
-    while date <= to {
-        if on_leave(book, s, g, Slot::Dates, date, visitor) {
+    let mut date = first;
+    while date.0 <= last.0 {
+        if on_leave(book, s, g, date, visitor) {
             return true;
         }
-        date += 1;
+        date = after(date);
     }
     false
 }
 
-// The entries of the visitor on the dates from..to: there are none without leave. The grids are computed here, where few products are
+// The entries of the visitor on the dates first..last: there are none without leave. The grids are computed here, where few products are
 // needed: a copy of all seven for the call would cost more.
-pub fn bookings(book: &[u32], s: Settings, visitor: u32, from: u32, to: u32) -> u32
+pub fn bookings(book: &[u32], s: Settings, visitor: u32, first: Date, last: Date) -> u32
     requires { ⌜ Good s (reading (now book)) ⌝ }
     requires { ⌜ visitor < s .visitors ⌝ }
-    requires { ⌜ from ≤ to ⌝ }
-    requires { ⌜ to < s .dates ⌝ }
-    ensures { λ r. ⌜ r ≡ bookingsIn (stateOf (reading (now (book .entry)))) visitor from to ⌝ }
+    requires { ⌜ first .0 ≤ last .0 ⌝ }
+    requires { ⌜ last .0 < s .dates ⌝ }
+    ensures { λ r. ⌜ r ≡ bookingsIn (stateOf (reading (now (book .entry)))) visitor (first .0) (last .0) ⌝ }
 {
     let g = grids_of(s);
-    if !some_leave(book, s, g, visitor, from, to) {
+    if !some_leave(book, s, g, visitor, first, last) {
         return 0;
     }
-    entries(book, s, g, visitor, from, to)
+    entries(book, s, g, visitor, first, last)
 }
 
 // Has the visitor an entry on the date? What costs least is asked first: leave, without which there is none, a hotel room, a meeting,
 // and a ride, whose times are many.
-pub fn has_bookings(book: &[u32], s: Settings, g: Grids, visitor: u32, date: u32) -> bool
+pub fn has_bookings(book: &[u32], s: Settings, g: Grids, visitor: u32, date: Date) -> bool
     requires { ⌜ Good s (reading (now book)) ⌝ }
     requires { ⌜ g ≡ gridsOf s ⌝ }
     requires { ⌜ visitor < s .visitors ⌝ }
-    requires { ⌜ date < s .dates ⌝ }
-    ensures { λ r. ⌜ r ≡ not (eqb (bookingsIn (stateOf (reading (now (book .entry)))) visitor date date) 0) ⌝ }
+    requires { ⌜ date .0 < s .dates ⌝ }
+    ensures { λ r. ⌜ r ≡ not (eqb (bookingsIn (stateOf (reading (now (book .entry)))) visitor (date .0) (date .0)) 0) ⌝ }
 {
-    if !on_leave(book, s, g, Slot::Dates, date, visitor) {
+    if !on_leave(book, s, g, date, visitor) {
         return false;
     }
-    if rows_count(book, g.hotel, visitor + 1, date, date + 1) != 0 {
+    if rows_count(book, g.hotel, visitor + 1, date.0, date.0 + 1) != 0 {
         return true;
     }
-    let sessions = slots_on(s, Slot::Sessions, g.attend.slots, date, date);
-    if column_count(book, g.attend, visitor, sessions.from, sessions.to) != 0 {
+    let sessions = sessions_on(s, date, date);
+    if column_count(book, g.attend, visitor, sessions.from.0, sessions.to.0) != 0 {
         return true;
     }
-    let times = slots_on(s, Slot::Times, g.ride.slots, date, date);
-    rows_count(book, g.ride, visitor + 1, times.from, times.to) != 0
+    let times = times_on(s, date, date);
+    rows_count(book, g.ride, visitor + 1, times.from.0, times.to.0) != 0
 }

@@ -4,21 +4,20 @@ use book::grid::Grid;
 use book::grid::Grids;
 use book::grid::cell;
 use book::rows::row_has;
-use book::units::Slot;
-use book::units::date_of;
+use model::Date;
+use model::Session;
 use model::Settings;
 ghost use mathlib.Core.Path.{_≡_};
-ghost use Prim.Native.Nat.{_/_, _%_, _<_};
-ghost use lib.ListN.{length};
+ghost use mathlib.Core.Bool.{_&&_};
+ghost use Prim.Native.Nat.{_/_, _%_, _≤_, _<_};
+ghost use lib.Dec.{leb};
 ghost use Rattle.model.specs.Bounded.{any, bit};
 ghost use Rattle.model.specs.Site.{allSessions};
-ghost use Rattle.model.specs.Kinds.{slotsOf, dateOf};
 ghost use Rattle.model.specs.Questions.{confHeld, lunchHeld, meetingOf};
 ghost use Rattle.model.specs.Reading.{stateOf};
 ghost use Rattle.book.specs.Founds.{foundOf};
-ghost use Rattle.book.specs.Grids.{Fits, cellAt, gridsOf};
+ghost use Rattle.book.specs.Grids.{cellAt, gridsOf};
 ghost use Rattle.book.specs.Good.{Good};
-ghost use Rattle.book.specs.Units.{unitOf};
 ghost use Rattle.book.specs.Lent.{reading, Lies};
 
 // Bit v of a slot of a pool.
@@ -32,71 +31,76 @@ pub fn member(book: &[u32], g: Grid, slot: u32, v: u32) -> bool
     pool::has(word, v % 32)
 }
 
-// Has the visitor leave on the slot's date?
-pub fn on_leave(book: &[u32], s: Settings, g: Grids, u: Slot, slot: u32, visitor: u32) -> bool
+// Has a slot of lo..hi, hi left out, bit v?
+pub fn member_between(book: &[u32], g: Grid, v: u32, lo: u32, hi: u32) -> bool
+    requires { ⌜ Lies g (reading (now book)) ⌝ }
+    requires { ⌜ hi ≤ g .slots ⌝ }
+    requires { ⌜ v / 32 < g .items ⌝ }
+    ensures { λ r. ⌜ r ≡ any (λ i. leb lo i && bit (cellAt g (reading (now (book .entry))) i (v / 32)) (v % 32)) hi ⌝ }
+{
+    let mut i = lo;
+    while i < hi {
+        if member(book, g, i, v) {
+            return true;
+        }
+        i += 1;
+    }
+    false
+}
+
+// Has the visitor leave on the date?
+pub fn on_leave(book: &[u32], s: Settings, g: Grids, date: Date, visitor: u32) -> bool
     requires { ⌜ Good s (reading (now book)) ⌝ }
     requires { ⌜ g ≡ gridsOf s ⌝ }
-    requires { ⌜ slot < slotsOf s (unitOf u) ⌝ }
+    requires { ⌜ date .0 < s .dates ⌝ }
     requires { ⌜ visitor < s .visitors ⌝ }
-    ensures { λ r. ⌜ r ≡ stateOf (reading (now (book .entry))) .leave (dateOf s (unitOf u) slot) visitor ⌝ }
+    ensures { λ r. ⌜ r ≡ stateOf (reading (now (book .entry))) .leave (date .0) visitor ⌝ }
 {
-    let date = date_of(s, u, slot);
     member(book, g.leave, date.0, visitor)
 }
 
 // Does the meeting stand in the session?
-pub fn stands(book: &[u32], s: Settings, g: Grids, session: u32, meeting: u32) -> bool
+pub fn stands(book: &[u32], s: Settings, g: Grids, session: Session, meeting: u32) -> bool
     requires { ⌜ Good s (reading (now book)) ⌝ }
     requires { ⌜ g ≡ gridsOf s ⌝ }
-    requires { ⌜ session < allSessions s ⌝ }
+    requires { ⌜ session .0 < allSessions s ⌝ }
     requires { ⌜ meeting < s .meetings ⌝ }
-    ensures { λ r. ⌜ r ≡ stateOf (reading (now (book .entry))) .standing session meeting ⌝ }
+    ensures { λ r. ⌜ r ≡ stateOf (reading (now (book .entry))) .standing (session .0) meeting ⌝ }
 {
-    member(book, g.standing, session, meeting)
+    member(book, g.standing, session.0, meeting)
 }
 
 // Has the meeting a conference room in the session?
-pub fn conf_held(book: &[u32], s: Settings, g: Grids, session: u32, meeting: u32) -> bool
+pub fn conf_held(book: &[u32], s: Settings, g: Grids, session: Session, meeting: u32) -> bool
     requires { ⌜ Good s (reading (now book)) ⌝ }
     requires { ⌜ g ≡ gridsOf s ⌝ }
-    requires { ⌜ session < allSessions s ⌝ }
+    requires { ⌜ session .0 < allSessions s ⌝ }
     requires { ⌜ meeting < s .meetings ⌝ }
-    ensures { λ r. ⌜ r ≡ confHeld (stateOf (reading (now (book .entry)))) session meeting ⌝ }
+    ensures { λ r. ⌜ r ≡ confHeld (stateOf (reading (now (book .entry)))) (session .0) meeting ⌝ }
 {
-    row_has(book, g.conf, session, meeting + 1)
-}
-
-// Does somebody attend the meeting in the session?
-pub fn attended(book: &[u32], s: Settings, g: Grids, session: u32, meeting: u32) -> bool
-    requires { ⌜ Good s (reading (now book)) ⌝ }
-    requires { ⌜ g ≡ gridsOf s ⌝ }
-    requires { ⌜ session < allSessions s ⌝ }
-    requires { ⌜ meeting < s .meetings ⌝ }
-    ensures { λ r. ⌜ r ≡ any (λ v. stateOf (reading (now (book .entry))) .attend session meeting v) (s .visitors) ⌝ }
-{
-    row_has(book, g.attend, session, meeting + 1)
+    row_has(book, g.conf, session.0, meeting + 1)
 }
 
 // Has the meeting a lunch on the date?
-pub fn lunch_held(book: &[u32], s: Settings, g: Grids, date: u32, meeting: u32) -> bool
+pub fn lunch_held(book: &[u32], s: Settings, g: Grids, date: Date, meeting: u32) -> bool
     requires { ⌜ Good s (reading (now book)) ⌝ }
     requires { ⌜ g ≡ gridsOf s ⌝ }
-    requires { ⌜ date < s .dates ⌝ }
+    requires { ⌜ date .0 < s .dates ⌝ }
     requires { ⌜ meeting < s .meetings ⌝ }
-    ensures { λ r. ⌜ r ≡ lunchHeld (stateOf (reading (now (book .entry)))) date meeting ⌝ }
+    ensures { λ r. ⌜ r ≡ lunchHeld (stateOf (reading (now (book .entry)))) (date .0) meeting ⌝ }
 {
-    cell(book, g.lunch, date, meeting) != 0
+    cell(book, g.lunch, date.0, meeting) != 0
 }
 
 // The meeting that the visitor attends in the session.
-pub fn meeting_of(book: &[u32], s: Settings, g: Grids, session: u32, visitor: u32) -> Found
+pub fn meeting_of(book: &[u32], s: Settings, g: Grids, session: Session, visitor: u32) -> Found
     requires { ⌜ Good s (reading (now book)) ⌝ }
     requires { ⌜ g ≡ gridsOf s ⌝ }
-    requires { ⌜ session < allSessions s ⌝ }
+    requires { ⌜ session .0 < allSessions s ⌝ }
     requires { ⌜ visitor < s .visitors ⌝ }
-    ensures { λ r. ⌜ r ≡ foundOf (meetingOf (stateOf (reading (now (book .entry)))) session visitor) ⌝ }
+    ensures { λ r. ⌜ r ≡ foundOf (meetingOf (stateOf (reading (now (book .entry)))) (session .0) visitor) ⌝ }
 {
-    let w = cell(book, g.attend, session, visitor);
+    let w = cell(book, g.attend, session.0, visitor);
     if w == 0 {
         return Found::Nothing;
     }

@@ -3,6 +3,8 @@ use book::found::Found;
 use book::grid::Grids;
 use book::grid::at;
 use book::grid::cell;
+use model::Date;
+use model::Session;
 use model::Settings;
 ghost use mathlib.Core.Path.{_≡_};
 ghost use Prim.Native.Nat.{_≤_, _<_};
@@ -13,29 +15,20 @@ ghost use Rattle.model.specs.Reading.{stateOf};
 ghost use Rattle.book.specs.Founds.{foundOf};
 ghost use Rattle.book.specs.Grids.{gridsOf};
 ghost use Rattle.book.specs.Good.{Good};
-ghost use Rattle.queries.specs.Shown.{Seats, roomTaken};
+ghost use Rattle.queries.specs.Shown.{Seats};
 ghost use Rattle.book.specs.Lent.{reading};
 
-// Is the conference room taken in the session?
-fn taken(book: &[u32], s: Settings, g: Grids, room: u32, session: u32) -> bool
-    requires { ⌜ Good s (reading (now book)) ⌝ }
-    requires { ⌜ g ≡ gridsOf s ⌝ }
-    requires { ⌜ session < allSessions s ⌝ }
-    requires { ⌜ room < s .rooms ⌝ }
-    ensures { λ r. ⌜ r ≡ roomTaken (stateOf (reading (now (book .entry)))) room session ⌝ }
-{
-    cell(book, g.conf, session, room) != 0
-}
-
 // The lowest conference room free in every session of first..last.
-pub fn lowest_free(book: &[u32], s: Settings, g: Grids, first: u32, last: u32) -> Found
+pub fn lowest_free(book: &[u32], s: Settings, g: Grids, first: Session, last: Session) -> Found
     requires { ⌜ Good s (reading (now book)) ⌝ }
     requires { ⌜ g ≡ gridsOf s ⌝ }
-    requires { ⌜ first ≤ last ⌝ }
-    requires { ⌜ last < allSessions s ⌝ }
-    ensures { λ r. ⌜ r ≡ foundOf (lowestFree (stateOf (reading (now (book .entry)))) first last) ⌝ }
+    requires { ⌜ first .0 ≤ last .0 ⌝ }
+    requires { ⌜ last .0 < allSessions s ⌝ }
+    ensures { λ r. ⌜ r ≡ foundOf (lowestFree (stateOf (reading (now (book .entry)))) (first .0) (last .0)) ⌝ }
 {
     let rooms = s.rooms;
+    let from = first.0;
+    let to = last.0;
     let mut next: u32 = 0;
     'rooms: loop {
         if next == rooms {
@@ -43,8 +36,8 @@ pub fn lowest_free(book: &[u32], s: Settings, g: Grids, first: u32, last: u32) -
         }
         let room = next;
         next += 1;
-        for session in first..=last {
-            if taken(book, s, g, room, session) {
+        for slot in from..=to {
+            if cell(book, g.conf, slot, room) != 0 {
                 continue 'rooms;
             }
         }
@@ -53,15 +46,15 @@ pub fn lowest_free(book: &[u32], s: Settings, g: Grids, first: u32, last: u32) -
 }
 
 // The seats of the meeting's lunch, if it is in the dining room.
-fn seats_at(book: &[u32], s: Settings, g: Grids, date: u32, room: u32, meeting: u32) -> u32
+fn seats_at(book: &[u32], s: Settings, g: Grids, date: Date, room: u32, meeting: u32) -> u32
     requires { ⌜ Good s (reading (now book)) ⌝ }
     requires { ⌜ g ≡ gridsOf s ⌝ }
-    requires { ⌜ date < s .dates ⌝ }
+    requires { ⌜ date .0 < s .dates ⌝ }
     requires { ⌜ room < s .dining ⌝ }
     requires { ⌜ meeting < s .meetings ⌝ }
-    ensures { λ r. ⌜ Seats (stateOf (reading (now (book .entry)))) date room meeting r ⌝ }
+    ensures { λ r. ⌜ Seats (stateOf (reading (now (book .entry)))) (date .0) room meeting r ⌝ }
 {
-    let i = at(g.lunch, date, meeting);
+    let i = at(g.lunch, date.0, meeting);
     if book[i] != room + 1 {
         return 0;
     }
@@ -69,12 +62,12 @@ fn seats_at(book: &[u32], s: Settings, g: Grids, date: u32, room: u32, meeting: 
 }
 
 // The seats reserved in a dining room on a date.
-pub fn reserved(book: &[u32], s: Settings, g: Grids, date: u32, room: u32) -> u32
+pub fn reserved(book: &[u32], s: Settings, g: Grids, date: Date, room: u32) -> u32
     requires { ⌜ Good s (reading (now book)) ⌝ }
     requires { ⌜ g ≡ gridsOf s ⌝ }
-    requires { ⌜ date < s .dates ⌝ }
+    requires { ⌜ date .0 < s .dates ⌝ }
     requires { ⌜ room < s .dining ⌝ }
-    ensures { λ r. ⌜ r ≡ reservedIn (stateOf (reading (now (book .entry)))) date room ⌝ }
+    ensures { λ r. ⌜ r ≡ reservedIn (stateOf (reading (now (book .entry)))) (date .0) room ⌝ }
 {
     let meetings = s.meetings;
     let mut seats: u32 = 0;

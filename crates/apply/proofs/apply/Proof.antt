@@ -1,4 +1,4 @@
--- `apply` meets its contract: the writes of each kind leave the words of the machine's state.
+-- `apply`: the writes of each kind leave the words of the machine's state.
 -- Assumes nothing.
 use Prim.Native.Nat.{_+_, _/_}
 use mathlib.Core.Path.{refl, _∙_, ap}
@@ -11,12 +11,14 @@ use Rattle.model.specs.Kinds.{Kind.addStanding, Kind.endStanding, Kind.addAtten
 use Rattle.model.specs.Kinds.{Kind.addLunch, Kind.eraseLunch, Kind.eraseConfAndLunch}
 use Rattle.model.specs.Words.{leaves, hotelCells, standings, attendCells, confPairs, lunchTriples, rideCells}
 use Rattle.book.proofs.Regions.{group-lt}
-use Rattle.apply.specs.Stores.{full, empty, filled, swept, markedAll}
+use Rattle.book.specs.Lent.{reading}
+use Rattle.book.specs.Stores.{empty, swept}
+use Rattle.apply.specs.Stores.{full, filled, markedAll}
 use Rattle.apply.proofs.Columns.{write-addHotel, write-eraseHotel, write-addRide, write-eraseRide, write-addAttend, write-eraseAttend}
 use Rattle.apply.proofs.Columns.{write-addConf, write-addLunch, write-eraseLunch}
 use Rattle.apply.proofs.Erasures.{write-addLeave, write-endLeave, write-addStanding, write-endStanding, write-eraseConf}
 use Rattle.apply.proofs.Erasures.{write-eraseConfAndLunch}
-use Rattle.apply.proofs.Arms.{Known, laid, a-ok, b-ok, span, item, arm, unchanged}
+use Rattle.apply.proofs.Arms.{Known, laid, a-ok, b-ok, span, single, item, arm, unchanged}
 use borrow.Author.Needs.{needs}
 use Rattle.apply.proofs.apply.Statement.{statement}
 use Rattle.apply.proofs.apply.Tie as tie
@@ -25,7 +27,7 @@ turn-requires : tie.Need-turn-requires
 unfolding kindOf
 turn-requires c κs = let s = c .before .before .before in
     let a = s .args in
-    let w : Known (a .s) (a .book .now) (a .g) (a .r) addLeave
+    let w : Known (a .s) (reading (a .book .now)) (a .g) (a .r) addLeave
     = record { good = s .pre .0; grids = s .pre .1 .0; done = s .pre .1 .1; kind = ap kindOf (c .before .match .keys1) } in (
       span w leaves (λ g. g .leave) refl refl,
       item w leaves (λ g. g .leave) refl (a .r .b / 32)
@@ -36,7 +38,7 @@ turn-requires-2 : tie.Need-turn-requires-2
 unfolding kindOf
 turn-requires-2 c κs = let s = c .before .before .before in
     let a = s .args in
-    let w : Known (a .s) (a .book .now) (a .g) (a .r) endLeave
+    let w : Known (a .s) (reading (a .book .now)) (a .g) (a .r) endLeave
     = record { good = s .pre .0; grids = s .pre .1 .0; done = s .pre .1 .1; kind = ap kindOf (c .before .match .keys2) } in (
       span w leaves (λ g. g .leave) refl refl,
       item w leaves (λ g. g .leave) refl (a .r .b / 32)
@@ -50,7 +52,7 @@ add-requires : tie.Need-add-requires
 unfolding kindOf
 add-requires c κs = let s = c .before .before .before in
     let a = s .args in
-    let w : Known (a .s) (a .book .now) (a .g) (a .r) addHotel
+    let w : Known (a .s) (reading (a .book .now)) (a .g) (a .r) addHotel
     = record { good = s .pre .0; grids = s .pre .1 .0; done = s .pre .1 .1; kind = ap kindOf (c .before .match .keys4) } in (
       span w hotelCells (λ g. g .hotel) refl refl,
       (item w hotelCells (λ g. g .hotel) refl (a .r .a) (a-ok w (a .s .hotels) refl), omega (arith, laid w .ranges .visitors, b-ok w (a .s .visitors) refl)),
@@ -60,7 +62,7 @@ take-requires : tie.Need-take-requires
 unfolding kindOf
 take-requires c κs = let s = c .before .before .before in
     let a = s .args in
-    let w : Known (a .s) (a .book .now) (a .g) (a .r) eraseHotel
+    let w : Known (a .s) (reading (a .book .now)) (a .g) (a .r) eraseHotel
     = record { good = s .pre .0; grids = s .pre .1 .0; done = s .pre .1 .1; kind = ap kindOf (c .before .match .keys5) } in
     (span w hotelCells (λ g. g .hotel) refl refl, item w hotelCells (λ g. g .hotel) refl (a .r .a) (a-ok w (a .s .hotels) refl))
 
@@ -68,7 +70,7 @@ add-requires-2 : tie.Need-add-requires-2
 unfolding kindOf
 add-requires-2 c κs = let s = c .before .before .before in
     let a = s .args in
-    let w : Known (a .s) (a .book .now) (a .g) (a .r) addRide
+    let w : Known (a .s) (reading (a .book .now)) (a .g) (a .r) addRide
     = record { good = s .pre .0; grids = s .pre .1 .0; done = s .pre .1 .1; kind = ap kindOf (c .before .match .keys6) } in (
       span w rideCells (λ g. g .ride) refl refl,
       (item w rideCells (λ g. g .ride) refl (a .r .a) (a-ok w (a .s .transports) refl), omega (arith, laid w .ranges .visitors, b-ok w (a .s .visitors) refl)),
@@ -78,7 +80,7 @@ take-requires-2 : tie.Need-take-requires-2
 unfolding kindOf
 take-requires-2 c κs = let s = c .before .before .before in
     let a = s .args in
-    let w : Known (a .s) (a .book .now) (a .g) (a .r) eraseRide
+    let w : Known (a .s) (reading (a .book .now)) (a .g) (a .r) eraseRide
     = record { good = s .pre .0; grids = s .pre .1 .0; done = s .pre .1 .1; kind = ap kindOf (c .before .match .keys7) } in
     (span w rideCells (λ g. g .ride) refl refl, item w rideCells (λ g. g .ride) refl (a .r .a) (a-ok w (a .s .transports) refl))
 
@@ -86,7 +88,7 @@ turn-requires-3 : tie.Need-turn-requires-3
 unfolding kindOf
 turn-requires-3 c κs = let s = c .before .before .before in
     let a = s .args in
-    let w : Known (a .s) (a .book .now) (a .g) (a .r) addStanding
+    let w : Known (a .s) (reading (a .book .now)) (a .g) (a .r) addStanding
     = record { good = s .pre .0; grids = s .pre .1 .0; done = s .pre .1 .1; kind = ap kindOf (c .before .match .keys8) } in (
       span w standings (λ g. g .standing) refl refl,
       item w standings (λ g. g .standing) refl (a .r .a / 32)
@@ -97,11 +99,11 @@ end-standing-requires : tie.Need-end-standing-requires
 unfolding kindOf
 end-standing-requires c κs = let s = c .before .before .before in
     let a = s .args in
-    let w : Known (a .s) (a .book .now) (a .g) (a .r) endStanding
+    let w : Known (a .s) (reading (a .book .now)) (a .g) (a .r) endStanding
     = record { good = s .pre .0; grids = s .pre .1 .0; done = s .pre .1 .1; kind = ap kindOf (c .before .match .keys9) } in (
       span w standings (λ g. g .standing) refl refl,
       (
-        span w attendCells (λ g. g .attend) refl refl,
+        single w attendCells (λ g. g .attend) refl refl refl,
         (
           item w standings (λ g. g .standing) refl (a .r .a / 32) (group-lt (a .s .meetings) (a .r .a) (a-ok w (a .s .meetings) refl)),
           omega
@@ -114,7 +116,7 @@ add-requires-3 : tie.Need-add-requires-3
 unfolding kindOf
 add-requires-3 c κs = let s = c .before .before .before in
     let a = s .args in
-    let w : Known (a .s) (a .book .now) (a .g) (a .r) addAttend
+    let w : Known (a .s) (reading (a .book .now)) (a .g) (a .r) addAttend
     = record { good = s .pre .0; grids = s .pre .1 .0; done = s .pre .1 .1; kind = ap kindOf (c .before .match .keys10) } in (
       span w attendCells (λ g. g .attend) refl refl,
       (item w attendCells (λ g. g .attend) refl (a .r .b) (b-ok w (a .s .visitors) refl), omega (arith, laid w .ranges .meetings, a-ok w (a .s .meetings) refl)),
@@ -124,7 +126,7 @@ take-requires-3 : tie.Need-take-requires-3
 unfolding kindOf
 take-requires-3 c κs = let s = c .before .before .before in
     let a = s .args in
-    let w : Known (a .s) (a .book .now) (a .g) (a .r) eraseAttend
+    let w : Known (a .s) (reading (a .book .now)) (a .g) (a .r) eraseAttend
     = record { good = s .pre .0; grids = s .pre .1 .0; done = s .pre .1 .1; kind = ap kindOf (c .before .match .keys11) } in
     (span w attendCells (λ g. g .attend) refl refl, item w attendCells (λ g. g .attend) refl (a .r .b) (b-ok w (a .s .visitors) refl))
 
@@ -132,7 +134,7 @@ add-requires-4 : tie.Need-add-requires-4
 unfolding kindOf
 add-requires-4 c κs = let s = c .before .before .before in
     let a = s .args in
-    let w : Known (a .s) (a .book .now) (a .g) (a .r) addConf
+    let w : Known (a .s) (reading (a .book .now)) (a .g) (a .r) addConf
     = record { good = s .pre .0; grids = s .pre .1 .0; done = s .pre .1 .1; kind = ap kindOf (c .before .match .keys12) } in (
       span w confPairs (λ g. g .conf) refl refl,
       (item w confPairs (λ g. g .conf) refl (a .r .a) (a-ok w (a .s .rooms) refl), omega (arith, laid w .ranges .meetings, b-ok w (a .s .meetings) refl)),
@@ -142,7 +144,7 @@ drop-requires : tie.Need-drop-requires
 unfolding kindOf
 drop-requires c κs = let s = c .before .before .before in
     let a = s .args in
-    let w : Known (a .s) (a .book .now) (a .g) (a .r) eraseConf
+    let w : Known (a .s) (reading (a .book .now)) (a .g) (a .r) eraseConf
     = record { good = s .pre .0; grids = s .pre .1 .0; done = s .pre .1 .1; kind = ap kindOf (c .before .match .keys13) } in
     (span w confPairs (λ g. g .conf) refl refl, omega (arith, laid w .ranges .meetings, b-ok w (a .s .meetings) refl))
 
@@ -150,7 +152,7 @@ add-requires-5 : tie.Need-add-requires-5
 unfolding kindOf
 add-requires-5 c κs = let s = c .before .before .before in
     let a = s .args in
-    let w : Known (a .s) (a .book .now) (a .g) (a .r) addLunch
+    let w : Known (a .s) (reading (a .book .now)) (a .g) (a .r) addLunch
     = record { good = s .pre .0; grids = s .pre .1 .0; done = s .pre .1 .1; kind = ap kindOf (c .before .match .keys14) } in (
       span w lunchTriples (λ g. g .lunch) refl refl,
       (item w lunchTriples (λ g. g .lunch) refl (a .r .b) (b-ok w (a .s .meetings) refl), omega (arith, laid w .ranges .dining, a-ok w (a .s .dining) refl)),
@@ -160,7 +162,7 @@ take-requires-4 : tie.Need-take-requires-4
 unfolding kindOf
 take-requires-4 c κs = let s = c .before .before .before in
     let a = s .args in
-    let w : Known (a .s) (a .book .now) (a .g) (a .r) eraseLunch
+    let w : Known (a .s) (reading (a .book .now)) (a .g) (a .r) eraseLunch
     = record { good = s .pre .0; grids = s .pre .1 .0; done = s .pre .1 .1; kind = ap kindOf (c .before .match .keys15) } in
     (span w lunchTriples (λ g. g .lunch) refl refl, item w lunchTriples (λ g. g .lunch) refl (a .r .b) (b-ok w (a .s .meetings) refl))
 
@@ -168,7 +170,7 @@ erase-conf-and-lunch-requires : tie.Need-erase-conf-and-lunch-requires
 unfolding kindOf
 erase-conf-and-lunch-requires c κs = let s = c .before .before .before in
     let a = s .args in
-    let w : Known (a .s) (a .book .now) (a .g) (a .r) eraseConfAndLunch
+    let w : Known (a .s) (reading (a .book .now)) (a .g) (a .r) eraseConfAndLunch
     = record { good = s .pre .0; grids = s .pre .1 .0; done = s .pre .1 .1; kind = ap kindOf (c .before .match .keys16) } in
     (laid w, (s .pre .1 .0, ((span w confPairs (λ g. g .conf) refl refl) .slot, b-ok w (a .s .meetings) refl)))
 
@@ -179,11 +181,11 @@ returns : tie.Need-returns
 unfolding kindOf
 returns c = let s = c .before .before .before .before .before .before in
     let a = s .args in
-    let w : Known (a .s) (a .book .now) (a .g) (a .r) addLeave
+    let w : Known (a .s) (reading (a .book .now)) (a .g) (a .r) addLeave
     = record { good = s .pre .0; grids = s .pre .1 .0; done = s .pre .1 .1; kind = ap kindOf (c .before .before .before .before .match .keys1) } in
-    c .before .before .turn .ensures
-    ∙ arm w (λ S g. markedAll (g .leave) true (a .r .b) (a .r .first) (a .r .last + 1) (a .book .now))
-    (λ x _ z l y. write-addLeave x z (a .r) (a .book .now) l y)
+    c .before .before .turn .ensures .is
+    ∙ arm w (λ S g. markedAll (g .leave) true (a .r .b) (a .r .first) (a .r .last + 1) (reading (a .book .now)))
+    (λ x _ z l y. write-addLeave x z (a .r) (reading (a .book .now)) l y)
 
 same-length-2 : tie.Need-same-length-2
 same-length-2 c = search needs
@@ -192,11 +194,11 @@ returns-2 : tie.Need-returns-2
 unfolding kindOf
 returns-2 c = let s = c .before .before .before .before .before .before in
     let a = s .args in
-    let w : Known (a .s) (a .book .now) (a .g) (a .r) endLeave
+    let w : Known (a .s) (reading (a .book .now)) (a .g) (a .r) endLeave
     = record { good = s .pre .0; grids = s .pre .1 .0; done = s .pre .1 .1; kind = ap kindOf (c .before .before .before .before .match .keys2) } in
-    c .before .before .turn2 .ensures
-    ∙ arm w (λ S g. markedAll (g .leave) false (a .r .b) (a .r .first) (a .r .last + 1) (a .book .now))
-    (λ x _ z l y. write-endLeave x z (a .r) (a .book .now) l y)
+    c .before .before .turn2 .ensures .is
+    ∙ arm w (λ S g. markedAll (g .leave) false (a .r .b) (a .r .first) (a .r .last + 1) (reading (a .book .now)))
+    (λ x _ z l y. write-endLeave x z (a .r) (reading (a .book .now)) l y)
 
 same-length-3 : tie.Need-same-length-3
 same-length-3 c = search needs
@@ -211,11 +213,11 @@ returns-4 : tie.Need-returns-4
 unfolding kindOf
 returns-4 c = let s = c .before .before .before .before .before .before in
     let a = s .args in
-    let w : Known (a .s) (a .book .now) (a .g) (a .r) addHotel
+    let w : Known (a .s) (reading (a .book .now)) (a .g) (a .r) addHotel
     = record { good = s .pre .0; grids = s .pre .1 .0; done = s .pre .1 .1; kind = ap kindOf (c .before .before .before .before .match .keys4) } in
-    c .before .before .add .ensures
-    ∙ arm w (λ S g. filled (g .hotel) (a .r .a) (full (a .r .b) 0 0) (a .r .first) (a .r .last + 1) (a .book .now))
-    (λ x _ z l y. write-addHotel x z (a .r) (a .book .now) l y)
+    c .before .before .add .ensures .is
+    ∙ arm w (λ S g. filled (g .hotel) (a .r .a) (full (a .r .b) 0 0) (a .r .first) (a .r .last + 1) (reading (a .book .now)))
+    (λ x _ z l y. write-addHotel x z (a .r) (reading (a .book .now)) l y)
 
 same-length-5 : tie.Need-same-length-5
 same-length-5 c = search needs
@@ -224,11 +226,11 @@ returns-5 : tie.Need-returns-5
 unfolding kindOf
 returns-5 c = let s = c .before .before .before .before .before .before in
     let a = s .args in
-    let w : Known (a .s) (a .book .now) (a .g) (a .r) eraseHotel
+    let w : Known (a .s) (reading (a .book .now)) (a .g) (a .r) eraseHotel
     = record { good = s .pre .0; grids = s .pre .1 .0; done = s .pre .1 .1; kind = ap kindOf (c .before .before .before .before .match .keys5) } in
-    c .before .before .take .ensures
-    ∙ arm w (λ S g. filled (g .hotel) (a .r .a) empty (a .r .first) (a .r .last + 1) (a .book .now))
-    (λ x _ z l y. write-eraseHotel x z (a .r) (a .book .now) l y)
+    c .before .before .take .ensures .is
+    ∙ arm w (λ S g. filled (g .hotel) (a .r .a) empty (a .r .first) (a .r .last + 1) (reading (a .book .now)))
+    (λ x _ z l y. write-eraseHotel x z (a .r) (reading (a .book .now)) l y)
 
 same-length-6 : tie.Need-same-length-6
 same-length-6 c = search needs
@@ -237,11 +239,11 @@ returns-6 : tie.Need-returns-6
 unfolding kindOf
 returns-6 c = let s = c .before .before .before .before .before .before in
     let a = s .args in
-    let w : Known (a .s) (a .book .now) (a .g) (a .r) addRide
+    let w : Known (a .s) (reading (a .book .now)) (a .g) (a .r) addRide
     = record { good = s .pre .0; grids = s .pre .1 .0; done = s .pre .1 .1; kind = ap kindOf (c .before .before .before .before .match .keys6) } in
-    c .before .before .add2 .ensures
-    ∙ arm w (λ S g. filled (g .ride) (a .r .a) (full (a .r .b) 0 0) (a .r .first) (a .r .last + 1) (a .book .now))
-    (λ x _ z l y. write-addRide x z (a .r) (a .book .now) l y)
+    c .before .before .add2 .ensures .is
+    ∙ arm w (λ S g. filled (g .ride) (a .r .a) (full (a .r .b) 0 0) (a .r .first) (a .r .last + 1) (reading (a .book .now)))
+    (λ x _ z l y. write-addRide x z (a .r) (reading (a .book .now)) l y)
 
 same-length-7 : tie.Need-same-length-7
 same-length-7 c = search needs
@@ -250,11 +252,11 @@ returns-7 : tie.Need-returns-7
 unfolding kindOf
 returns-7 c = let s = c .before .before .before .before .before .before in
     let a = s .args in
-    let w : Known (a .s) (a .book .now) (a .g) (a .r) eraseRide
+    let w : Known (a .s) (reading (a .book .now)) (a .g) (a .r) eraseRide
     = record { good = s .pre .0; grids = s .pre .1 .0; done = s .pre .1 .1; kind = ap kindOf (c .before .before .before .before .match .keys7) } in
-    c .before .before .take2 .ensures
-    ∙ arm w (λ S g. filled (g .ride) (a .r .a) empty (a .r .first) (a .r .last + 1) (a .book .now))
-    (λ x _ z l y. write-eraseRide x z (a .r) (a .book .now) l y)
+    c .before .before .take2 .ensures .is
+    ∙ arm w (λ S g. filled (g .ride) (a .r .a) empty (a .r .first) (a .r .last + 1) (reading (a .book .now)))
+    (λ x _ z l y. write-eraseRide x z (a .r) (reading (a .book .now)) l y)
 
 same-length-8 : tie.Need-same-length-8
 same-length-8 c = search needs
@@ -263,11 +265,11 @@ returns-8 : tie.Need-returns-8
 unfolding kindOf
 returns-8 c = let s = c .before .before .before .before .before .before in
     let a = s .args in
-    let w : Known (a .s) (a .book .now) (a .g) (a .r) addStanding
+    let w : Known (a .s) (reading (a .book .now)) (a .g) (a .r) addStanding
     = record { good = s .pre .0; grids = s .pre .1 .0; done = s .pre .1 .1; kind = ap kindOf (c .before .before .before .before .match .keys8) } in
-    c .before .before .turn3 .ensures
-    ∙ arm w (λ S g. markedAll (g .standing) true (a .r .a) (a .r .first) (a .r .last + 1) (a .book .now))
-    (λ x _ z l y. write-addStanding x z (a .r) (a .book .now) l y)
+    c .before .before .turn3 .ensures .is
+    ∙ arm w (λ S g. markedAll (g .standing) true (a .r .a) (a .r .first) (a .r .last + 1) (reading (a .book .now)))
+    (λ x _ z l y. write-addStanding x z (a .r) (reading (a .book .now)) l y)
 
 same-length-9 : tie.Need-same-length-9
 same-length-9 c = search needs
@@ -276,12 +278,12 @@ returns-9 : tie.Need-returns-9
 unfolding kindOf
 returns-9 c = let s = c .before .before .before .before .before .before in
     let a = s .args in
-    let w : Known (a .s) (a .book .now) (a .g) (a .r) endStanding
+    let w : Known (a .s) (reading (a .book .now)) (a .g) (a .r) endStanding
     = record { good = s .pre .0; grids = s .pre .1 .0; done = s .pre .1 .1; kind = ap kindOf (c .before .before .before .before .match .keys9) } in
-    c .before .before .end-standing .ensures
+    c .before .before .end-standing .ensures .is
     ∙ arm w (λ S g. swept (g .attend) (a .r .a + 1) (a .r .first) (a .r .last + 1)
-    (markedAll (g .standing) false (a .r .a) (a .r .first) (a .r .last + 1) (a .book .now)))
-    (λ x _ z l y. write-endStanding x z (a .r) (a .book .now) l y)
+    (markedAll (g .standing) false (a .r .a) (a .r .first) (a .r .last + 1) (reading (a .book .now))))
+    (λ x _ z l y. write-endStanding x z (a .r) (reading (a .book .now)) l y)
 
 same-length-10 : tie.Need-same-length-10
 same-length-10 c = search needs
@@ -290,11 +292,11 @@ returns-10 : tie.Need-returns-10
 unfolding kindOf
 returns-10 c = let s = c .before .before .before .before .before .before in
     let a = s .args in
-    let w : Known (a .s) (a .book .now) (a .g) (a .r) addAttend
+    let w : Known (a .s) (reading (a .book .now)) (a .g) (a .r) addAttend
     = record { good = s .pre .0; grids = s .pre .1 .0; done = s .pre .1 .1; kind = ap kindOf (c .before .before .before .before .match .keys10) } in
-    c .before .before .add3 .ensures
-    ∙ arm w (λ S g. filled (g .attend) (a .r .b) (full (a .r .a) 0 0) (a .r .first) (a .r .last + 1) (a .book .now))
-    (λ x _ z l y. write-addAttend x z (a .r) (a .book .now) l y)
+    c .before .before .add3 .ensures .is
+    ∙ arm w (λ S g. filled (g .attend) (a .r .b) (full (a .r .a) 0 0) (a .r .first) (a .r .last + 1) (reading (a .book .now)))
+    (λ x _ z l y. write-addAttend x z (a .r) (reading (a .book .now)) l y)
 
 same-length-11 : tie.Need-same-length-11
 same-length-11 c = search needs
@@ -303,11 +305,11 @@ returns-11 : tie.Need-returns-11
 unfolding kindOf
 returns-11 c = let s = c .before .before .before .before .before .before in
     let a = s .args in
-    let w : Known (a .s) (a .book .now) (a .g) (a .r) eraseAttend
+    let w : Known (a .s) (reading (a .book .now)) (a .g) (a .r) eraseAttend
     = record { good = s .pre .0; grids = s .pre .1 .0; done = s .pre .1 .1; kind = ap kindOf (c .before .before .before .before .match .keys11) } in
-    c .before .before .take3 .ensures
-    ∙ arm w (λ S g. filled (g .attend) (a .r .b) empty (a .r .first) (a .r .last + 1) (a .book .now))
-    (λ x _ z l y. write-eraseAttend x z (a .r) (a .book .now) l y)
+    c .before .before .take3 .ensures .is
+    ∙ arm w (λ S g. filled (g .attend) (a .r .b) empty (a .r .first) (a .r .last + 1) (reading (a .book .now)))
+    (λ x _ z l y. write-eraseAttend x z (a .r) (reading (a .book .now)) l y)
 
 same-length-12 : tie.Need-same-length-12
 same-length-12 c = search needs
@@ -316,11 +318,11 @@ returns-12 : tie.Need-returns-12
 unfolding kindOf
 returns-12 c = let s = c .before .before .before .before .before .before in
     let a = s .args in
-    let w : Known (a .s) (a .book .now) (a .g) (a .r) addConf
+    let w : Known (a .s) (reading (a .book .now)) (a .g) (a .r) addConf
     = record { good = s .pre .0; grids = s .pre .1 .0; done = s .pre .1 .1; kind = ap kindOf (c .before .before .before .before .match .keys12) } in
-    c .before .before .add4 .ensures
-    ∙ arm w (λ S g. filled (g .conf) (a .r .a) (full (a .r .b) (a .r .info) 0) (a .r .first) (a .r .last + 1) (a .book .now))
-    (λ x _ z l y. write-addConf x z (a .r) (a .book .now) l y)
+    c .before .before .add4 .ensures .is
+    ∙ arm w (λ S g. filled (g .conf) (a .r .a) (full (a .r .b) (a .r .info) 0) (a .r .first) (a .r .last + 1) (reading (a .book .now)))
+    (λ x _ z l y. write-addConf x z (a .r) (reading (a .book .now)) l y)
 
 same-length-13 : tie.Need-same-length-13
 same-length-13 c = search needs
@@ -329,11 +331,11 @@ returns-13 : tie.Need-returns-13
 unfolding kindOf
 returns-13 c = let s = c .before .before .before .before .before .before in
     let a = s .args in
-    let w : Known (a .s) (a .book .now) (a .g) (a .r) eraseConf
+    let w : Known (a .s) (reading (a .book .now)) (a .g) (a .r) eraseConf
     = record { good = s .pre .0; grids = s .pre .1 .0; done = s .pre .1 .1; kind = ap kindOf (c .before .before .before .before .match .keys13) } in
-    c .before .before .drop .ensures
-    ∙ arm w (λ S g. swept (g .conf) (a .r .b + 1) (a .r .first) (a .r .last + 1) (a .book .now))
-    (λ x _ z l y. write-eraseConf x z (a .r) (a .book .now) l y)
+    c .before .before .drop .ensures .is
+    ∙ arm w (λ S g. swept (g .conf) (a .r .b + 1) (a .r .first) (a .r .last + 1) (reading (a .book .now)))
+    (λ x _ z l y. write-eraseConf x z (a .r) (reading (a .book .now)) l y)
 
 same-length-14 : tie.Need-same-length-14
 same-length-14 c = search needs
@@ -342,11 +344,11 @@ returns-14 : tie.Need-returns-14
 unfolding kindOf
 returns-14 c = let s = c .before .before .before .before .before .before in
     let a = s .args in
-    let w : Known (a .s) (a .book .now) (a .g) (a .r) addLunch
+    let w : Known (a .s) (reading (a .book .now)) (a .g) (a .r) addLunch
     = record { good = s .pre .0; grids = s .pre .1 .0; done = s .pre .1 .1; kind = ap kindOf (c .before .before .before .before .match .keys14) } in
-    c .before .before .add5 .ensures
-    ∙ arm w (λ S g. filled (g .lunch) (a .r .b) (full (a .r .a) (a .r .n) (a .r .info)) (a .r .first) (a .r .last + 1) (a .book .now))
-    (λ x _ z l y. write-addLunch x z (a .r) (a .book .now) l y)
+    c .before .before .add5 .ensures .is
+    ∙ arm w (λ S g. filled (g .lunch) (a .r .b) (full (a .r .a) (a .r .n) (a .r .info)) (a .r .first) (a .r .last + 1) (reading (a .book .now)))
+    (λ x _ z l y. write-addLunch x z (a .r) (reading (a .book .now)) l y)
 
 same-length-15 : tie.Need-same-length-15
 same-length-15 c = search needs
@@ -355,11 +357,11 @@ returns-15 : tie.Need-returns-15
 unfolding kindOf
 returns-15 c = let s = c .before .before .before .before .before .before in
     let a = s .args in
-    let w : Known (a .s) (a .book .now) (a .g) (a .r) eraseLunch
+    let w : Known (a .s) (reading (a .book .now)) (a .g) (a .r) eraseLunch
     = record { good = s .pre .0; grids = s .pre .1 .0; done = s .pre .1 .1; kind = ap kindOf (c .before .before .before .before .match .keys15) } in
-    c .before .before .take4 .ensures
-    ∙ arm w (λ S g. filled (g .lunch) (a .r .b) empty (a .r .first) (a .r .last + 1) (a .book .now))
-    (λ x _ z l y. write-eraseLunch x z (a .r) (a .book .now) l y)
+    c .before .before .take4 .ensures .is
+    ∙ arm w (λ S g. filled (g .lunch) (a .r .b) empty (a .r .first) (a .r .last + 1) (reading (a .book .now)))
+    (λ x _ z l y. write-eraseLunch x z (a .r) (reading (a .book .now)) l y)
 
 same-length-16 : tie.Need-same-length-16
 same-length-16 c = search needs
@@ -368,17 +370,17 @@ returns-16 : tie.Need-returns-16
 unfolding kindOf
 returns-16 c = let s = c .before .before .before .before .before .before in
     let a = s .args in
-    let w : Known (a .s) (a .book .now) (a .g) (a .r) eraseConfAndLunch
+    let w : Known (a .s) (reading (a .book .now)) (a .g) (a .r) eraseConfAndLunch
     = record { good = s .pre .0; grids = s .pre .1 .0; done = s .pre .1 .1; kind = ap kindOf (c .before .before .before .before .match .keys16) } in
-    c .before .before .erase-conf-and-lunch .ensures
+    c .before .before .erase-conf-and-lunch .ensures .is
     ∙ arm w (λ S g. filled (g .lunch) (a .r .b) empty (dateOfSession S (a .r .first)) (dateOfSession S (a .r .last) + 1)
-    (swept (g .conf) (a .r .b + 1) (a .r .first) (a .r .last + 1) (a .book .now)))
-    (λ x _ z l y. write-eraseConfAndLunch x z (a .r) (a .book .now) l y)
+    (swept (g .conf) (a .r .b + 1) (a .r .first) (a .r .last + 1) (reading (a .book .now))))
+    (λ x _ z l y. write-eraseConfAndLunch x z (a .r) (reading (a .book .now)) l y)
 
 returns-17 : tie.Need-returns-17
 returns-17 c = let s = c .before .before in
     let n = c .match .rest in
-    unchanged (s .args .s) (s .args .book .now) (s .pre .0) (s .args .r) (n .0 .0 .0 .0 .0 .0 .0 .0 .0 .0 .0 .0 .0 .0 .0 .1)
+    unchanged (s .args .s) (reading (s .args .book .now)) (s .pre .0) (s .args .r) (n .0 .0 .0 .0 .0 .0 .0 .0 .0 .0 .0 .0 .0 .0 .0 .1)
     (n .0 .0 .0 .0 .0 .0 .0 .0 .0 .0 .0 .0 .0 .0 .1)
     (n .0 .0 .0 .0 .0 .0 .0 .0 .0 .0 .0 .0 .0 .1) (n .0 .0 .0 .0 .0 .0 .0 .0 .0 .0 .0 .0 .1) (n .0 .0 .0 .0 .0 .0 .0 .0 .0 .0 .0 .1)
     (n .0 .0 .0 .0 .0 .0 .0 .0 .0 .0 .1) (n .0 .0 .0 .0 .0 .0 .0 .0 .0 .1) (n .0 .0 .0 .0 .0 .0 .0 .0 .1) (n .0 .0 .0 .0 .0 .0 .0 .1)

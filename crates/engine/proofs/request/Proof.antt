@@ -2,6 +2,7 @@
 -- Assumes nothing.
 use mathlib.Core.Path.{sym, _∙_}
 use borrow.Author.Needs.{needs}
+use Rattle.book.specs.Lent.{reading}
 use Rattle.engine.proofs.Kept.{good-call}
 use Rattle.checking.proofs.Verdicts.{done-good}
 use Rattle.engine.proofs.Whole.{request-refused, with-removal}
@@ -30,6 +31,7 @@ settings-requires : tie.Need-settings-requires
 settings-requires c κs = search needs
 
 step-requires : tie.Need-step-requires
+unfolding reading
 step-requires c κs =
     let a = c .before .before .before .before .before .before .before .before .args in
     rw (c .before .settings .ensures) (done-good (a .book .now) _ (sym (c .before .before .before .before .before .check .ensures) ∙ c .before .before .before .enum-told .given .1))
@@ -38,6 +40,7 @@ same-length-2 : tie.Need-same-length-2
 same-length-2 c = search needs
 
 returns-2 : tie.Need-returns-2
+unfolding reading
 returns-2 c =
     let a = c .before .before .before .before .before .before .before .before .before .before .before .args in
     with-removal (a .book .now) (a .r) _ _

@@ -1,18 +1,20 @@
--- `sets::erase_conf_and_lunch` meets its contract: the rows of the sessions, and then the column of the dates.
+-- `sets::erase_conf_and_lunch`: the rows of the sessions, and then the column of the dates.
 -- Assumes nothing.
-use mathlib.Core.Path.{_≡_, refl, _∙_, ap, subst}
+use mathlib.Core.Path.{_≡_, _∙_, ap, subst}
 use Prim.Native.Nat.{ℕ, _+_, _<_}
 use native.Mathlib.Omega.{arith}
-use lib.ListN.{length}
 use Rattle.model.specs.declared.Settings.{Settings}
 use Rattle.model.specs.Site.{dateOfSession}
+use Rattle.model.specs.Words.{confPairs, lunchTriples, slots}
 use Rattle.book.specs.declared.grid.Grid.{Grid}
 use Rattle.book.specs.declared.grid.Grids.{Grids}
-use Rattle.model.specs.Words.{confPairs, lunchTriples, slots}
 use Rattle.book.specs.declared.units.Slot.the-variants.{Sessions}
 use Rattle.book.specs.Grids.{gridOf}
+use Rattle.book.specs.Lent.{reading}
+use Rattle.book.specs.Stores.{empty, swept}
 use Rattle.book.proofs.Regions.{date-lt}
-use Rattle.apply.specs.Stores.{empty, filled}
+use Rattle.book.proofs.Turns.{wrote-then}
+use Rattle.apply.specs.Stores.{filled}
 use Rattle.apply.proofs.Arms.{span-of, item-of}
 use borrow.Author.Needs.{needs}
 use Rattle.apply.proofs.sets.erase_conf_and_lunch.Statement.{statement}
@@ -23,10 +25,11 @@ last-of : (S : Settings) (h : Grid) → h ≡ gridOf S confPairs → (last : ℕ
 last-of S h e last q = subst (λ (h : Grid). last < h .slots) e q
 
 drop-requires : tie.Need-drop-requires
-drop-requires c κs = let s = c .before .before in
+drop-requires c κs =
+    let s = c .before .before in
     let a = s .args in
     let e = ap (λ (g : Grids). g .conf) (s .pre .1 .0) in (
-      span-of (a .s) (a .book .now) (s .pre .0) confPairs (a .g .conf) e (length (a .book .now)) (a .last) refl
+      span-of (a .s) (reading (a .book .now)) (s .pre .0) confPairs (a .g .conf) e (reading (a .book .now)) (λ f l. l) (a .last)
           (last-of (a .s) (a .g .conf) e (a .last) (s .pre .1 .1 .0)),
       omega (arith, s .pre .0 .ranges .meetings, s .pre .1 .1 .1),
     )
@@ -38,11 +41,12 @@ date-of-session-requires-2 : tie.Need-date-of-session-requires-2
 date-of-session-requires-2 c κs = search needs
 
 take-requires : tie.Need-take-requires
-take-requires c κs = let s = c .before .before .before .before .before .before .before .before in
+take-requires c κs =
+    let s = c .before .before .before .before .before .before .before .before in
     let a = s .args in
     let e = ap (λ (g : Grids). g .lunch) (s .pre .1 .0) in
     let q = last-of (a .s) (a .g .conf) (ap (λ (g : Grids). g .conf) (s .pre .1 .0)) (a .last) (s .pre .1 .1 .0) in (
-      span-of (a .s) (a .book .now) (s .pre .0) lunchTriples (a .g .lunch) e _ _ (c .before .before .before .before .before .drop .kept .0)
+      span-of (a .s) (reading (a .book .now)) (s .pre .0) lunchTriples (a .g .lunch) e _ (c .before .before .before .before .before .drop .ensures .stays) _
           (omega (arith, c .before .date-of-session2 .ensures, date-lt (a .s) (s .pre .0 .ranges) Sessions (a .last) q)),
       item-of (a .s) lunchTriples (a .g .lunch) e (a .b) (s .pre .1 .1 .1),
     )
@@ -51,14 +55,16 @@ same-length : tie.Need-same-length
 same-length c = search needs
 
 returns : tie.Need-returns
-returns c = let a = c .before .before .before .before .before .before .before .before .before .before .before .args in
-    c .before .before .take .ensures
-    ∙ ap (λ (d : ℕ). filled (a .g .lunch) (a .b) empty d (c .before .before .before .before .date-of-session2 .result .0 + 1)
-    (c .before .before .before .before .before .before .before .before .drop .last .0)) (c .before .before .before .before .before .date-of-session .ensures)
-    ∙ ap (λ (d : ℕ). filled (a .g .lunch) (a .b) empty (dateOfSession (a .s) (a .first)) (d + 1)
-    (c .before .before .before .before .before .before .before .before .drop .last .0)) (c .before .before .before .before .date-of-session2 .ensures)
-    ∙ ap (filled (a .g .lunch) (a .b) empty (dateOfSession (a .s) (a .first)) (dateOfSession (a .s) (a .last) + 1))
-    (c .before .before .before .before .before .before .before .before .drop .ensures)
+returns c =
+    let a = c .before .before .before .before .before .before .before .before .before .before .before .args in
+    let w = wrote-then (c .before .before .before .before .before .before .before .before .drop .ensures) (c .before .before .take .ensures) in
+    let x = swept (a .g .conf) (a .b + 1) (a .first) (a .last + 1) (reading (a .book .now)) in
+    record {
+      is = w .is
+          ∙ ap (λ (d : ℕ). filled (a .g .lunch) (a .b) empty d (c .before .before .before .before .date-of-session2 .result .0 + 1) x) (c .before .before .before .before .before .date-of-session .ensures)
+          ∙ ap (λ (d : ℕ). filled (a .g .lunch) (a .b) empty (dateOfSession (a .s) (a .first)) (d + 1) x) (c .before .before .before .before .date-of-session2 .ensures);
+      stays = w .stays;
+    }
 
 pub erase-conf-and-lunch-spec : {M : Type 1} → statement M
 erase-conf-and-lunch-spec =

@@ -1,73 +1,87 @@
--- `sets::remove_visitor` meets its contract: the stores of its five parts, one after the other.
+-- `sets::remove_visitor`: the stores of its four parts, one after the other.
 -- Assumes nothing.
 use mathlib.Core.Bool.{false}
 use mathlib.Core.Path.{refl, _∙_, ap}
-use mathlib.Core.List.{List}
-use Prim.Native.Nat.{ℕ, _+_}
+use Prim.Native.Nat.{_+_}
 use native.Mathlib.Omega.{arith}
-use lib.ListN.{length}
-use Rattle.book.specs.declared.grid.Grids.{Grids}
 use Rattle.model.specs.Words.{leaves, hotelCells, rideCells, attendCells}
+use Rattle.book.specs.declared.grid.Grids.{Grids}
+use Rattle.book.specs.Lent.{reading}
+use Rattle.book.specs.Stores.{empty, swept}
 use Rattle.book.proofs.Regions.{group-lt}
-use Rattle.apply.specs.Stores.{empty, filled, swept, markedAll}
-use Rattle.apply.proofs.Arms.{span-of, item-of, Reach, reach-of}
+use Rattle.book.proofs.Turns.{wrote-then}
+use Rattle.apply.specs.Stores.{Single, filled, markedAll}
+use Rattle.apply.proofs.Arms.{span-of, single-of, item-of}
 use borrow.Author.Needs.{needs}
 use Rattle.apply.proofs.sets.remove_visitor.Statement.{statement}
 use Rattle.apply.proofs.sets.remove_visitor.Tie as tie
 
 turn-requires : tie.Need-turn-requires
-turn-requires c κs = let s = c .before .before in
+turn-requires c κs =
+    let s = c .before .before in
     let a = s .args in
     let e = ap (λ (g : Grids). g .leave) (s .pre .1 .0) in (
-      span-of (a .s) (a .book .now) (s .pre .0) leaves (a .g .leave) e (length (a .book .now)) (a .last) refl (s .pre .1 .1 .1 .0),
+      span-of (a .s) (reading (a .book .now)) (s .pre .0) leaves (a .g .leave) e (reading (a .book .now)) (λ f l. l) (a .last) (s .pre .1 .1 .1 .0),
       item-of (a .s) leaves (a .g .leave) e _ (group-lt (a .s .visitors) (a .v) (s .pre .1 .1 .1 .1)),
     )
 
-drop-requires : tie.Need-drop-requires
-drop-requires c κs = let s = c .before .before .before .before .before .before in
+add-sweep-run : tie.Need-add-sweep-run
+add-sweep-run c = search needs
+
+add-sweep-run-2 : tie.Need-add-sweep-run-2
+add-sweep-run-2 c = search needs
+
+sweep-run-requires : tie.Need-sweep-run-requires
+sweep-run-requires c κs =
+    let s = c .before .before .before .before .before .before .before in
     let a = s .args in
-    let e = ap (λ (g : Grids). g .hotel) (s .pre .1 .0) in (
-      span-of (a .s) (a .book .now) (s .pre .0) hotelCells (a .g .hotel) e _ (a .last) (c .before .before .before .turn .kept .0) (s .pre .1 .1 .1 .0),
-      omega (arith, s .pre .0 .ranges .visitors, s .pre .1 .1 .1 .1),
-    )
+    let q : Single (a .g .hotel) _ (a .last + 1)
+    = single-of (a .s) (reading (a .book .now)) (s .pre .0) hotelCells (a .g .hotel) (ap (λ (g : Grids). g .hotel) (s .pre .1 .0)) _
+    (c .before .before .before .before .turn .ensures .stays) refl (a .last + 1) (omega (arith, s .pre .1 .1 .1 .0)) in
+    (q .lies, (q .cells, q .most))
 
 slots-on-requires : tie.Need-slots-on-requires
-slots-on-requires c κs = let s = c .before .before .before .before .before .before .before .before .before in
-    (s .pre .0 .ranges, (ap (λ (g : Grids). g .ride .slots) (s .pre .1 .0), (s .pre .1 .1 .0, omega (arith, s .pre .0 .ranges .dates, s .pre .1 .1 .1 .0))))
+slots-on-requires c κs =
+    let p = c .before .before .before .before .before .before .before .before .before .before .pre in
+    (p .0 .ranges, (ap (λ (g : Grids). g .ride .slots) (p .1 .0), (p .1 .1 .0, omega (arith, p .0 .ranges .dates, p .1 .1 .1 .0))))
 
-add-sweep : tie.Need-add-sweep
-add-sweep c = search needs
+add-sweep-run-3 : tie.Need-add-sweep-run-3
+add-sweep-run-3 c = search needs
 
-sweep-requires : tie.Need-sweep-requires
-sweep-requires c κs = let s = c .before .before .before .before .before .before .before .before .before .before .before .before in
+sweep-run-requires-2 : tie.Need-sweep-run-requires-2
+sweep-run-requires-2 c κs =
+    let s = c .before .before .before .before .before .before .before .before .before .before .before .before .before in
     let a = s .args in
-    let q : Reach (a .g .ride) _ _ = reach-of (a .s) (a .book .now) (s .pre .0) rideCells (a .g .ride) (ap (λ (g : Grids). g .ride) (s .pre .1 .0)) _ _
-    (c .before .before .before .before .before .drop .kept .0 ∙ c .before .before .before .before .before .before .before .before .before .turn .kept .0)
-    (c .before .before .slots-on .ensures .ends .most) in
-    (q .fits, (q .narrow, (q .some, q .most)))
+    let q : Single (a .g .ride) _ _
+    = single-of (a .s) (reading (a .book .now)) (s .pre .0) rideCells (a .g .ride) (ap (λ (g : Grids). g .ride) (s .pre .1 .0)) _
+    (wrote-then (c .before .before .before .before .before .before .before .before .before .before .turn .ensures) (c .before .before .before .before .before .sweep-run .ensures) .stays) refl _ (c .before .before .slots-on .ensures .ends .most) in
+    (q .lies, (q .cells, q .most))
 
 slots-on-requires-2 : tie.Need-slots-on-requires-2
-slots-on-requires-2 c κs = let s = c .before .before .before .before .before .before .before .before .before .before .before .before .before .before .before in
-    (s .pre .0 .ranges, (ap (λ (g : Grids). g .attend .slots) (s .pre .1 .0), (s .pre .1 .1 .0, omega (arith, s .pre .0 .ranges .dates, s .pre .1 .1 .1 .0))))
+slots-on-requires-2 c κs =
+    let p = c .before .before .before .before .before .before .before .before .before .before .before .before .before .before .before .before .pre in
+    (p .0 .ranges, (ap (λ (g : Grids). g .attend .slots) (p .1 .0), (p .1 .1 .0, omega (arith, p .0 .ranges .dates, p .1 .1 .1 .0))))
 
 fill-requires : tie.Need-fill-requires
-fill-requires c κs = let s = c .before .before .before .before .before .before .before .before .before .before .before .before .before .before .before .before .before in
+fill-requires c κs =
+    let s = c .before .before .before .before .before .before .before .before .before .before .before .before .before .before .before .before .before .before in
     let a = s .args in
     let e = ap (λ (g : Grids). g .attend) (s .pre .1 .0) in
-    let q : Reach (a .g .attend) _ _ = reach-of (a .s) (a .book .now) (s .pre .0) attendCells (a .g .attend) e _ _
-    (c .before .before .before .before .sweep .kept .0 ∙ c .before .before .before .before .before .before .before .before .before .before .drop .kept .0
-    ∙ c .before .before .before .before .before .before .before .before .before .before .before .before .before .before .turn .kept .0)
-    (c .before .slots-on2 .ensures .ends .most) in
-    (q .fits, (q .narrow, (q .most, item-of (a .s) attendCells (a .g .attend) e (a .v) (s .pre .1 .1 .1 .1))))
+    let q : Single (a .g .attend) _ _
+    = single-of (a .s) (reading (a .book .now)) (s .pre .0) attendCells (a .g .attend) e _
+    (wrote-then (c .before .before .before .before .before .before .before .before .before .before .before .before .before .before .before .turn .ensures) (wrote-then (c .before .before .before .before .before .before .before .before .before .before .sweep-run .ensures) (c .before .before .before .before .sweep-run2 .ensures)) .stays) refl _ (c .before .slots-on2 .ensures .ends .most) in
+    (q .lies, (omega (arith, q .cells .0), (q .most, item-of (a .s) attendCells (a .g .attend) e (a .v) (s .pre .1 .1 .1 .1))))
 
 same-length : tie.Need-same-length
 same-length c = search needs
 
 returns : tie.Need-returns
-returns c = let s = c .before .before .before .before .before .before .before .before .before .before .before .before .before .before .before .before .before .before .before .before in
+returns c =
+    let s = c .before .before .before .before .before .before .before .before .before .before .before .before .before .before .before .before .before .before .before .before .before in
     let a = s .args in
     let t = c .before .before .before .before .before .before .before .before .before .before .slots-on in
     let u = c .before .before .before .before .slots-on2 in
+    let w = wrote-then (wrote-then (c .before .before .before .before .before .before .before .before .before .before .before .before .before .before .before .before .before .before .turn .ensures) (c .before .before .before .before .before .before .before .before .before .before .before .before .before .sweep-run .ensures)) (wrote-then (c .before .before .before .before .before .before .before .sweep-run2 .ensures) (c .before .before .fill .ensures)) in
     record {
       lo = t .result .from;
       hi = t .result .to;
@@ -75,18 +89,10 @@ returns c = let s = c .before .before .before .before .before .before .before .b
       to = u .result .to;
       times = t .ensures;
       sessions = u .ensures;
-      is = c .before .before .fill .ensures
-          ∙ ap (filled (a .g .attend) (a .v) empty (u .result .from) (u .result .to))
-          (c .before .before .before .before .before .before .before .sweep .ensures)
-          ∙ ap (λ (l : List ℕ). filled (a .g .attend) (a .v) empty (u .result .from) (u .result .to)
-          (swept (a .g .ride) (a .v + 1) (t .result .from) (t .result .to) l))
-          (c .before .before .before .before .before .before .before .before .before .before .before .before .before .drop .ensures)
-          ∙ ap (λ (l : List ℕ). filled (a .g .attend) (a .v) empty (u .result .from) (u .result .to)
-          (swept (a .g .ride) (a .v + 1) (t .result .from) (t .result .to) (swept (a .g .hotel) (a .v + 1) (a .first) (a .last + 1) l)))
-          (c .before .before .before .before .before .before .before .before .before .before .before .before .before .before .before .before .before .turn .ensures)
+      is = w .is
           ∙ ap (λ (g : Grids). filled (g .attend) (a .v) empty (u .result .from) (u .result .to)
           (swept (g .ride) (a .v + 1) (t .result .from) (t .result .to)
-          (swept (g .hotel) (a .v + 1) (a .first) (a .last + 1) (markedAll (g .leave) false (a .v) (a .first) (a .last + 1) (a .book .now))))) (s .pre .1 .0);
+          (swept (g .hotel) (a .v + 1) (a .first) (a .last + 1) (markedAll (g .leave) false (a .v) (a .first) (a .last + 1) (reading (a .book .now)))))) (s .pre .1 .0);
     }
 
 pub remove-visitor-spec : {M : Type 1} → statement M
@@ -94,10 +100,12 @@ remove-visitor-spec =
     tie.close
     (tie.spec
     turn-requires
-    drop-requires
+    add-sweep-run
+    add-sweep-run-2
+    sweep-run-requires
     slots-on-requires
-    add-sweep
-    sweep-requires
+    add-sweep-run-3
+    sweep-run-requires-2
     slots-on-requires-2
     fill-requires
     same-length

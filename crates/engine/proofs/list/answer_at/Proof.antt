@@ -3,6 +3,7 @@
 use Prim.Native.Nat.{_*_}
 use mathlib.Core.Path.{_∙_, ap}
 use borrow.Author.Needs.{needs}
+use Rattle.book.specs.Lent.{reading}
 use Rattle.model.specs.declared.Request.{Request}
 use Rattle.model.specs.declared.Answer.{Answer}
 use Rattle.model.specs.Machine.{step, answerWords}
@@ -16,6 +17,7 @@ request-at-requires : tie.Need-request-at-requires
 request-at-requires c κs = search needs
 
 step-requires : tie.Need-step-requires
+unfolding reading
 step-requires c κs = search needs
 
 put-answer-requires : tie.Need-put-answer-requires
@@ -28,6 +30,7 @@ same-length-2 : tie.Need-same-length-2
 same-length-2 c = search needs
 
 returns : tie.Need-returns
+unfolding reading
 returns c =
     let a = c .before .before .before .before .before .before .before .before .before .before .before .before .args in
     let e = c .before .before .before .before .before .before .step .ensures ∙ ap (λ (r : Request). called (step (stateOf (a .book .now)) r)) (c .before .before .before .before .before .before .before .before .request-at .ensures) in

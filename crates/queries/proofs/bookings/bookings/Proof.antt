@@ -1,4 +1,4 @@
--- `bookings::bookings` meets its contract: a visitor without leave has no entry, and else they are counted.
+-- A visitor without leave has no entry, and else they are counted.
 -- Assumes nothing.
 use mathlib.Core.Path.{sym}
 use borrow.Author.Tests.{not-true}
@@ -17,7 +17,7 @@ some-leave-requires c κs = let p = c .before .before .pre in (p .0, (c .grids-o
 returns : tie.Need-returns
 returns c =
     let s = c .before .before .before .before in
-    sym (bookings-none (s .pre .0) (s .args .visitor) (s .args .from) (s .args .to) (c .before .some-leave .ensures (not-true _ (c .if1 .taken))))
+    sym (bookings-none (s .pre .0) (s .args .visitor) (s .args .first .0) (s .args .last .0) (c .before .some-leave .ensures (not-true _ (c .if1 .taken))))
 
 entries-requires : tie.Need-entries-requires
 entries-requires c κs = let p = c .before .before .before .before .pre in (p .0, (c .before .before .grids-of .ensures, p .1))

@@ -1,77 +1,79 @@
--- `dates::first_without_session` meets its contract: the meeting stands on each date passed, and i is where the next one begins.
+-- The meeting stands on each date passed.
 -- Assumes nothing.
 use Rattle.book.specs.Lent.{reading}
 use Prim.Native.Nat.{ℕ, suc, _-_, _≤_, _<_}
-use mathlib.Core.Path.{_≡_, refl, sym, _∙_, ap}
+use mathlib.Core.Path.{_≡_, sym, _∙_, ap}
 use mathlib.Core.Bool.{true}
 use native.Mathlib.Omega.{arith}
 use borrow.Author.Tests.{not-true, not-false}
-use borrow.Author.Needs.{needs}
 use Rattle.model.specs.Questions.{standsOn}
 use Rattle.model.specs.Reading.{stateOf}
+use Rattle.model.specs.Words.{standings}
 use Rattle.model.proofs.Search.{failing-at, passed-more, none-failing}
-use Rattle.book.specs.declared.units.Slot.the-variants.{Sessions}
 use Rattle.book.specs.Founds.{foundOf}
-use Rattle.book.specs.Units.{Cut}
 use Rattle.book.proofs.Goods.{good-laid}
-use Rattle.queries.proofs.Free.{date-any}
+use Rattle.book.proofs.Regions.{lies, group-lt}
+use Rattle.queries.proofs.Free.{date-bits}
 use Rattle.queries.proofs.dates.first_without_session.Statement.{statement}
 use Rattle.queries.proofs.dates.first_without_session.Tie as tie
 
 abbrev Inv-loop : tie.InvT-loop
-Inv-loop book s g meeting first last sessions i₀ date₀ i date = (first ≤ date) × Cut s Sessions date i × ((d : ℕ) → first ≤ d → d < date → standsOn (stateOf (reading book)) d meeting ≡ true)
+Inv-loop book s g meeting last date₀ date = (date₀ .0 ≤ date .0) × ((d : ℕ) → date₀ .0 ≤ d → d < date .0 → standsOn (stateOf (reading book)) d meeting ≡ true)
 
 abbrev μ-loop : tie.MeasureT-loop
-μ-loop book s g meeting first last sessions i₀ date₀ i date = suc last - date
-
-first-on-requires : tie.Need-first-on-requires Inv-loop μ-loop
-first-on-requires c κs = let s = c .before in (good-laid (s .pre .0) .ranges, rw (s .pre .1 .0) refl)
+μ-loop book s g meeting last date₀ date = suc (last .0) - date .0
 
 loop-holds : tie.Need-loop-holds Inv-loop μ-loop
-loop-holds c = (omega arith, c .first-on .ensures, λ d l h. absurd (omega (arith, l, h)))
+loop-holds c = (omega arith, λ d l h. absurd (omega (arith, l, h)))
 
-add-next-on : tie.Need-add-next-on Inv-loop μ-loop
-add-next-on c = let s = c .before .before .before .before in omega (arith, good-laid (s .pre .0) .ranges .dates, s .pre .1 .1 .1, c .loop-test .taken)
+sessions-on-requires : tie.Need-sessions-on-requires Inv-loop μ-loop
+sessions-on-requires c κs =
+    let p = c .before .before .before .before .before .pre in
+    (good-laid (p .0) .ranges, (omega arith, omega (arith, p .1 .1 .1, c .if1 .taken)))
 
-next-on-requires : tie.Need-next-on-requires Inv-loop μ-loop
-next-on-requires c κs =
-    let s = c .before .before .before .before in
-    let i = c .before .loop .inv .1 in
-    (good-laid (s .pre .0) .ranges, (rw (s .pre .1 .0) refl, (rw (s .pre .1 .0) (i .most), λ k h. omega (arith, i .before k h))))
-
-stands-between-requires : tie.Need-stands-between-requires Inv-loop μ-loop
-stands-between-requires c κs = let p = c .before .before .before .before .before .pre in (p .0, (p .1 .0, (p .1 .1 .0, c .next-on .ensures .most)))
+member-between-requires : tie.Need-member-between-requires Inv-loop μ-loop
+member-between-requires c κs =
+    let s = c .before .before .before .before .before .before in
+    let l = good-laid (s .pre .0) in (
+      rw (s .pre .1 .0) (lies (s .args .s) (reading (s .args .book .now)) l standings),
+      (rw (s .pre .1 .0) (c .sessions-on .ensures .ends .most), rw (s .pre .1 .0) (group-lt (s .args .s .meetings) (s .args .meeting) (s .pre .1 .1 .0))),
+    )
 
 returns : tie.Need-returns Inv-loop μ-loop
 returns c =
-    let s = c .before .before .before .before .before .before .before in
-    let l = c .before .before .before .before .loop in
+    let s = c .before .before .before .before .before .before .before .before in
+    let l = c .before .before .before .before .before .before .loop in
+    let r = c .before .before .sessions-on .ensures in
+    let e = rw (s .pre .1 .0) at (c .before .member-between .ensures) in
     ap foundOf
-    (sym (failing-at _ _ _ (l .date) (l .inv .0) (c .before .before .before .loop-test .taken)
-    (sym (date-any (s .args .s) (reading (s .args .book .now)) (s .pre .0) (l .date) (s .args .meeting) _ _ (l .inv .1) (c .before .before .next-on .ensures))
-    ∙ sym (c .before .stands-between .ensures) ∙ not-true _ (c .if1 .taken)) (l .inv .2)))
+    (sym (failing-at _ _ _ (l .date .0) (l .inv .0) (c .before .before .before .if1 .taken)
+    (sym (date-bits (s .args .s) (reading (s .args .book .now)) (s .pre .0) (l .date .0) (s .args .meeting) _ _ (r .begins) (r .ends) (s .pre .1 .1 .0))
+    ∙ sym e ∙ not-true _ (c .if2 .taken)) (l .inv .1)))
 
-add-date : tie.Need-add-date Inv-loop μ-loop
-add-date c = let s = c .before .before .before .before .before .before .before in omega (arith, good-laid (s .pre .0) .ranges .dates, s .pre .1 .1 .1, c .before .before .before .loop-test .taken)
+after-requires : tie.Need-after-requires Inv-loop μ-loop
+after-requires c κs =
+    let p = c .before .before .before .before .before .before .before .before .pre in
+    omega (arith, p .1 .1 .1, good-laid (p .0) .ranges .dates, c .before .before .before .if1 .taken)
 
 loop-less : tie.Need-loop-less Inv-loop μ-loop
-loop-less c = search needs
+loop-less c = omega (arith, c .after .ensures, c .before .before .before .before .if1 .taken)
 
 loop-again : tie.Need-loop-again Inv-loop μ-loop
 loop-again c =
-    let s = c .before .before .before .before .before .before .before in
-    let l = c .before .before .before .before .loop in (
-      omega arith,
-      c .before .before .next-on .ensures,
-      passed-more _ _ _ (l .inv .2)
-          (sym (date-any (s .args .s) (reading (s .args .book .now)) (s .pre .0) (l .date) (s .args .meeting) _ _ (l .inv .1) (c .before .before .next-on .ensures))
-          ∙ sym (c .before .stands-between .ensures) ∙ not-false _ (c .if1 .left)),
-    )
+    let s = c .before .before .before .before .before .before .before .before .before in
+    let l = c .before .before .before .before .before .before .before .loop in
+    let r = c .before .before .before .sessions-on .ensures in
+    let n = c .after .ensures in
+    let e = rw (s .pre .1 .0) at (c .before .before .member-between .ensures) in
+    let q = passed-more _ _ _ (l .inv .1)
+    (sym (date-bits (s .args .s) (reading (s .args .book .now)) (s .pre .0) (l .date .0) (s .args .meeting) _ _ (r .begins) (r .ends) (s .pre .1 .1 .0))
+    ∙ sym e ∙ not-false _ (c .before .if2 .left)) in
+    (omega (arith, n), λ d g h. q d g (omega (arith, n, h)))
 
 returns-2 : tie.Need-returns-2 Inv-loop μ-loop
 returns-2 c =
-    let a = c .before .before .before .before .args in
-    ap foundOf (sym (none-failing _ (a .first) (a .last) (λ d l h. c .before .loop .inv .2 d l (omega (arith, h)))))
+    let a = c .before .before .before .before .before .args in
+    ap foundOf (sym (none-failing _ (a .first .0) (a .last .0) (λ d l h. c .before .before .before .loop .inv .1 d l (omega (arith, h, c .if1 .left)))))
 
 pub first-without-session-spec : {M : Type 1} → statement M
 first-without-session-spec =
@@ -79,13 +81,11 @@ first-without-session-spec =
     (tie.spec
     Inv-loop
     μ-loop
-    first-on-requires
     loop-holds
-    add-next-on
-    next-on-requires
-    stands-between-requires
+    sessions-on-requires
+    member-between-requires
     returns
-    add-date
+    after-requires
     loop-less
     loop-again
     returns-2)

@@ -58,7 +58,7 @@ unfolding reading Lies
 part-members-end c =
     let s = c .before .before in
     let f = lies (s .args .s) (reading (s .args .book .now)) (good-laid (s .pre .0)) leaves in
-    rw (s .pre .1 .0) (row-in (gridOf (s .args .s) leaves) (s .args .date) _ refl (rw (s .pre .1 .0) at (c .at .ensures)) (length (reading (s .args .book .now))) f (s .pre .1 .1))
+    rw (s .pre .1 .0) (row-in (gridOf (s .args .s) leaves) (s .args .date .0) _ refl (rw (s .pre .1 .0) at (c .at .ensures)) (length (reading (s .args .book .now))) f (s .pre .1 .1))
 
 members-requires : tie.Need-members-requires
 unfolding reading Lies
@@ -73,13 +73,13 @@ returns c =
     let s = c .before .before .before .before in
     let r = c .before .before .at .result in
     let f = lies (s .args .s) (reading (s .args .book .now)) (good-laid (s .pre .0)) leaves in
-    let h : r + groups (s .args .s .visitors) ≤ length (reading (s .args .book .now)) = row-in (gridOf (s .args .s) leaves) (s .args .date) r refl (rw (s .pre .1 .0) at (c .before .before .at .ensures)) (length (reading (s .args .book .now))) f (s .pre .1 .1) in
+    let h : r + groups (s .args .s .visitors) ≤ length (reading (s .args .book .now)) = row-in (gridOf (s .args .s) leaves) (s .args .date .0) r refl (rw (s .pre .1 .0) at (c .before .before .at .ensures)) (length (reading (s .args .book .now))) f (s .pre .1 .1) in
     let n : r + groups (s .args .s .visitors) - r ≡ groups (s .args .s .visitors) = omega arith in
     let l : length (take (r + groups (s .args .s .visitors) - r) (drop r (reading (s .args .book .now)))) ≡ groups (s .args .s .visitors)
     = omega (arith, length-take (r + groups (s .args .s .visitors) - r) (drop r (reading (s .args .book .now))), length-drop r (reading (s .args .book .now))) in
     c .members .ensures
     ∙ rw (s .pre .1 .0)
-    (members-is (s .args .s) (reading (s .args .book .now)) (s .pre .0) (s .args .date) r (s .pre .1 .1) (rw (s .pre .1 .0) at (c .before .before .at .ensures))
+    (members-is (s .args .s) (reading (s .args .book .now)) (s .pre .0) (s .args .date .0) r (s .pre .1 .1) (rw (s .pre .1 .0) at (c .before .before .at .ensures))
     _ (ap (λ (k : ℕ). take k (drop r (reading (s .args .book .now)))) n) l)
 
 pub members-spec : {M : Type 1} → statement M

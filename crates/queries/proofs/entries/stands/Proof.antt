@@ -18,7 +18,7 @@ returns : tie.Need-returns
 returns c =
     let s = c .before .before in
     let a = s .args in
-    c .member .ensures ∙ rw (s .pre .1 .0) (sym (standing-is (a .s) (reading (a .book .now)) (s .pre .0) (a .session) (a .meeting) (s .pre .1 .1 .0) (s .pre .1 .1 .1)))
+    c .member .ensures ∙ rw (s .pre .1 .0) (sym (standing-is (a .s) (reading (a .book .now)) (s .pre .0) (a .session .0) (a .meeting) (s .pre .1 .1 .0) (s .pre .1 .1 .1)))
 
 pub stands-spec : {M : Type 1} → statement M
 stands-spec = tie.close (tie.spec member-requires returns)

@@ -14,7 +14,7 @@ use Rattle.queries.proofs.rooms.reserved.Statement.{statement}
 use Rattle.queries.proofs.rooms.reserved.Tie as tie
 
 abbrev Inv-loop : tie.InvT-loop
-Inv-loop book s g date room meetings seats₀ m₀ seats m = (meetings ≡ s .meetings) × (m ≤ meetings) × (seats ≡ sum (λ k. seatsOf (stateOf (reading book) .lunch date room k)) m) × (seats ≤ 1000 * m)
+Inv-loop book s g date room meetings seats₀ m₀ seats m = (meetings ≡ s .meetings) × (m ≤ meetings) × (seats ≡ sum (λ k. seatsOf (stateOf (reading book) .lunch (date .0) room k)) m) × (seats ≤ 1000 * m)
 
 abbrev μ-loop : tie.MeasureT-loop
 μ-loop book s g date room meetings seats₀ m₀ seats m = meetings - m
@@ -40,7 +40,7 @@ loop-again : tie.Need-loop-again Inv-loop μ-loop
 loop-again c =
     let a = c .before .before .before .before .args in
     let l = c .before .before .loop in
-    (search needs, search needs, ap₂ _+_ (l .inv .2) (c .seats-at .ensures .is) ∙ sym (sum-more (λ k. seatsOf (stateOf (reading (a .book .now)) .lunch (a .date) (a .room) k)) (l .m)), omega (arith, c .seats-at .ensures .few))
+    (search needs, search needs, ap₂ _+_ (l .inv .2) (c .seats-at .ensures .is) ∙ sym (sum-more (λ k. seatsOf (stateOf (reading (a .book .now)) .lunch (a .date .0) (a .room) k)) (l .m)), omega (arith, c .seats-at .ensures .few))
 
 returns : tie.Need-returns Inv-loop μ-loop
 unfolding reserved readState
@@ -49,7 +49,7 @@ returns c =
     let a = s .args in
     let l = c .before .loop in
     let e : l .m ≡ a .s .meetings = omega arith in
-    let f : ℕ → ℕ = λ k. seatsOf (stateOf (reading (a .book .now)) .lunch (a .date) (a .room) k) in
+    let f : ℕ → ℕ = λ k. seatsOf (stateOf (reading (a .book .now)) .lunch (a .date .0) (a .room) k) in
     l .inv .2 ∙ ap (sum f) (e ∙ sym (ap (λ (x : State). x .settings .meetings) (good-state (s .pre .0))))
 
 pub reserved-spec : {M : Type 1} → statement M

@@ -44,7 +44,7 @@ returns c =
     let s = c .before .before .before .before in
     let a = s .args in
     let e = rw (s .pre .1 .0) at (c .before .before .at .ensures .at) in
-    seats-other (a .s) (reading (a .book .now)) (s .pre .0) (a .date) (a .room) (a .meeting) (s .pre .1 .1 .0) (s .pre .1 .1 .1 .0) (s .pre .1 .1 .1 .1)
+    seats-other (a .s) (reading (a .book .now)) (s .pre .0) (a .date .0) (a .room) (a .meeting) (s .pre .1 .1 .0) (s .pre .1 .1 .1 .0) (s .pre .1 .1 .1 .1)
     (λ q. c .if1 .taken (ap (λ (n : ℕ). getD (reading (a .book .now)) n 0) e ∙ q))
 
 add-result : tie.Need-add-result
@@ -74,7 +74,7 @@ returns-2 c =
     let s = c .before .before .before .before .before in
     let a = s .args in
     let e = rw (s .pre .1 .0) at (c .before .before .before .at .ensures .at) in
-    seats-own (a .s) (reading (a .book .now)) (s .pre .0) (a .date) (a .room) (a .meeting) (s .pre .1 .1 .0) (s .pre .1 .1 .1 .0) (s .pre .1 .1 .1 .1)
+    seats-own (a .s) (reading (a .book .now)) (s .pre .0) (a .date .0) (a .room) (a .meeting) (s .pre .1 .1 .0) (s .pre .1 .1 .1 .0) (s .pre .1 .1 .1 .1)
     _ (sym (ap (λ (n : ℕ). getD (reading (a .book .now)) n 0) e) ∙ c .before .if1 .left) (ap (λ (n : ℕ). getD (reading (a .book .now)) n 0) (omega (arith, e)))
 
 pub seats-at-spec : {M : Type 1} → statement M

@@ -1,8 +1,8 @@
--- `cells::unless` meets its contract: by the test.
+-- `runs::unless`: by the test.
 -- Assumes nothing.
 use borrow.Author.Tests.{eq-eqb, ne-eqb}
-use Rattle.apply.proofs.cells.unless.Statement.{statement}
-use Rattle.apply.proofs.cells.unless.Tie as tie
+use Rattle.book.proofs.runs.unless.Statement.{statement}
+use Rattle.book.proofs.runs.unless.Tie as tie
 
 returns : tie.Need-returns
 returns c = rw (eq-eqb _ _ (c .if1 .taken))

@@ -1,15 +1,15 @@
--- `cells::store` meets its contract: as many words as the width says.
+-- `puts::store`: as many words as the width says.
 -- Assumes nothing.
 use mathlib.Core.Path.{sym, _∙_, ap}
 use mathlib.Core.List.{List}
 use Prim.Native.Nat.{ℕ, _+_}
 use native.Mathlib.Omega.{arith}
 use lib.ListN.{set, length-set}
-use Rattle.apply.specs.Stores.{puts}
-use Rattle.apply.proofs.Loops.{first-put, three-left}
+use Rattle.book.specs.Stores.{puts}
+use Rattle.book.proofs.Sweeps.{first-put, three-left}
 use borrow.Author.Needs.{needs}
-use Rattle.apply.proofs.cells.store.Statement.{statement}
-use Rattle.apply.proofs.cells.store.Tie as tie
+use Rattle.book.proofs.puts.store.Statement.{statement}
+use Rattle.book.proofs.puts.store.Tie as tie
 
 mul-book : tie.Need-mul-book
 mul-book c = search needs

@@ -1,0 +1,76 @@
+// Rows of one-word cells stand one behind the other: a run of them is a run of words, which the compiler takes several at once.
+use crate::grid::Grid;
+use crate::grid::at;
+use crate::rows::part_count;
+ghost use mathlib.Core.Path.{_≡_};
+ghost use mathlib.Core.Bool.{cond};
+ghost use Prim.Native.Nat.{_≤_};
+ghost use lib.Dec.{eqb};
+ghost use lib.ListN.{length};
+ghost use Rattle.book.specs.Lent.{reading, Lies};
+ghost use Rattle.book.specs.Stores.{over, zeroed, swept, Wrote};
+
+// How many words are looked at before any of them is written.
+const BLOCK: usize = 64;
+
+// x, or 0 where x is w.
+fn unless(x: u32, w: u32) -> u32
+    ensures { λ r. ⌜ r ≡ cond (eqb x w) 0 x ⌝ }
+{
+    if x == w {
+        return 0;
+    }
+    x
+}
+
+// The words from `start` to before `end` that are w become 0.
+fn clear_words(book: &mut [u32], w: u32, start: usize, end: usize)
+    requires { ⌜ end ≤ length (now book) ⌝ }
+    ensures { λ _. ⌜ now (book .exit) ≡ over (zeroed w) start end (now (book .entry)) ⌝ }
+{
+    let mut n = start;
+    while n < end {
+        let x = book[n];
+        book[n] = unless(x, w);
+        n += 1;
+    }
+}
+
+// The same of a short run, which is only read where no word is w.
+fn clear_block(book: &mut [u32], w: u32, start: usize, end: usize)
+    requires { ⌜ (start ≤ end) × (end ≤ length (now book)) × (length (now book) ≤ 1000000000) ⌝ }
+    ensures { λ _. ⌜ now (book .exit) ≡ over (zeroed w) start end (now (book .entry)) ⌝ }
+{
+    if part_count(&book[start..end], w) == 0 {
+        return;
+    }
+    clear_words(book, w, start, end);
+}
+
+// The same of a run of any length, block by block.
+fn clear_run(book: &mut [u32], w: u32, start: usize, end: usize)
+    requires { ⌜ (start ≤ end) × (end ≤ length (now book)) × (length (now book) ≤ 1000000000) ⌝ }
+    ensures { λ _. ⌜ now (book .exit) ≡ over (zeroed w) start end (now (book .entry)) ⌝ }
+{
+    let mut n = start;
+    while BLOCK <= end - n {
+        clear_block(book, w, n, n + BLOCK);
+        n += BLOCK;
+    }
+    clear_block(book, w, n, end);
+}
+
+// Every cell that holds w in the slots from `from` to before `to`, of one-word cells.
+pub fn sweep_run(book: &mut [u32], g: Grid, w: u32, from: u32, to: u32)
+    requires { ⌜ Lies g (reading (now book)) ⌝ }
+    requires { ⌜ (g .width ≡ 1) × (1 ≤ g .items) ⌝ }
+    requires { ⌜ to ≤ g .slots ⌝ }
+    ensures { λ _. ⌜ Wrote (swept g w from to) (reading (now (book .entry))) (reading (now (book .exit))) ⌝ }
+{
+    if to <= from {
+        return;
+    }
+    let start = at(g, from, 0);
+    let end = start + ((to - from) as usize) * (g.items as usize);
+    clear_run(book, w, start, end);
+}
