@@ -2,9 +2,7 @@
 -- Assumes nothing.
 use Prim.Native.Nat.{ℕ, _+_, _*_, _/_, _-_, _≤_, _<_}
 use native.Mathlib.Nat.{mul-le-mul, div-lt-iff-lt-mul}
-use Rattle.book.specs.declared.units.Slot.{Slot}
-use Rattle.book.specs.declared.units.Slot.the-variants.{Dates, Sessions, Times}
-use Rattle.model.specs.Kinds.{slotsOf, dateOf}
+use Rattle.model.specs.Kinds.{Unit, dates, sessions, times, slotsOf, dateOf}
 use native.Mathlib.Omega.{arith}
 use mathlib.Core.Path.{_≡_, ap}
 use mathlib.Core.List.{List}
@@ -13,7 +11,6 @@ use Rattle.book.specs.declared.grid.Grid.{Grid}
 use Rattle.book.specs.Grids.{Fits, Small, end}
 use Rattle.book.specs.Grids.{gridOf, Laid}
 use Rattle.book.specs.Lent.{Lies}
-use Rattle.book.specs.Units.{unitOf}
 use Rattle.model.specs.declared.Settings.{Settings}
 use Rattle.book.specs.Ranges.{Ranges}
 use Rattle.model.specs.Site.{allSessions, allTimes}
@@ -104,10 +101,10 @@ pub grid-by : (S : Settings) (g : Region) (n : ℕ) → n ≡ base S g → _≡_
 grid-by S g n e = ap (λ (n : ℕ). record { base = n; slots = slots S g; items = items S g; width = width g }) e
 
 -- the date of a slot is a date, and the word of a visitor a word of the row
-pub date-lt : (S : Settings) → Ranges S → (u : Slot) (i : ℕ) → i < slotsOf S (unitOf u) → dateOf S (unitOf u) i < S .dates
-date-lt S h Dates i l = l
-date-lt S h Sessions i l = div-lt-iff-lt-mul {k = S .sessions} (h .sessions .0) .1 l
-date-lt S h Times i l = div-lt-iff-lt-mul {k = S .times} (h .times .0) .1 l
+pub date-lt : (S : Settings) → Ranges S → (u : Unit) (i : ℕ) → i < slotsOf S u → dateOf S u i < S .dates
+date-lt S h dates i l = l
+date-lt S h sessions i l = div-lt-iff-lt-mul {k = S .sessions} (h .sessions .0) .1 l
+date-lt S h times i l = div-lt-iff-lt-mul {k = S .times} (h .times .0) .1 l
 
 pub group-lt : (n v : ℕ) → v < n → v / 32 < (n + 31) / 32
 group-lt n v h = omega (arith, h)
@@ -117,10 +114,10 @@ product3 g s =
     let a : g .slots * g .items ≤ 19660800 = mul-le-mul {n₂ = 38400} {m₂ = 512} (s .slots) (s .items) in
     (a, mul-le-mul {n₂ = 19660800} {m₂ = 3} a (s .width))
 
-pub unit-le : (S : Settings) → Ranges S → (u : Slot) → slotsOf S (unitOf u) ≤ 38400
-unit-le S h Dates = omega (arith, h .dates)
-unit-le S h Sessions = omega (arith, all-sessions S h)
-unit-le S h Times = omega (arith, all-times S h)
+pub unit-le : (S : Settings) → Ranges S → (u : Unit) → slotsOf S u ≤ 38400
+unit-le S h dates = omega (arith, h .dates)
+unit-le S h sessions = omega (arith, all-sessions S h)
+unit-le S h times = omega (arith, all-times S h)
 
 -- a slot has an item
 pub some-item : (S : Settings) → Ranges S → (g : Region) → 0 < items S g
