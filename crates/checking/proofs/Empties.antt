@@ -32,7 +32,7 @@ nobody row leave limit z =
       once = λ i j l h e. z i;
     }
 
-module _ (S : Settings) (caps leave hotel stand attend conf lunch ride : List ℕ) (z : Empty hotel attend conf lunch ride) where
+module _ (S : Settings) (n q : ℕ) (caps leave hotel stand attend conf lunch ride : List ℕ) (z : Empty hotel attend conf lunch ride) where
   no-meeting : (p : ℕ) → Padded (rowAt (groups (S .meetings)) p stand) (S .meetings)
       → Met (rowAt (groups (S .meetings)) p stand) (rowAt (S .visitors) p attend) (rowAt (S .rooms * 2) p conf) leave (S .rooms) (S .meetings)
   no-meeting p pad =
@@ -41,7 +41,7 @@ module _ (S : Settings) (caps leave hotel stand attend conf lunch ride : List �
       record {
         pad = pad;
         range = λ i h. omega (arith, a i);
-        onLeave = λ i h n. absurd (n (a i));
+        onLeave = λ i h w. absurd (w (a i));
         attended = λ i m h e. absurd (omega (arith, e, a i));
         within = λ j h. omega (arith, c (j * 2));
         stands = λ j m h e. absurd (omega (arith, e, c (j * 2)));
@@ -51,12 +51,12 @@ module _ (S : Settings) (caps leave hotel stand attend conf lunch ride : List �
   no-seats : (g : ℕ) → sum (seatsIn lunch g) (S .meetings) ≡ 0
   no-seats g = sum-empty (seatsIn lunch g) 0 (S .meetings) (λ j _ _. go (eqb (getD lunch (j * 3) 0) g) (z .lunches (j * 3 + 1)))
     where
-      go : (b : Bool) {n : ℕ} → n ≡ 0 → cond b n 0 ≡ 0
+      go : (b : Bool) {w : ℕ} → w ≡ 0 → cond b w 0 ≡ 0
       go true e = e
       go false e = refl
 
-  pub day-empty : Padded leave (S .visitors) → ((p : ℕ) → p < S .sessions → Padded (rowAt (groups (S .meetings)) p stand) (S .meetings))
-      → Day S caps leave hotel stand attend conf lunch ride
+  pub day-empty : Padded leave (S .visitors) → ((p : ℕ) → p < n → Padded (rowAt (groups (S .meetings)) p stand) (S .meetings))
+      → Day S n q caps leave hotel stand attend conf lunch ride
   day-empty pad pads =
       record {
         pad = pad;
@@ -66,10 +66,10 @@ module _ (S : Settings) (caps leave hotel stand attend conf lunch ride : List �
             record {
               range = omega (arith, z .lunches (j * 3));
               fit = omega (arith, z .lunches (j * 3 + 1));
-              some = λ n. absurd (n (z .lunches (j * 3)));
-              stood = λ n. absurd (n (z .lunches (j * 3)));
+              some = λ w. absurd (w (z .lunches (j * 3)));
+              stood = λ w. absurd (w (z .lunches (j * 3)));
               beside = λ _. z .lunches (j * 3 + 2);
             };
         sums = λ g h. omega (arith, no-seats g);
-        ridden = λ q h. nobody (rowAt (S .transports) q ride) leave (S .visitors) (row-blank ride (z .rides) (S .transports) q);
+        ridden = λ i h. nobody (rowAt (S .transports) i ride) leave (S .visitors) (row-blank ride (z .rides) (S .transports) i);
       }

@@ -6,9 +6,9 @@ pub mod Barring
 pub mod Cells
 pub mod Seating
 pub mod ByTables
-pub mod Sizes
 pub mod Addresses
 pub mod Empties
+pub mod Runs
 pub mod Slots
 pub mod Facts
 pub mod Question2

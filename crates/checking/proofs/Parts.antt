@@ -1,14 +1,14 @@
--- Rows of a list, one after the other, and parts of it.
+-- Rows of a list, one after the other.
 -- Assumes nothing.
-use Prim.Native.Nat.{ℕ, _+_, _*_, _-_, _≤_, _<_}
-use mathlib.Core.Path.{_≡_, _∙_, ap}
+use Prim.Native.Nat.{ℕ, _+_, _*_, _≤_, _<_}
+use mathlib.Core.Path.{_≡_}
 use mathlib.Core.List.{List}
 use native.Mathlib.Nat.{suc-mul, mul-le-mul-right}
 use native.Mathlib.Numerals.{add-one}
 use native.Mathlib.Omega.{arith}
-use lib.ListN.{length, take, drop, length-drop, length-take}
+use lib.ListN.{length, drop, length-drop, length-take}
 use lib.Seq.{length-take-le}
-use Rattle.checking.specs.Rows.{rowAt, Part}
+use Rattle.checking.specs.Rows.{rowAt}
 
 -- rows one after the other
 pub next-row : (d width : ℕ) → d * width + width ≡ (d + 1) * width
@@ -17,15 +17,8 @@ next-row d width = rw (add-one, suc-mul)
 pub row-inside : (d n width : ℕ) → d < n → d * width + width ≤ n * width
 row-inside d n width h = rw (next-row d width) (mul-le-mul-right width (omega arith))
 
-pub part-by : (cells : List ℕ) (at n : ℕ) → at + n ≤ length cells → Part (take (at + n - at) (drop at cells)) n (take n (drop at cells))
-part-by cells at n h =
-    let e : at + n - at ≡ n = omega arith in
-    record {
-      is =
-          ap (λ (k : ℕ). take k (drop at cells)) e;
-      long = ap (λ (k : ℕ). length (take k (drop at cells))) e
-          ∙ length-take-le n (drop at cells) (omega (arith, length-drop at cells));
-    }
-
 pub row-long : (width i : ℕ) (cells : List ℕ) → length (rowAt width i cells) ≤ width
 row-long width i cells = omega (arith, length-take width (drop (i * width) cells))
+
+pub row-long-is : (w p n : ℕ) (cells : List ℕ) → p < n → n * w ≤ length cells → length (rowAt w p cells) ≡ w
+row-long-is w p n cells h l = length-take-le w (drop (p * w) cells) (omega (arith, length-drop (p * w) cells, row-inside p n w h))

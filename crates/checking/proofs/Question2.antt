@@ -6,15 +6,15 @@ use mathlib.Core.Bool.{Bool, true, false, _&&_, cond}
 use mathlib.Core.Option.{none, some}
 use mathlib.Core.List.{List}
 use native.Mathlib.Omega.{arith}
-use lib.Arith.{digits-div}
 use lib.Dec.{leb, ltb, eqb}
 use lib.ListN.{getD}
 use borrow.Author.Tests.{ltb-true, ltb-false, lt-ltb, leb-true, le-leb, eqb-true, eq-eqb, ne-eqb}
 use Rattle.model.specs.declared.Settings.{Settings}
 use Rattle.model.specs.Bounded.{sum, within}
 use Rattle.book.specs.Ranges.{Ranges}
-use Rattle.book.specs.Grids.{Laid}
-use Rattle.model.specs.Site.{allSessions, capacity}
+use Rattle.book.proofs.Regions.{date-lt}
+use Rattle.model.specs.Site.{allSessions, allTimes, dateOfSession, dateOfTime, capacity}
+use Rattle.model.specs.Kinds.{sessions, times}
 use Rattle.model.specs.State.{seatsOf, hotels, rides, attends, confs, lunches, reserved}
 use Rattle.model.specs.Questions.{standsOn}
 use Rattle.model.specs.Words.{Region, leaves, hotelCells, standings, attendCells, confPairs, lunchTriples, rideCells, slots, items}
@@ -31,9 +31,9 @@ use Rattle.model.proofs.Sound.{book-sound, held-some}
 use Rattle.model.specs.Reading.{settingsOf, stateOf}
 use Rattle.model.specs.Laws.{wellLaid, lawful}
 use Rattle.checking.specs.Rows.{Decides}
-use Rattle.checking.specs.Days.{Eaten, Caps, DayAt}
-use Rattle.checking.proofs.Slots.{split, within-slots, held, holds-by, within-by, Slot, one-a-cell, one-a-row}
-use Rattle.checking.proofs.Facts.{Facts, Session, seatsAt, facts-by, by-facts}
+use Rattle.checking.specs.Days.{Eaten, Caps}
+use Rattle.checking.specs.Kept.{GuestsAt, SessionAt, seatsAt, Kept}
+use Rattle.checking.proofs.Slots.{held, holds-by, within-by, one-a-cell, one-a-row}
 
 module _ (S : Settings) (caps b : List ℕ) (r : Ranges S) (cs : Caps S caps) where
   -- the seats of a lunch in the state, and in the words
@@ -52,16 +52,12 @@ module _ (S : Settings) (caps b : List ℕ) (r : Ranges S) (cs : Caps S caps) wh
       sum-agree (λ m. seatsOf (readState S b .lunch d g m)) (seatsAt S b d (suc g)) 0 (S .meetings) (λ m _ l. seats-same d g m h (omega arith))
 
   -- facts give the tests
-  module _ (f : Facts S caps b) where
-    fs : (s : ℕ) → s < allSessions S → Session S b s (s / S .sessions)
-    fs s h =
-        let c = split (S .dates) (S .sessions) s (r .sessions .0) h in
-        subst (λ (x : ℕ). Session S b x (s / S .sessions)) (sym (c .whole)) (f .session (s / S .sessions) (s % S .sessions) (c .date) (c .place))
+  module _ (f : (d : ℕ) → d < S .dates → Kept S caps b d) where
+    fs : (s : ℕ) → s < allSessions S → SessionAt S b s (dateOfSession S s)
+    fs s h = f (dateOfSession S s) (date-lt S r sessions s h) .session s h refl
 
-    fr : (t : ℕ) → t < S .dates * S .times → Slot S b rideCells (S .visitors) t (t / S .times)
-    fr t h =
-        let c = split (S .dates) (S .times) t (r .times .0) h in
-        subst (λ (x : ℕ). Slot S b rideCells (S .visitors) x (t / S .times)) (sym (c .whole)) (f .ride (t / S .times) (t % S .times) (c .date) (c .place))
+    fr : (t : ℕ) → t < allTimes S → GuestsAt S b rideCells (S .visitors) t (dateOfTime S t)
+    fr t h = f (dateOfTime S t) (date-lt S r times t h) .ride t h refl
 
     each : (g : Region) (p : ℕ → ℕ → Bool) → ((i j : ℕ) → i < slots S g → j < items S g → p i j ≡ true) → eachCell S g p ≡ true
     each g p h = true-all _ (slots S g) (λ i a. true-all (p i) (items S g) (λ j c. h i j a c))
@@ -74,7 +70,7 @@ module _ (S : Settings) (caps b : List ℕ) (r : Ranges S) (cs : Caps S caps) wh
         go false e = refl
 
     lunch-rule : (d j : ℕ) → d < S .dates → j < S .meetings → lunchRule S b d j ≡ true
-    lunch-rule d j h l = go (at S b lunchTriples d j 0) (at S b lunchTriples d j 1) (at S b lunchTriples d j 2) (f .lunch d j h l)
+    lunch-rule d j h l = go (at S b lunchTriples d j 0) (at S b lunchTriples d j 1) (at S b lunchTriples d j 2) (f d h .lunch j l)
       where
         go : (w n i : ℕ) → Eaten (S .dining) caps (standsOn (readState S b) d j) w n i
             → cond (eqb w 0) (eqb n 0 && eqb i 0) (within 1 (capacity S (w - 1)) n) ≡ true
@@ -88,9 +84,9 @@ module _ (S : Settings) (caps b : List ℕ) (r : Ranges S) (cs : Caps S caps) wh
     unfolding cellRules
     rules-by =
         conj-by (cellTests S b) (
-          each leaves (λ i j. ltb (at S b leaves i j 0) (2 ^ min 32 (S .visitors - j * 32))) (λ i j h l. lt-ltb _ _ (f .pad i j h l)),
+          each leaves (λ i j. ltb (at S b leaves i j 0) (2 ^ min 32 (S .visitors - j * 32))) (λ i j h l. lt-ltb _ _ (f i h .pad j l)),
           (
-            within-by S b hotelCells (S .visitors) (λ i j h l. f .hotel i h .range j l),
+            within-by S b hotelCells (S .visitors) (λ i j h l. f i h .hotel .range j l),
             (
               each standings (λ i j. ltb (at S b standings i j 0) (2 ^ min 32 (S .meetings - j * 32))) (λ i j h l. lt-ltb _ _ (fs i h .pad j l)),
               (
@@ -100,7 +96,7 @@ module _ (S : Settings) (caps b : List ℕ) (r : Ranges S) (cs : Caps S caps) wh
                   (
                     each confPairs (confRule S b) conf-rule,
                     (
-                      within-by S b lunchTriples (S .dining) (λ i j h l. f .lunch i j h l .range),
+                      within-by S b lunchTriples (S .dining) (λ i j h l. f i h .lunch j l .range),
                       (
                         each lunchTriples (lunchRule S b) lunch-rule,
                         (
@@ -123,10 +119,10 @@ module _ (S : Settings) (caps b : List ℕ) (r : Ranges S) (cs : Caps S caps) wh
         go : (l : Law) → law (readState S b) l ≡ true
         go oneVisitorARoom = oneB-by (readState S b) hotels (λ i a u v e q. one-a-cell S b hotelCells i a u v e q)
         go oneRoomAVisitor =
-            oneA-by (readState S b) hotels (λ i v j k e q. one-a-row S b hotelCells (S .visitors) i i v j k (f .hotel i (held S b hotelCells i j v e .slot)) e q)
+            oneA-by (readState S b) hotels (λ i v j k e q. one-a-row S b hotelCells (S .visitors) i i v j k (f i (held S b hotelCells i j v e .slot) .hotel) e q)
         go oneVisitorARide = oneB-by (readState S b) rides (λ i a u v e q. one-a-cell S b rideCells i a u v e q)
         go oneRideAVisitor =
-            oneA-by (readState S b) rides (λ i v j k e q. one-a-row S b rideCells (S .visitors) (i / S .times) i v j k (fr i (held S b rideCells i j v e .slot)) e q)
+            oneA-by (readState S b) rides (λ i v j k e q. one-a-row S b rideCells (S .visitors) (dateOfTime S i) i v j k (fr i (held S b rideCells i j v e .slot)) e q)
         go oneMeetingAVisitor = oneA-by (readState S b) attends (λ i v m n e q. one-a-cell S b attendCells i v m n e q)
         go oneMeetingARoom =
             oneB-by (readState S b) confs (λ i c m n e q. one-a-cell S b confPairs i c m n (held-some (holds S b confPairs i c m) _ e) (held-some (holds S b confPairs i c n) _ q))
@@ -140,19 +136,19 @@ module _ (S : Settings) (caps b : List ℕ) (r : Ranges S) (cs : Caps S caps) wh
             (λ s c m e. let h = held S b confPairs s c m (held-some (holds S b confPairs s c m) _ e) in fs s (h .slot) .stands c m (h .item) (h .word))
         go lunchStands =
             each-by (readState S b) lunches (λ d g m. standsOn (readState S b) d m)
-            (λ d g m e. let h = held S b lunchTriples d m g (held-some (holds S b lunchTriples d m g) _ e) in f .lunch d m (h .slot) (h .item) .stood (λ z. omega (arith, z, h .word)))
+            (λ d g m e. let h = held S b lunchTriples d m g (held-some (holds S b lunchTriples d m g) _ e) in f d (h .slot) .lunch m (h .item) .stood (λ z. omega (arith, z, h .word)))
         go hotelLeave =
             each-by (readState S b) hotels (λ i a v. bitAt S b leaves i v)
-            (λ i a v e. let h = held S b hotelCells i a v e in f .hotel i (h .slot) .onLeave a v (h .item) (h .word))
+            (λ i a v e. let h = held S b hotelCells i a v e in f i (h .slot) .hotel .onLeave a v (h .item) (h .word))
         go rideLeave =
-            each-by (readState S b) rides (λ i a v. bitAt S b leaves (i / S .times) v)
+            each-by (readState S b) rides (λ i a v. bitAt S b leaves (dateOfTime S i) v)
             (λ i a v e. let h = held S b rideCells i a v e in fr i (h .slot) .onLeave a v (h .item) (h .word))
         go attendLeave =
-            each-by (readState S b) attends (λ s m v. bitAt S b leaves (s / S .sessions) v)
+            each-by (readState S b) attends (λ s m v. bitAt S b leaves (dateOfSession S s) v)
             (λ s m v e. let h = held S b attendCells s v m e in fs s (h .slot) .onLeave v (h .item) (λ z. omega (arith, z, h .word)))
         go seatsWithin =
             true-all _ (S .dates) (λ d h. true-all (λ g. leb (reserved (readState S b) d g) (capacity S g)) (S .dining)
-            (λ g l. le-leb (reserved (readState S b) d g) (capacity S g) (omega (arith, reserved-is d g h, f .sums d (suc g) h (omega (arith, r .dining .1)), cs .each g (omega (arith, r .dining .1))))))
+            (λ g l. le-leb (reserved (readState S b) d g) (capacity S g) (omega (arith, reserved-is d g h, f d h .sums (suc g) (omega (arith, r .dining .1)), cs .each g (omega (arith, r .dining .1))))))
 
     pub lawful-by : cellRules S b && laws (readState S b) ≡ true
     lawful-by = and-true rules-by laws-by
@@ -170,7 +166,7 @@ module _ (S : Settings) (caps b : List ℕ) (r : Ranges S) (cs : Caps S caps) wh
         go zero q = q
         go (suc v) q = absurd (omega (arith, one v j k (holds-by S b g i j v h (omega arith) q) (holds-by S b g i k v h m (sym e ∙ q))))
 
-    hotel-is : (d : ℕ) → d < S .dates → Slot S b hotelCells (S .visitors) d d
+    hotel-is : (d : ℕ) → d < S .dates → GuestsAt S b hotelCells (S .visitors) d d
     unfolding readState
     hotel-is d h = record {
       range = λ j l. range-is hotelCells (S .visitors) (rules .1 .0) d j h l;
@@ -178,32 +174,28 @@ module _ (S : Settings) (caps b : List ℕ) (r : Ranges S) (cs : Caps S caps) wh
       once = once-is hotelCells d h (λ v j k e q. s .oneA hotels refl d v j k e q);
     }
 
-    ride-is : (d q : ℕ) → d < S .dates → q < S .times → Slot S b rideCells (S .visitors) (d * S .times + q) d
+    ride-is : (t : ℕ) → t < allTimes S → GuestsAt S b rideCells (S .visitors) t (dateOfTime S t)
     unfolding readState
-    ride-is d q h k =
-        let t = within-slots (S .dates) (S .times) d q h k in
-        record {
-          range = λ j l. range-is rideCells (S .visitors) (rules .1 .1 .1 .1 .1 .1 .1 .1 .0) (d * S .times + q) j t l;
-          onLeave = λ j v l e. ap (λ (x : ℕ). bitAt S b leaves x v) (sym (digits-div d k)) ∙ s .guests rides refl (d * S .times + q) j v (holds-by S b rideCells (d * S .times + q) j v t l e);
-          once = once-is rideCells (d * S .times + q) t (λ v j k e z. s .oneA rides refl (d * S .times + q) v j k e z);
-        }
+    ride-is t h = record {
+      range = λ j l. range-is rideCells (S .visitors) (rules .1 .1 .1 .1 .1 .1 .1 .1 .0) t j h l;
+      onLeave = λ j v l e. s .guests rides refl t j v (holds-by S b rideCells t j v h l e);
+      once = once-is rideCells t h (λ v j k e z. s .oneA rides refl t v j k e z);
+    }
 
-    session-is : (d p : ℕ) → d < S .dates → p < S .sessions → Session S b (d * S .sessions + p) d
+    session-is : (i : ℕ) → i < allSessions S → SessionAt S b i (dateOfSession S i)
     unfolding readState
-    session-is d p h k =
-        let i = d * S .sessions + p in
-        let t : i < S .dates * S .sessions = within-slots (S .dates) (S .sessions) d p h k in
-        record {
-          pad = λ j l. ltb-true _ _ (each-cell S standings (λ i j. ltb (at S b standings i j 0) (2 ^ min 32 (S .meetings - j * 32))) (rules .1 .1 .0) i j t l);
-          range = λ j l. range-is attendCells (S .meetings) (rules .1 .1 .1 .0) i j t l;
-          onLeave = λ j l n.
-              let w : at S b attendCells i j 0 ≡ suc (at S b attendCells i j 0 - 1) = omega (arith, n) in
-              ap (λ (x : ℕ). bitAt S b leaves x j) (sym (digits-div d k)) ∙ s .guests attends refl i (at S b attendCells i j 0 - 1) j (holds-by S b attendCells i j _ t l w);
-          attended = λ j m l e. s .attended i m j (holds-by S b attendCells i j m t l e);
-          within = λ j l. range-is confPairs (S .meetings) (rules .1 .1 .1 .1 .0) i j t l;
-          stands = λ j m l e. s .held i j m (some-is (holds S b confPairs i j m) _ ∙ holds-by S b confPairs i j m t l e);
-          beside = λ j l e. eqb-true _ 0 (rw (eq-eqb _ 0 e) at (each-cell S confPairs (confRule S b) (rules .1 .1 .1 .1 .1 .0) i j t l));
-        }
+    session-is i h = record {
+      pad = λ j l.
+          ltb-true _ _ (each-cell S standings (λ i j. ltb (at S b standings i j 0) (2 ^ min 32 (S .meetings - j * 32))) (rules .1 .1 .0) i j h l);
+      range = λ j l. range-is attendCells (S .meetings) (rules .1 .1 .1 .0) i j h l;
+      onLeave = λ j l n.
+          let w : at S b attendCells i j 0 ≡ suc (at S b attendCells i j 0 - 1) = omega (arith, n) in
+          s .guests attends refl i (at S b attendCells i j 0 - 1) j (holds-by S b attendCells i j _ h l w);
+      attended = λ j m l e. s .attended i m j (holds-by S b attendCells i j m h l e);
+      within = λ j l. range-is confPairs (S .meetings) (rules .1 .1 .1 .1 .0) i j h l;
+      stands = λ j m l e. s .held i j m (some-is (holds S b confPairs i j m) _ ∙ holds-by S b confPairs i j m h l e);
+      beside = λ j l e. eqb-true _ 0 (rw (eq-eqb _ 0 e) at (each-cell S confPairs (confRule S b) (rules .1 .1 .1 .1 .1 .0) i j h l));
+    }
 
     lunch-is : (d j : ℕ) → d < S .dates → j < S .meetings
         → Eaten (S .dining) caps (standsOn (readState S b) d j) (at S b lunchTriples d j 0) (at S b lunchTriples d j 1) (at S b lunchTriples d j 2)
@@ -269,14 +261,14 @@ module _ (S : Settings) (caps b : List ℕ) (r : Ranges S) (cs : Caps S caps) wh
         go false q =
             omega (arith, sum-empty (seatsAt S b d (suc g)) 0 (S .meetings) (λ j _ k. out j (ltb-false g (S .dining) q) (range-is lunchTriples (S .dining) (rules .1 .1 .1 .1 .1 .1 .0) d j h (omega arith))))
 
-    pub facts-is : Facts S caps b
-    facts-is = record {
-      pad = λ d j h l. ltb-true _ _ (each-cell S leaves (λ i j. ltb (at S b leaves i j 0) (2 ^ min 32 (S .visitors - j * 32))) (rules .0) d j h l);
-      hotel = hotel-is;
-      ride = ride-is;
-      session = session-is;
-      lunch = lunch-is;
-      sums = sums-is;
+    pub kept-is : (d : ℕ) → d < S .dates → Kept S caps b d
+    kept-is d h = record {
+      pad = λ j l. ltb-true _ _ (each-cell S leaves (λ i j. ltb (at S b leaves i j 0) (2 ^ min 32 (S .visitors - j * 32))) (rules .0) d j h l);
+      hotel = hotel-is d h;
+      ride = λ t l e. subst (λ (x : ℕ). GuestsAt S b rideCells (S .visitors) t x) e (ride-is t l);
+      session = λ i l e. subst (λ (x : ℕ). SessionAt S b i x) e (session-is i l);
+      lunch = λ j l. lunch-is d j h l;
+      sums = λ g l. sums-is d g h l;
     }
 
 rules-of : (b : List ℕ) → lawful b ≡ true → Each (cellTests (settingsOf b) b)
@@ -284,16 +276,14 @@ unfolding lawful cellRules
 rules-of b q = conj-is (cellTests (settingsOf b) b) (and-left (cellRules (settingsOf b) b) _ q)
 
 -- question 2
-pub lawful-said : (b caps : List ℕ) → wellLaid b ≡ true → (S : Settings) → S ≡ settingsOf b → Laid S b → Caps S caps
-    → (answer : Bool) → Decides answer ((d : ℕ) → d < S .dates → DayAt S caps b d) → answer ≡ lawful b
+pub lawful-said : (b caps : List ℕ) → wellLaid b ≡ true → (S : Settings) → S ≡ settingsOf b → Ranges S → Caps S caps
+    → (answer : Bool) → Decides answer ((d : ℕ) → d < S .dates → Kept S caps b d) → answer ≡ lawful b
 unfolding lawful stateOf
-lawful-said b caps q1 S e l cs true d =
-    sym (ap (λ (T : Settings). cellRules T b && laws (readState T b)) (sym e) ∙ lawful-by S caps b (l .ranges) cs (facts-by S caps b (l .ranges) (l .long) d))
-lawful-said b caps q1 S e l cs false d = go (lawful b) refl
+lawful-said b caps q1 S e r cs true k = sym (ap (λ (T : Settings). cellRules T b && laws (readState T b)) (sym e) ∙ lawful-by S caps b r cs k)
+lawful-said b caps q1 S e r cs false k = go (lawful b) refl
   where
     go : (t : Bool) → lawful b ≡ t → false ≡ lawful b
     go false q = sym q
     go true q =
-        absurd (d (by-facts S caps b (l .ranges) (l .long)
-        (subst (λ (T : Settings). Caps T caps → Ranges T → Facts T caps b) (sym e)
-        (λ k h. facts-is (settingsOf b) caps b h k (book-sound b q1 q) (rules-of b q)) cs (l .ranges))))
+        absurd (k (subst (λ (T : Settings). Caps T caps → Ranges T → (d : ℕ) → d < T .dates → Kept T caps b d) (sym e)
+        (λ k h. kept-is (settingsOf b) caps b h k (book-sound b q1 q) (rules-of b q)) cs r))

@@ -1,4 +1,4 @@
--- What a row of a book member to keep, over the row's words and tables of what is barred.
+-- What a row of a book has to keep, over the row's words and tables of what is barred.
 -- Assumes nothing.
 use Prim.Native.Nat.{ℕ, zero, suc, _+_, _*_, _/_, _%_, _^_, _-_, _≤_, _<_, min}
 use mathlib.Core.Path.{_≡_}
@@ -59,11 +59,6 @@ pub record Session (stand attend conf bounds : List ℕ) (rooms meetings : ℕ) 
   pub within : (j : ℕ) → j < rooms → getD conf (j * 2) 0 ≤ meetings
   pub stands : (j m : ℕ) → j < rooms → getD conf (j * 2) 0 ≡ suc m → member stand m ≡ true
   pub beside : (j : ℕ) → j < rooms → getD conf (j * 2) 0 ≡ 0 → getD conf (j * 2 + 1) 0 ≡ 0
-
--- a part of a slice: what it is, and its length
-pub record Part (r : List ℕ) (n : ℕ) (want : List ℕ) : Type 0 where
-  pub is : r ≡ want
-  pub long : length r ≡ n
 
 -- a lunch: dining room w of `dining`, 0 for none; caps has 0 for none, then the capacities
 pub record Triple (dining : ℕ) (caps : List ℕ) (absent : Bool) (w seats info : ℕ) : Type 0 where

@@ -1,61 +1,26 @@
 // One date of a book: its part of each region is a slice, so that nothing below a date speaks of an address.
 use crate::rows;
 use crate::tables;
-use book::grid::Grid;
+use book::blocks::block;
 use book::grid::Grids;
-use book::grid::at;
-use book::units::Slot;
-use book::units::next_on;
+use book::units::SessionRun;
+use book::units::TimeRun;
+use book::units::after;
+use book::units::sessions_on;
+use book::units::times_on;
+use model::Date;
 use model::Settings;
 ghost use mathlib.Core.Path.{_≡_};
-ghost use Prim.Native.Nat.{ℕ, _+_, _*_, _≤_, _<_};
+ghost use Prim.Native.Nat.{ℕ, _*_, _≤_, _<_};
 ghost use mathlib.Core.Bool.{true};
-ghost use lib.ListN.{length, getD, take, drop};
+ghost use lib.ListN.{length, getD};
 ghost use Rattle.model.specs.Words.{groups};
 ghost use Rattle.book.specs.Ranges.{Ranges};
-ghost use Rattle.book.specs.Grids.{Fits, place, gridsOf, Laid};
-ghost use Rattle.checking.specs.Rows.{Decides, Blanks, Padded, Session, rowAt, Part};
-ghost use Rattle.checking.specs.Days.{Day, Long, Empty, Caps, At, DayAt, sharesOf};
-
-// The words of one date in each region.
-pub struct Shares {
-    pub leave: usize,
-    pub hotel: usize,
-    pub stand: usize,
-    pub attend: usize,
-    pub conf: usize,
-    pub lunch: usize,
-    pub ride: usize,
-}
-
-pub fn shares_of(s: Settings) -> Shares
-    requires { ⌜ Ranges s ⌝ }
-    ensures { λ r. ⌜ r ≡ sharesOf s ⌝ }
-{
-    let p = s.sessions as usize;
-    Shares {
-        leave: (s.visitors as usize + 31) / 32,
-        hotel: s.hotels as usize,
-        stand: p * ((s.meetings as usize + 31) / 32),
-        attend: p * (s.visitors as usize),
-        conf: p * ((s.rooms as usize) * 2),
-        lunch: (s.meetings as usize) * 3,
-        ride: (s.times as usize) * (s.transports as usize),
-    }
-}
-
-// The words of a date in a region, from the date's first slot on.
-fn part_of(book: &[u32], g: Grid, first: u32, words: usize) -> &[u32]
-    requires { ⌜ Fits g (length (now book)) ⌝ }
-    requires { ⌜ first < g .slots ⌝ }
-    requires { ⌜ 0 < g .items ⌝ }
-    requires { ⌜ place g first 0 0 + words ≤ length (now book) ⌝ }
-    ensures { λ r. ⌜ Part (now r) words (take words (drop (place g first 0 0) (now (book .entry)))) ⌝ }
-{
-    let start = at(g, first, 0);
-    let end = start + words;
-    &book[start..end]
-}
+ghost use Rattle.book.specs.Grids.{gridsOf, Laid};
+ghost use Rattle.book.specs.Lent.{reading};
+ghost use Rattle.checking.specs.Rows.{Decides, Blanks, Padded, Session, rowAt};
+ghost use Rattle.checking.specs.Days.{Day, Long, Empty, Caps};
+ghost use Rattle.checking.specs.Kept.{At, Kept};
 
 // Are both rows all zeros?
 fn blanks(row: &[u32], other: &[u32]) -> bool
@@ -106,7 +71,7 @@ fn sessions(
     rooms: usize,
     meetings: u32,
 ) -> bool
-    requires { ⌜ (1 ≤ meetings) × (meetings ≤ 128) × (rooms ≤ 64) × (visitors ≤ 512) × (n ≤ 16) ⌝ }
+    requires { ⌜ (1 ≤ meetings) × (meetings ≤ 128) × (rooms ≤ 64) × (visitors ≤ 512) ⌝ }
     requires { ⌜ (length (now stand) ≡ n * groups meetings) × (length (now attend) ≡ n * visitors) × (length (now conf) ≡ n * (rooms * 2)) ⌝ }
     requires { ⌜ ((j : ℕ) → getD (now bounds) j 0 ≤ meetings) ⌝ }
     ensures { λ r. ⌜ Decides r ((p : ℕ) → p < n → Session (rowAt (groups meetings) p (now (stand .entry))) (rowAt visitors p (now (attend .entry))) (rowAt (rooms * 2) p (now (conf .entry))) (now (bounds .entry)) rooms meetings) ⌝ }
@@ -156,7 +121,7 @@ fn pads(stand: &[u32], n: usize, meetings: usize) -> bool
     true
 }
 
-// One date by its tables: its leave words, hotel cells, standing words, attend cells, conf pairs, lunch triples and ride cells.
+// One date of n sessions and q times, by its tables: its leave words, hotel cells, standing words, attend cells, conf pairs, lunch triples and ride cells.
 fn entries(
     leave: &[u32],
     hotel: &[u32],
@@ -167,19 +132,19 @@ fn entries(
     ride: &[u32],
     s: Settings,
     caps: &[u32; 17],
+    n: usize,
+    q: usize,
 ) -> bool
     requires { ⌜ Ranges s ⌝ }
-    requires { ⌜ Long s (now leave) (now hotel) (now stand) (now attend) (now conf) (now lunch) (now ride) ⌝ }
+    requires { ⌜ Long s n q (now leave) (now hotel) (now stand) (now attend) (now conf) (now lunch) (now ride) ⌝ }
     requires { ⌜ Caps s (now caps) ⌝ }
     requires { ⌜ Padded (now leave) (s .visitors) ⌝ }
-    ensures { λ r. ⌜ Decides r (Day s (now (caps .entry)) (now (leave .entry)) (now (hotel .entry)) (now (stand .entry)) (now (attend .entry)) (now (conf .entry)) (now (lunch .entry)) (now (ride .entry))) ⌝ }
+    ensures { λ r. ⌜ Decides r (Day s n q (now (caps .entry)) (now (leave .entry)) (now (hotel .entry)) (now (stand .entry)) (now (attend .entry)) (now (conf .entry)) (now (lunch .entry)) (now (ride .entry))) ⌝ }
 {
     let visitors = s.visitors;
     let meetings = s.meetings;
     let v = visitors as usize;
     let m = meetings as usize;
-    let p = s.sessions as usize;
-    let q = s.times as usize;
     let c = s.rooms as usize;
     let k = s.transports as usize;
     let table = tables::barred(leave, v);
@@ -187,11 +152,11 @@ fn entries(
         return false;
     }
     let bounds = tables::most(&table, v, meetings);
-    if !sessions(stand, attend, conf, &bounds, p, v, c, meetings) {
+    if !sessions(stand, attend, conf, &bounds, n, v, c, meetings) {
         return false;
     }
     let words = (m + 31) / 32;
-    let some = tables::barred_date(stand, p, words, m);
+    let some = tables::barred_date(stand, n, words, m);
     if !rows::triples(lunch, m, &some, caps, s.dining) {
         return false;
     }
@@ -209,67 +174,95 @@ fn date(
     ride: &[u32],
     s: Settings,
     caps: &[u32; 17],
+    n: usize,
+    q: usize,
 ) -> bool
     requires { ⌜ Ranges s ⌝ }
-    requires { ⌜ Long s (now leave) (now hotel) (now stand) (now attend) (now conf) (now lunch) (now ride) ⌝ }
+    requires { ⌜ Long s n q (now leave) (now hotel) (now stand) (now attend) (now conf) (now lunch) (now ride) ⌝ }
     requires { ⌜ Caps s (now caps) ⌝ }
-    ensures { λ r. ⌜ Decides r (Day s (now (caps .entry)) (now (leave .entry)) (now (hotel .entry)) (now (stand .entry)) (now (attend .entry)) (now (conf .entry)) (now (lunch .entry)) (now (ride .entry))) ⌝ }
+    ensures { λ r. ⌜ Decides r (Day s n q (now (caps .entry)) (now (leave .entry)) (now (hotel .entry)) (now (stand .entry)) (now (attend .entry)) (now (conf .entry)) (now (lunch .entry)) (now (ride .entry))) ⌝ }
 {
     if !rows::padded(leave, s.visitors as usize) {
         return false;
     }
     if empty(hotel, attend, conf, lunch, ride) {
-        return pads(stand, s.sessions as usize, s.meetings as usize);
+        return pads(stand, n, s.meetings as usize);
     }
-    entries(leave, hotel, stand, attend, conf, lunch, ride, s, caps)
+    entries(
+        leave,
+        hotel,
+        stand,
+        attend,
+        conf,
+        lunch,
+        ride,
+        s,
+        caps,
+        n,
+        q,
+    )
 }
 
-// Date d of a well-laid book, by its first session and its first time.
+// Date d of a well-laid book: its row of each region by date, and the rows of its sessions and of its times, as many as there are.
 fn date_at(
     book: &[u32],
     s: Settings,
     grids: Grids,
-    shares: Shares,
     caps: &[u32; 17],
-    d: u32,
-    session: u32,
-    time: u32,
+    d: Date,
+    sessions: SessionRun,
+    times: TimeRun,
 ) -> bool
-    requires { ⌜ At s (now book) grids shares d session time ⌝ }
+    requires { ⌜ At s (reading (now book)) grids (d .0) (sessions .from .0) (sessions .to .0) (times .from .0) (times .to .0) ⌝ }
     requires { ⌜ Caps s (now caps) ⌝ }
-    ensures { λ r. ⌜ Decides r (DayAt s (now (caps .entry)) (now (book .entry)) d) ⌝ }
+    ensures { λ r. ⌜ Decides r (Kept s (now (caps .entry)) (reading (now (book .entry))) (d .0)) ⌝ }
 {
-    let leave = part_of(book, grids.leave, d, shares.leave);
-    let hotel = part_of(book, grids.hotel, d, shares.hotel);
-    let stand = part_of(book, grids.standing, session, shares.stand);
-    let attend = part_of(book, grids.attend, session, shares.attend);
-    let conf = part_of(book, grids.conf, session, shares.conf);
-    let lunch = part_of(book, grids.lunch, d, shares.lunch);
-    let ride = part_of(book, grids.ride, time, shares.ride);
-    date(leave, hotel, stand, attend, conf, lunch, ride, s, caps)
+    let day = d.0;
+    let next = day + 1;
+    let from = sessions.from.0;
+    let to = sessions.to.0;
+    let first = times.from.0;
+    let last = times.to.0;
+    let leave = block(book, grids.leave, day, next);
+    let hotel = block(book, grids.hotel, day, next);
+    let stand = block(book, grids.standing, from, to);
+    let attend = block(book, grids.attend, from, to);
+    let conf = block(book, grids.conf, from, to);
+    let lunch = block(book, grids.lunch, day, next);
+    let ride = block(book, grids.ride, first, last);
+    let n = (to - from) as usize;
+    let q = (last - first) as usize;
+    date(
+        leave,
+        hotel,
+        stand,
+        attend,
+        conf,
+        lunch,
+        ride,
+        s,
+        caps,
+        n,
+        q,
+    )
 }
 
-// Each date of a well-laid book. Where the sessions and the times of the next date begin is asked of the date-of functions.
+// Each date of a well-laid book. Which sessions and times are on a date is asked of the date-of functions.
 pub fn dates(book: &[u32], s: Settings, grids: Grids, caps: &[u32; 17]) -> bool
-    requires { ⌜ Laid s (now book) ⌝ }
+    requires { ⌜ Laid s (reading (now book)) ⌝ }
     requires { ⌜ grids ≡ gridsOf s ⌝ }
     requires { ⌜ Caps s (now caps) ⌝ }
-    ensures { λ r. ⌜ Decides r ((d : ℕ) → d < s .dates → DayAt s (now (caps .entry)) (now (book .entry)) d) ⌝ }
+    ensures { λ r. ⌜ Decides r ((d : ℕ) → d < s .dates → Kept s (now (caps .entry)) (reading (now (book .entry))) d) ⌝ }
 {
     let days = s.dates;
-    let shares = shares_of(s);
-    let sessions = grids.standing.slots;
-    let times = grids.ride.slots;
-    let mut d: u32 = 0;
-    let mut session: u32 = 0;
-    let mut time: u32 = 0;
-    while d < days {
-        if !date_at(book, s, grids, shares, caps, d, session, time) {
+    let mut date = Date(0);
+    while date.0 < days {
+        let sessions = sessions_on(s, date, date);
+        let times = times_on(s, date, date);
+        if !date_at(book, s, grids, caps, date, sessions, times) {
             return false;
         }
-        d += 1;
-        session = next_on(s, Slot::Sessions, session, sessions, d);
-        time = next_on(s, Slot::Times, time, times, d);
+        date = after(date);
     }
     true
 }

@@ -4,7 +4,8 @@ ghost use mathlib.Core.Bool.{true, false};
 ghost use Prim.Native.Nat.{ℕ, _+_, _*_, _≤_, _<_};
 ghost use lib.ListN.{length, getD};
 ghost use Rattle.model.specs.Words.{groups};
-ghost use Rattle.checking.specs.Rows.{Decides, Blank, Guests, Attended, Paired, Padded, Lunches, rowAt, Part, ors};
+ghost use Rattle.checking.specs.Rows.{Decides, Blank, Guests, Attended, Paired, Padded, Lunches, rowAt, ors};
+ghost use Rattle.book.specs.Blocks.{Part};
 
 // Row i of n rows of `width` words.
 pub fn row_of(cells: &[u32], i: usize, width: usize, n: usize) -> &[u32]

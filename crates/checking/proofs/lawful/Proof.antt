@@ -1,7 +1,8 @@
--- `lawful` meets its contract: the dates keep the laws exactly if the model says so.
+-- The dates keep the laws exactly if the model says so.
 -- Assumes nothing.
 use mathlib.Core.Path.{_∙_, ap}
 use Rattle.model.specs.Site.{validSettings}
+use Rattle.book.specs.Lent.{reading}
 use Rattle.book.proofs.Heads.{seats-low, laid-valid, laid-is}
 use Rattle.checking.proofs.Question2.{lawful-said}
 use Rattle.checking.proofs.lawful.Statement.{statement}
@@ -17,17 +18,19 @@ grids-of-requires : tie.Need-grids-of-requires
 grids-of-requires c κs = laid-is _ (c .before .before .before .pre) _ (c .before .settings .ensures) .ranges
 
 dates-requires : tie.Need-dates-requires
+unfolding reading
 dates-requires c κs =
     let c2 = c .before .before in
     let c1 = c2 .before in
     (laid-is _ (c1 .before .before .pre) _ (c1 .settings .ensures), (c .before .grids-of .ensures, c2 .caps-of .ensures))
 
 returns : tie.Need-returns
+unfolding reading
 returns c =
     let c2 = c .before .before .before in
     let c1 = c2 .before in
     let p = c1 .before .before .pre in
-    lawful-said _ _ p _ (c1 .settings .ensures) (laid-is _ p _ (c1 .settings .ensures)) (c2 .caps-of .ensures) (c .dates .result) (c .dates .ensures)
+    lawful-said _ _ p _ (c1 .settings .ensures) (laid-is _ p _ (c1 .settings .ensures) .ranges) (c2 .caps-of .ensures) (c .dates .result) (c .dates .ensures)
 
 pub lawful-spec : {M : Type 1} → statement M
 lawful-spec =

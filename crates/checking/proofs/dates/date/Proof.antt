@@ -1,4 +1,4 @@
--- `dates::date` meets its contract.
+-- A date without entries needs no more than its unused bits asked.
 -- Assumes nothing.
 use borrow.Author.Tests.{not-true, not-false}
 use Rattle.checking.proofs.Answers.{said-true, said-false, relay}
@@ -22,20 +22,18 @@ empty-requires c κs = search needs
 cast-pads : tie.Need-cast-pads
 cast-pads c = search needs
 
-cast-pads-2 : tie.Need-cast-pads-2
-cast-pads-2 c = search needs
-
 pads-requires : tie.Need-pads-requires
 pads-requires c κs =
-    let z = c .before .before .before .before .before .before .before .before .before .before .before .before .before .before in
+    let z = c .before .before .before .before .before .before .before .before .before .before .before .before .before in
     (z .pre .0 .meetings .0, z .pre .0 .meetings .1, z .pre .1 .0 .stands)
 
 returns-2 : tie.Need-returns-2
 returns-2 c =
-    let c4 = c .before .before .before .before in
-    let c6 = c4 .before .before in
-    let pad = said-true (c6 .padded .result) (not-false _ (c4 .before .if1 .left)) (c6 .padded .ensures) in
-    relay (c .pads .result) (day-empty _ _ _ _ _ _ _ _ _ (c4 .empty .ensures (c .before .before .before .if2 .taken)) pad) (λ d p h. d .met p h .pad) (c .pads .ensures)
+    let c3 = c .before .before .before in
+    let c5 = c3 .before .before in
+    let pad = said-true (c5 .padded .result) (not-false _ (c3 .before .if1 .left)) (c5 .padded .ensures) in
+    let none = c3 .empty .ensures (c .before .before .if2 .taken) in
+    relay (c .pads .result) (day-empty _ _ _ _ _ _ _ _ _ _ _ none pad) (λ d p h. d .met p h .pad) (c .pads .ensures)
 
 entries-requires : tie.Need-entries-requires
 entries-requires c κs =
@@ -55,7 +53,6 @@ date-spec =
     returns
     empty-requires
     cast-pads
-    cast-pads-2
     pads-requires
     returns-2
     entries-requires

@@ -1,30 +1,78 @@
--- `dates::date_at` meets its contract: the seven slices are the date.
+-- The seven blocks are the date.
 -- Assumes nothing.
+use mathlib.Core.Path.{_∙_}
+use native.Mathlib.Omega.{arith}
+use borrow.Author.Needs.{needs}
 use Rattle.model.specs.Words.{leaves, hotelCells, standings, attendCells, confPairs, lunchTriples, rideCells}
-use Rattle.checking.proofs.Slots.{part-fits, part-date}
+use Rattle.model.specs.Kinds.{sessions, times}
+use Rattle.book.proofs.Regions.{unit-le}
+use Rattle.checking.proofs.Addresses.{block-fits, block-run, one-long}
+use Rattle.checking.proofs.Answers.{relay}
+use Rattle.checking.proofs.Facts.{day-kept, kept-day}
+use Rattle.checking.proofs.Runs.{run-order}
 use Rattle.checking.proofs.dates.date_at.Statement.{statement}
 use Rattle.checking.proofs.dates.date_at.Tie as tie
 
-part-of-requires : tie.Need-part-of-requires
-part-of-requires c κs = part-fits (c .before .pre .0) leaves
+add-next : tie.Need-add-next
+add-next c = search needs
 
-part-of-requires-2 : tie.Need-part-of-requires-2
-part-of-requires-2 c κs = part-fits (c .before .before .pre .0) hotelCells
+block-requires : tie.Need-block-requires
+block-requires c κs =
+    let z = c .before in
+    let p = z .pre .0 in
+    block-fits (z .args .s) (p .starts) _ leaves _ _ (p .laid) (omega arith) (omega (arith, p .date))
 
-part-of-requires-3 : tie.Need-part-of-requires-3
-part-of-requires-3 c κs = part-fits (c .before .before .before .pre .0) standings
+block-requires-2 : tie.Need-block-requires-2
+block-requires-2 c κs =
+    let z = c .before .before in
+    let p = z .pre .0 in
+    block-fits (z .args .s) (p .starts) _ hotelCells _ _ (p .laid) (omega arith) (omega (arith, p .date))
 
-part-of-requires-4 : tie.Need-part-of-requires-4
-part-of-requires-4 c κs = part-fits (c .before .before .before .before .pre .0) attendCells
+block-requires-3 : tie.Need-block-requires-3
+block-requires-3 c κs =
+    let z = c .before .before .before in
+    let p = z .pre .0 in
+    block-fits (z .args .s) (p .starts) _ standings _ _ (p .laid) (run-order (p .sessions)) (p .sessions .ends .most)
 
-part-of-requires-5 : tie.Need-part-of-requires-5
-part-of-requires-5 c κs = part-fits (c .before .before .before .before .before .pre .0) confPairs
+block-requires-4 : tie.Need-block-requires-4
+block-requires-4 c κs =
+    let z = c .before .before .before .before in
+    let p = z .pre .0 in
+    block-fits (z .args .s) (p .starts) _ attendCells _ _ (p .laid) (run-order (p .sessions)) (p .sessions .ends .most)
 
-part-of-requires-6 : tie.Need-part-of-requires-6
-part-of-requires-6 c κs = part-fits (c .before .before .before .before .before .before .pre .0) lunchTriples
+block-requires-5 : tie.Need-block-requires-5
+block-requires-5 c κs =
+    let z = c .before .before .before .before .before in
+    let p = z .pre .0 in
+    block-fits (z .args .s) (p .starts) _ confPairs _ _ (p .laid) (run-order (p .sessions)) (p .sessions .ends .most)
 
-part-of-requires-7 : tie.Need-part-of-requires-7
-part-of-requires-7 c κs = part-fits (c .before .before .before .before .before .before .before .pre .0) rideCells
+block-requires-6 : tie.Need-block-requires-6
+block-requires-6 c κs =
+    let z = c .before .before .before .before .before .before in
+    let p = z .pre .0 in
+    block-fits (z .args .s) (p .starts) _ lunchTriples _ _ (p .laid) (omega arith) (omega (arith, p .date))
+
+block-requires-7 : tie.Need-block-requires-7
+block-requires-7 c κs =
+    let z = c .before .before .before .before .before .before .before in
+    let p = z .pre .0 in
+    block-fits (z .args .s) (p .starts) _ rideCells _ _ (p .laid) (run-order (p .times)) (p .times .ends .most)
+
+sub-n : tie.Need-sub-n
+sub-n c = omega (arith, run-order (c .before .before .before .before .before .before .before .before .pre .0 .sessions))
+
+cast-n : tie.Need-cast-n
+cast-n c =
+    let p = c .before .before .before .before .before .before .before .before .pre .0 in
+    omega (arith, p .sessions .ends .most, unit-le _ (p .laid .ranges) sessions)
+
+sub-q : tie.Need-sub-q
+sub-q c = omega (arith, run-order (c .before .before .before .before .before .before .before .before .pre .0 .times))
+
+cast-q : tie.Need-cast-q
+cast-q c =
+    let p = c .before .before .before .before .before .before .before .before .pre .0 in
+    omega (arith, p .times .ends .most, unit-le _ (p .laid .ranges) times)
 
 date-requires : tie.Need-date-requires
 date-requires c κs =
@@ -35,22 +83,23 @@ date-requires c κs =
     let c2 = c3 .before in
     let c1 = c2 .before in
     let z = c1 .before .before in
-    let leave = part-date (z .pre .0) leaves (c1 .part-of .ensures) in
-    let hotel = part-date (z .pre .0) hotelCells (c2 .part-of2 .ensures) in
-    let stand = part-date (z .pre .0) standings (c3 .part-of3 .ensures) in
-    let attend = part-date (z .pre .0) attendCells (c4 .part-of4 .ensures) in
-    let conf = part-date (z .pre .0) confPairs (c5 .part-of5 .ensures) in
-    let lunch = part-date (z .pre .0) lunchTriples (c6 .part-of6 .ensures) in
-    let ride = part-date (z .pre .0) rideCells (c .part-of7 .ensures) in (
-      z .pre .0 .laid .ranges,
+    let p = z .pre .0 in
+    let leave = block-run (z .args .s) (p .starts) _ leaves _ _ (c1 .block .ensures) in
+    let hotel = block-run (z .args .s) (p .starts) _ hotelCells _ _ (c2 .block2 .ensures) in
+    let stand = block-run (z .args .s) (p .starts) _ standings _ _ (c3 .block3 .ensures) in
+    let attend = block-run (z .args .s) (p .starts) _ attendCells _ _ (c4 .block4 .ensures) in
+    let conf = block-run (z .args .s) (p .starts) _ confPairs _ _ (c5 .block5 .ensures) in
+    let lunch = block-run (z .args .s) (p .starts) _ lunchTriples _ _ (c6 .block6 .ensures) in
+    let ride = block-run (z .args .s) (p .starts) _ rideCells _ _ (c .block7 .ensures) in (
+      p .laid .ranges,
       (
         record {
-          leaves = leave .long;
-          hotels = hotel .long;
+          leaves = leave .long ∙ one-long _ _;
+          hotels = hotel .long ∙ one-long _ _;
           stands = stand .long;
           attends = attend .long;
           confs = conf .long;
-          lunches = lunch .long;
+          lunches = lunch .long ∙ one-long _ _;
           rides = ride .long;
         },
         z .pre .1,
@@ -67,25 +116,33 @@ returns c =
     let c2 = c3 .before in
     let c1 = c2 .before in
     let z = c1 .before .before in
-    let leave = part-date (z .pre .0) leaves (c1 .part-of .ensures) in
-    let hotel = part-date (z .pre .0) hotelCells (c2 .part-of2 .ensures) in
-    let stand = part-date (z .pre .0) standings (c3 .part-of3 .ensures) in
-    let attend = part-date (z .pre .0) attendCells (c4 .part-of4 .ensures) in
-    let conf = part-date (z .pre .0) confPairs (c5 .part-of5 .ensures) in
-    let lunch = part-date (z .pre .0) lunchTriples (c6 .part-of6 .ensures) in
-    let ride = part-date (z .pre .0) rideCells (c7 .part-of7 .ensures) in
-    rw (leave .is, hotel .is, stand .is, attend .is, conf .is, lunch .is, ride .is) at (c .date .ensures)
+    let p = z .pre .0 in
+    let leave = block-run (z .args .s) (p .starts) _ leaves _ _ (c1 .block .ensures) in
+    let hotel = block-run (z .args .s) (p .starts) _ hotelCells _ _ (c2 .block2 .ensures) in
+    let stand = block-run (z .args .s) (p .starts) _ standings _ _ (c3 .block3 .ensures) in
+    let attend = block-run (z .args .s) (p .starts) _ attendCells _ _ (c4 .block4 .ensures) in
+    let conf = block-run (z .args .s) (p .starts) _ confPairs _ _ (c5 .block5 .ensures) in
+    let lunch = block-run (z .args .s) (p .starts) _ lunchTriples _ _ (c6 .block6 .ensures) in
+    let ride = block-run (z .args .s) (p .starts) _ rideCells _ _ (c7 .block7 .ensures) in
+    relay (c .date .result) (day-kept (z .args .s) _ _ (p .laid) _ (p .date) (p .sessions) (p .times))
+    (kept-day (z .args .s) _ _ (p .laid) _ (p .date) (p .sessions) (p .times))
+    (rw (leave .is, hotel .is, stand .is, attend .is, conf .is, lunch .is, ride .is) at (c .date .ensures))
 
 pub date-at-spec : {M : Type 1} → statement M
 date-at-spec =
     tie.close
     (tie.spec
-    part-of-requires
-    part-of-requires-2
-    part-of-requires-3
-    part-of-requires-4
-    part-of-requires-5
-    part-of-requires-6
-    part-of-requires-7
+    add-next
+    block-requires
+    block-requires-2
+    block-requires-3
+    block-requires-4
+    block-requires-5
+    block-requires-6
+    block-requires-7
+    sub-n
+    cast-n
+    sub-q
+    cast-q
     date-requires
     returns)

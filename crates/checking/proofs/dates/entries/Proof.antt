@@ -1,4 +1,4 @@
--- `dates::entries` meets its contract: the tables say what the words say.
+-- The tables say what the words say.
 -- Assumes nothing.
 use mathlib.Core.Path.{refl}
 use native.Mathlib.Omega.{arith}
@@ -16,12 +16,6 @@ cast-v c = search needs
 cast-m : tie.Need-cast-m
 cast-m c = search needs
 
-cast-p : tie.Need-cast-p
-cast-p c = search needs
-
-cast-q : tie.Need-cast-q
-cast-q c = search needs
-
 cast-c : tie.Need-cast-c
 cast-c c = search needs
 
@@ -30,12 +24,12 @@ cast-k c = search needs
 
 barred-requires : tie.Need-barred-requires
 barred-requires c κs =
-    let z = c .before .before .before .before .before .before .before .before .before .before .before in
+    let z = c .before .before .before .before .before .before .before .before .before in
     (omega (arith, z .pre .0 .visitors .1, z .pre .1 .0 .leaves), omega (arith, z .pre .1 .0 .leaves))
 
 guest-row-requires : tie.Need-guest-row-requires
 guest-row-requires c κs =
-    let z = c .before .before .before .before .before .before .before .before .before .before .before .before .before in
+    let z = c .before .before .before .before .before .before .before .before .before .before .before in
     (z .pre .0 .visitors .1, (c .before .barred .ensures .size, c .before .barred .ensures .none))
 
 returns : tie.Need-returns
@@ -43,15 +37,15 @@ returns c = λ d. said-false (c .before .guest-row .result) (not-true _ (c .if1 
 
 most-requires : tie.Need-most-requires
 most-requires c κs =
-    let z = c .before .before .before .before .before .before .before .before .before .before .before .before .before .before .before .before in
+    let z = c .before .before .before .before .before .before .before .before .before .before .before .before .before .before in
     z .pre .0 .visitors .1
 
 sessions-requires : tie.Need-sessions-requires
 sessions-requires c κs =
-    let z = c .before .before .before .before .before .before .before .before .before .before .before .before .before .before .before .before .before .before in
+    let z = c .before .before .before .before .before .before .before .before .before .before .before .before .before .before .before .before in
     let r = z .pre .0 in
     let l = z .pre .1 .0 in
-    ((r .meetings .0, r .meetings .1, r .rooms .1, r .visitors .1, r .sessions .1), ((l .stands, l .attends, l .confs), c .before .most .ensures .low))
+    ((r .meetings .0, r .meetings .1, r .rooms .1, r .visitors .1), ((l .stands, l .attends, l .confs), c .before .most .ensures .low))
 
 returns-2 : tie.Need-returns-2
 returns-2 c =
@@ -65,25 +59,25 @@ add-words c = search needs
 
 barred-date-requires : tie.Need-barred-date-requires
 barred-date-requires c κs =
-    let z = c .before .before .before .before .before .before .before .before .before .before .before .before .before .before .before .before .before .before .before .before in
+    let z = c .before .before .before .before .before .before .before .before .before .before .before .before .before .before .before .before .before .before in
     (refl, z .pre .0 .meetings .1, omega (arith, z .pre .1 .0 .stands))
 
 triples-requires : tie.Need-triples-requires
 triples-requires c κs =
-    let z = c .before .before .before .before .before .before .before .before .before .before .before .before .before .before .before .before .before .before .before .before .before .before in
+    let z = c .before .before .before .before .before .before .before .before .before .before .before .before .before .before .before .before .before .before .before .before in
     ((z .pre .0 .meetings .1, z .pre .0 .dining .1, z .pre .1 .0 .lunches), z .pre .1 .1 .0 .low)
 
 returns-3 : tie.Need-returns-3
 returns-3 c =
     let c3 = c .before .before .before in
-    let z = c3 .before .before .before .before .before .before .before .before .before .before .before .before .before .before .before .before .before .before .before .before .before in
+    let z = c3 .before .before .before .before .before .before .before .before .before .before .before .before .before .before .before .before .before .before .before in
     λ d. said-false (c .before .triples .result) (not-true _ (c .if3 .taken)) (c .before .triples .ensures)
     (record { each = λ j h. triple _ _ _ _ _ (c3 .barred-date .ensures) (z .args .lunch .now) _ _ j h (d .eaten j h); sums = d .sums })
 
 guest-rows-requires : tie.Need-guest-rows-requires
 guest-rows-requires c κs =
     let c13 = c .before .before .before .before .before .before .before .before .before .before .before .before .before in
-    let z = c13 .before .before .before .before .before .before .before .before .before .before .before .before in
+    let z = c13 .before .before .before .before .before .before .before .before .before .before in
     (z .pre .0 .visitors .1, (c13 .barred .ensures .size, (c13 .barred .ensures .none, z .pre .1 .0 .rides)))
 
 returns-4 : tie.Need-returns-4
@@ -91,7 +85,7 @@ returns-4 c =
     let c3 = c .before .before .before in
     let c7 = c3 .before .before .before .before in
     let c12 = c7 .before .before .before .before .before in
-    let z = c12 .before .before .before .before .before .before .before .before .before .before .before .before .before .before in
+    let z = c12 .before .before .before .before .before .before .before .before .before .before .before .before in
     let b = c12 .before .before .barred .ensures in
     let slept = said-true (c12 .guest-row .result) (not-false _ (c7 .before .before .before .before .if1 .left)) (c12 .guest-row .ensures) in
     let sat = said-true (c7 .sessions .result) (not-false _ (c3 .before .before .before .if2 .left)) (c7 .sessions .ensures) in
@@ -114,8 +108,6 @@ entries-spec =
     (tie.spec
     cast-v
     cast-m
-    cast-p
-    cast-q
     cast-c
     cast-k
     barred-requires

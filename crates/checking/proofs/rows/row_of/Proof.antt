@@ -1,8 +1,9 @@
--- `rows::row_of` meets its contract.
+-- A row lies in the rows.
 -- Assumes nothing.
-use Rattle.checking.proofs.Parts.{part-by}
+use mathlib.Core.Path.{refl}
 use native.Mathlib.Omega.{arith}
-use Prim.Native.Nat.{_*_}
+use Prim.Native.Nat.{_+_, _*_}
+use Rattle.book.proofs.Spans.{part-by}
 use Rattle.checking.proofs.Parts.{row-inside}
 use borrow.Author.Needs.{needs}
 use Rattle.checking.proofs.rows.row_of.Statement.{statement}
@@ -29,7 +30,7 @@ part-result-end c = omega (arith, row-inside (c .args .i) (c .args .n) (c .args 
 returns : tie.Need-returns
 returns c =
     let a = c .before .args in
-    part-by (a .cells .now) (a .i * a .width) (a .width) (omega (arith, row-inside (a .i) (a .n) (a .width) (c .before .pre .0)))
+    part-by (a .cells .now) (a .i * a .width) (a .i * a .width + a .width) (a .i * a .width) (a .width) refl refl (omega (arith, row-inside (a .i) (a .n) (a .width) (c .before .pre .0)))
 
 pub row-of-spec : {M : Type 1} → statement M
 row-of-spec =
