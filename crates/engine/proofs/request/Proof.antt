@@ -29,8 +29,8 @@ enum-told c = search needs
 settings-requires : tie.Need-settings-requires
 settings-requires c κs = search needs
 
-step-requires : tie.Need-step-requires
-step-requires c κs =
+answer-one-requires : tie.Need-answer-one-requires
+answer-one-requires c κs =
     let a = c .before .before .before .before .before .before .before .before .args in
     rw (c .before .settings .ensures) (done-good (a .book .now) _ (sym (c .before .before .before .before .before .check .ensures) ∙ c .before .before .before .enum-told .given .1))
 
@@ -41,7 +41,7 @@ returns-2 : tie.Need-returns-2
 returns-2 c =
     let a = c .before .before .before .before .before .before .before .before .before .before .before .args in
     with-removal (a .book .now) (a .r) _ _
-    (c .before .before .step .ensures ∙ sym (good-call (done-good (a .book .now) _ (sym (c .before .before .before .before .before .before .before .before .check .ensures) ∙ c .before .before .before .before .before .before .enum-told .given .1)) (a .r)))
+    (c .before .before .answer-one .ensures ∙ sym (good-call (done-good (a .book .now) _ (sym (c .before .before .before .before .before .before .before .before .check .ensures) ∙ c .before .before .before .before .before .before .enum-told .given .1)) (a .r)))
 
 pub request-spec : {M : Type 1} → statement M
 request-spec =
@@ -53,6 +53,6 @@ request-spec =
     returns
     enum-told
     settings-requires
-    step-requires
+    answer-one-requires
     same-length-2
     returns-2)
