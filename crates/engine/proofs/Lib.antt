@@ -1,4 +1,5 @@
 pub mod Kept
 pub mod Outcomes
 pub mod Splices
+pub mod Told
 pub mod Whole

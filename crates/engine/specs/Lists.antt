@@ -1,10 +1,11 @@
 -- Lists of requests as words: parts of the contracts by name.
 -- Assumes nothing.
-use Prim.Native.Nat.{ℕ, _+_, _*_}
+use Prim.Native.Nat.{ℕ, zero, suc, _+_, _*_}
 use mathlib.Core.Path.{_≡_}
 use mathlib.Core.List.{List, _++_}
 use lib.ListN.{take, drop}
 use Rattle.model.specs.declared.Answer.{Answer}
+use Rattle.model.specs.declared.Answer.the-variants.{Done, Refused}
 use Rattle.model.specs.Machine.{step, requestOf, answerWords}
 use Rattle.model.specs.Words.{words}
 use Rattle.model.specs.Reading.{stateOf}
@@ -26,3 +27,8 @@ pub record All (w : List ℕ) (n : ℕ) (b a b′ a′ : List ℕ) : Type 0 wher
 
 abbrev pub asListed : Answer → List ℕ → List ℕ → Listed
 asListed r b a = record { answer = r; book = b; answers = a }
+
+-- the answer that three words tell: refused has a number other than 0
+abbrev pub toldBy : ℕ → ℕ → ℕ → Answer
+toldBy zero p v = Done v
+toldBy (suc n) p v = Refused (suc n) p

@@ -2,7 +2,7 @@
 pub mod list;
 pub mod step;
 
-use crate::step::step;
+use crate::list::answer_one;
 use book::settings::settings;
 use model::Answer;
 use model::Request;
@@ -22,5 +22,5 @@ pub fn request(book: &mut [u32], r: Request) -> Answer
         return Answer::Refused { number, place };
     }
     let s = settings(book);
-    step(book, s, r)
+    answer_one(book, s, r)
 }

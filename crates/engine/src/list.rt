@@ -10,10 +10,12 @@ ghost use mathlib.Core.Path.{_≡_};
 ghost use mathlib.Core.List.{[], _∷_};
 ghost use Prim.Native.Nat.{_+_, _*_, _/_, _≤_, min};
 ghost use lib.ListN.{length, drop};
+ghost use Rattle.model.specs.Machine;
 ghost use Rattle.model.specs.Machine.{requestOf, answerWords};
-ghost use Rattle.model.specs.Calls.{callList, serveList};
-ghost use Rattle.book.specs.Good.{Good};
-ghost use Rattle.engine.specs.Lists.{spliced, One, All, asListed};
+ghost use Rattle.model.specs.Reading.{stateOf};
+ghost use Rattle.model.specs.Calls.{called, callList, serveList};
+ghost use Rattle.book.specs.Good.{Good, answered};
+ghost use Rattle.engine.specs.Lists.{spliced, One, All, asListed, toldBy};
 
 // Request i of a list.
 fn request_at(list: &[u32], i: usize) -> Request
@@ -77,6 +79,28 @@ fn answer_all(book: &mut [u32], s: Settings, list: &[u32], answers: &mut [u32], 
         answer_at(book, s, list, answers, i);
         i += 1;
     }
+}
+
+// The answer that three words tell.
+fn answer_of(number: u32, place: u32, value: u32) -> Answer
+    ensures { λ r. ⌜ r ≡ toldBy number place value ⌝ }
+{
+    if number == 0 {
+        return Answer::Done(value);
+    }
+    Answer::Refused { number, place }
+}
+
+// One request on a good book, as a list of one: whatever judges and writes goes through the loop above, which has the only call of
+// `step`, so that the compiler puts the step into it.
+pub fn answer_one(book: &mut [u32], s: Settings, r: Request) -> Answer
+    requires { ⌜ Good s (now book) ⌝ }
+    ensures { λ a. ⌜ answered a (now (book .exit)) ≡ called (Machine.step (stateOf (now (book .entry))) r) ⌝ }
+{
+    let list = [r.kind, r.a, r.b, r.first, r.last, r.n, r.info];
+    let mut words = [0u32; 3];
+    answer_all(book, s, &list, &mut words, 1);
+    answer_of(words[0], words[1], words[2])
 }
 
 // How many requests of a list of `words` words are answered in `room` words.

@@ -2,7 +2,6 @@
 -- Assumes nothing.
 use mathlib.Core.Path.{sym, _∙_}
 use borrow.Author.Needs.{needs}
-use Rattle.book.specs.Lent.{reading}
 use Rattle.engine.proofs.Kept.{good-call}
 use Rattle.checking.proofs.Verdicts.{done-good}
 use Rattle.engine.proofs.Whole.{request-refused, with-removal}
@@ -30,9 +29,8 @@ enum-told c = search needs
 settings-requires : tie.Need-settings-requires
 settings-requires c κs = search needs
 
-step-requires : tie.Need-step-requires
-unfolding reading
-step-requires c κs =
+answer-one-requires : tie.Need-answer-one-requires
+answer-one-requires c κs =
     let a = c .before .before .before .before .before .before .before .before .args in
     rw (c .before .settings .ensures) (done-good (a .book .now) _ (sym (c .before .before .before .before .before .check .ensures) ∙ c .before .before .before .enum-told .given .1))
 
@@ -40,11 +38,10 @@ same-length-2 : tie.Need-same-length-2
 same-length-2 c = search needs
 
 returns-2 : tie.Need-returns-2
-unfolding reading
 returns-2 c =
     let a = c .before .before .before .before .before .before .before .before .before .before .before .args in
     with-removal (a .book .now) (a .r) _ _
-    (c .before .before .step .ensures ∙ sym (good-call (done-good (a .book .now) _ (sym (c .before .before .before .before .before .before .before .before .check .ensures) ∙ c .before .before .before .before .before .before .enum-told .given .1)) (a .r)))
+    (c .before .before .answer-one .ensures ∙ sym (good-call (done-good (a .book .now) _ (sym (c .before .before .before .before .before .before .before .before .check .ensures) ∙ c .before .before .before .before .before .before .enum-told .given .1)) (a .r)))
 
 pub request-spec : {M : Type 1} → statement M
 request-spec =
@@ -56,6 +53,6 @@ request-spec =
     returns
     enum-told
     settings-requires
-    step-requires
+    answer-one-requires
     same-length-2
     returns-2)
