@@ -8,6 +8,7 @@ use second::gen::{
 };
 use second::machine;
 use std::collections::BTreeMap;
+use std::fmt::Debug;
 
 /// A number from the environment: SEED for another run, SCALE for a run so many times as long.
 fn number(name: &str, usual: u64) -> u64 {
@@ -22,8 +23,26 @@ fn times(usual: u64) -> u64 {
     usual * number("SCALE", 1)
 }
 
-fn count(counts: &mut BTreeMap<u32, u32>, number: u32) {
-    *counts.entry(number).or_default() += 1;
+fn count<Key: Ord>(counts: &mut BTreeMap<Key, u32>, key: Key) {
+    *counts.entry(key).or_default() += 1;
+}
+
+/// Each of the keys was counted at least so often.
+fn want<Key: Ord + Debug>(counts: &BTreeMap<Key, u32>, keys: impl IntoIterator<Item = Key>, least: u32) {
+    for key in keys {
+        let met = counts.get(&key).copied().unwrap_or(0);
+        assert!(met >= least, "{key:?} was met {met} times, wanted {least}");
+    }
+}
+
+/// Counts the kinds done and the numbers refused of a list.
+fn count_list(done: &mut BTreeMap<u32, u32>, refused: &mut BTreeMap<u32, u32>, list: &[u32], answers: &[u32]) {
+    for (request, answer) in list.chunks_exact(7).zip(answers.chunks_exact(3)) {
+        match answer[0] {
+            0 => count(done, request[0]),
+            number => count(refused, number),
+        }
+    }
 }
 
 fn asked(requests: &[machine::Request]) -> Vec<u32> {
@@ -34,7 +53,7 @@ fn asked(requests: &[machine::Request]) -> Vec<u32> {
 #[test]
 fn lists_from_fresh() {
     let mut rng = Rng::new(seed(0));
-    let mut numbers = BTreeMap::new();
+    let (mut done, mut refused) = (BTreeMap::new(), BTreeMap::new());
     let lists = times(2500);
     for _ in 0..lists {
         let settings = sites::site_within(&mut rng, Size::Any, 60_000);
@@ -48,10 +67,11 @@ fn lists_from_fresh() {
         assert_eq!(ours_done.words(), theirs_done.words());
         assert_eq!(our_answers, their_answers, "{settings:?}");
         assert!(ours == theirs, "{settings:?}");
-        our_answers[..240].chunks(3).for_each(|answer| count(&mut numbers, answer[0]));
+        count_list(&mut done, &mut refused, &asked(&requests), &our_answers);
     }
-    println!("seed {}: {lists} lists of 80, by number {numbers:?}", seed(0));
-    assert!((3..=22).all(|number| numbers[&number] > 100));
+    println!("seed {}: {lists} lists of 80, done by kind {done:?}, refused by number {refused:?}", seed(0));
+    want(&done, 1..=20, 300);
+    want(&refused, 3..=22, 100);
 }
 
 /// One request on a lawful, damaged or junk book.
@@ -71,14 +91,15 @@ fn requests_on_raw_books() {
         count(&mut numbers, answer.number);
     }
     println!("seed {}: requests on raw books by number {numbers:?}", seed(1));
-    assert!((0..=22).all(|number| numbers.contains_key(&number)));
+    want(&numbers, 0..=2, 500);
+    want(&numbers, 3..=21, 5);
 }
 
 /// Checking: each rule broken alone, lawful books, and lists on them.
 #[test]
 fn checks_of_damaged_books() {
     let mut rng = Rng::new(seed(2));
-    let mut numbers = BTreeMap::new();
+    let (mut rules, mut junk_numbers) = (BTreeMap::new(), BTreeMap::new());
     for _ in 0..times(400) {
         let settings = sites::site_within(&mut rng, Size::Any, 30_000);
         let state = deep_state(&mut rng, settings, 40);
@@ -86,21 +107,24 @@ fn checks_of_damaged_books() {
         for rule in book::Rule::breakable() {
             let Some(damaged) = damaged(&mut rng, &state, rule) else { continue };
             assert_eq!(plain::check(&damaged).words(), [2, 0, 0], "{rule:?} {:?}", state.settings);
-            count(&mut numbers, 2);
+            count(&mut rules, rule);
         }
         let junk = junk_book(&mut rng);
         let answer = plain::check(&junk);
         assert_eq!(answer.words(), book::check(&junk).words());
-        count(&mut numbers, answer.number);
+        count(&mut junk_numbers, answer.number);
     }
-    println!("seed {}: checks by number {numbers:?}", seed(2));
+    println!("seed {}: rules broken {rules:?}, junk by number {junk_numbers:?}", seed(2));
+    want(&rules, book::Rule::breakable(), 100);
+    want(&junk_numbers, [0], 5);
+    want(&junk_numbers, [1, 2], 50);
 }
 
 /// Byte streams, cut into random chunks.
 #[test]
 fn streams_in_chunks() {
     let mut rng = Rng::new(seed(3));
-    let (mut lines, streams) = (0, times(3000));
+    let (mut numbers, streams) = (BTreeMap::new(), times(3000));
     for turn in 0..streams {
         let stream = if turn % 2 == 0 { clean_stream(&mut rng, 30) } else { damaged_stream(&mut rng, 30) };
         let expected = second::frames::frames(&stream);
@@ -113,16 +137,20 @@ fn streams_in_chunks() {
         }
         program.finish(&mut out);
         assert_eq!(out, expected);
-        lines += expected.len() / 25;
+        for line in expected.chunks(25) {
+            let number = std::str::from_utf8(&line[..8]).expect("digits");
+            count(&mut numbers, u32::from_str_radix(number, 16).expect("a number"));
+        }
     }
-    println!("seed {}: {streams} streams, {lines} answer lines", seed(3));
+    println!("seed {}: {streams} streams, answer lines by number {numbers:?}", seed(3));
+    want(&numbers, (3..=25).chain([0]), 20);
 }
 
 /// Books about half full, straight in words, with the trial load on them.
 #[test]
 fn traffic_on_full_books() {
     let mut rng = Rng::new(seed(4));
-    let mut numbers = BTreeMap::new();
+    let (mut done, mut refused) = (BTreeMap::new(), BTreeMap::new());
     for _ in 0..times(60) {
         let settings = sites::site_within(&mut rng, Size::Any, 60_000);
         let mut ours = full_book(&mut rng, &settings, 50);
@@ -135,8 +163,10 @@ fn traffic_on_full_books() {
         assert_eq!(answer.words(), book::requests(&mut theirs, &list, &mut their_answers).words());
         assert_eq!(our_answers, their_answers);
         assert!(ours == theirs);
-        our_answers.chunks(3).for_each(|answer| count(&mut numbers, answer[0]));
+        count_list(&mut done, &mut refused, &list, &our_answers);
     }
-    println!("seed {}: traffic by number {numbers:?}", seed(4));
-    assert!((1..=7).all(|number| !numbers.contains_key(&number)), "the trial load passes 3 to 7");
+    println!("seed {}: traffic, done by kind {done:?}, refused by number {refused:?}", seed(4));
+    assert!((1..=7).all(|number| !refused.contains_key(&number)), "the trial load passes 3 to 7");
+    want(&done, 1..=20, 5);
+    want(&refused, 8..=22, 20);
 }

@@ -3,6 +3,7 @@
 //! SEED=N takes another seed, SCALE=N a run N times as long. Every test prints its seed.
 
 pub mod guarded;
+pub mod reached;
 
 use std::collections::BTreeMap;
 use std::fmt::Debug;

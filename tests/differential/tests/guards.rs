@@ -1,51 +1,140 @@
-//! The exported functions stay inside what they are lent: every slice lies against a page that
-//! nobody may touch, at its first or its last word, and what is only read may not be written.
+//! The exported functions stay inside what they are lent: every slice lies between pages that nobody
+//! may touch, against the one before its first word and against the one behind its last, and what is
+//! only read may not be written.
 
+use caviar::Request;
 use differential::guarded::{End, Guarded};
-use differential::{seed, times};
+use differential::{seed, times, Counts};
 use second::book;
 use second::gen::{deep_state, junk_book, list, sites, Mix, Rng, Size};
+use second::machine;
+use std::os::unix::process::ExitStatusExt;
+use std::process::{Command, Stdio};
 
-fn words_of(rng: &mut Rng, turn: usize) -> (Vec<u32>, Vec<u32>, Vec<u32>) {
-    let settings = sites::site_within(rng, Size::Any, 20_000);
-    let mut state = deep_state(rng, settings.clone(), 30);
-    let book = match turn % 3 {
-        0 => junk_book(rng),
-        _ => book::words(&state),
-    };
+/// Settings, a book and a list, each good more often than not.
+struct Words {
+    settings: Vec<u32>,
+    book: Vec<u32>,
+    requests: Vec<machine::Request>,
+    /// The requests, and sometimes a part of one more.
+    list: Vec<u32>,
+    /// How many words of answers are lent: sometimes less than the list asks for.
+    answers: usize,
+}
+
+fn words_of(rng: &mut Rng, turn: usize) -> Words {
+    let site = sites::site_within(rng, Size::Any, 20_000);
+    let mut state = deep_state(rng, site.clone(), 30);
+    let book = if turn % 3 == 0 { junk_book(rng) } else { book::words(&state) };
     let requests = list(rng, &mut state, 25, Mix::USUAL);
-    let list = requests.iter().flat_map(|request| request.words()).collect();
-    let head = match turn % 5 {
-        0 => sites::bad_settings(rng),
-        _ => settings.words(),
-    };
-    (head, book, list)
+    let mut list: Vec<u32> = requests.iter().flat_map(|request| request.words()).collect();
+    list.truncate(list.len() - turn % 8);
+    let settings = if turn % 5 == 0 { sites::bad_settings(rng) } else { site.words() };
+    Words { settings, book, requests, list, answers: 75 - turn % 4 }
+}
+
+/// How often each function was answered with each number, at each end.
+type Answered = Counts<(&'static str, End, u32)>;
+
+fn read_only_calls(words: &Words, end: End, answered: &mut Answered) {
+    let settings = Guarded::new(&words.settings, end).read_only();
+    let length = caviar::book_len(settings.words());
+    assert_eq!(length as u64, book::book_len(&words.settings));
+    answered.add(("book_len", end, u32::from(length == 0)));
+    let lent = Guarded::new(&words.book, end).read_only();
+    let checked = caviar::check(lent.words());
+    assert_eq!(checked.words(), book::check(&words.book).words());
+    answered.add(("check", end, checked.number));
+}
+
+/// One request after the other: a later one finds the book that the earlier ones left.
+fn single_calls(words: &Words, end: End, answered: &mut Answered) {
+    let (mut lent, mut theirs) = (Guarded::new(&words.book, end), words.book.clone());
+    for request in &words.requests[..3] {
+        let answer = caviar::request(lent.words_mut(), Request::from_words(request.words()));
+        assert_eq!(answer.words(), book::request(&mut theirs, request).words());
+        assert!(lent.words() == theirs);
+        answered.add(("request", end, answer.number.min(3)));
+    }
+    let settings = Guarded::new(&words.settings, end).read_only();
+    let answer = caviar::lay(settings.words(), lent.words_mut());
+    assert_eq!(answer.words(), book::lay(&words.settings, &mut theirs).words());
+    assert!(lent.words() == theirs);
+    answered.add(("lay", end, answer.number));
+}
+
+fn list_calls(words: &Words, end: End, answered: &mut Answered) {
+    let settings = Guarded::new(&words.settings, end).read_only();
+    let list = Guarded::new(&words.list, end).read_only();
+    let mut answers = Guarded::new(&vec![9; words.answers], end);
+    let mut lent = Guarded::new(&words.book, end);
+    let (mut theirs, mut expected) = (words.book.clone(), vec![9; words.answers]);
+
+    let done = caviar::requests_words(lent.words_mut(), list.words(), answers.words_mut());
+    assert_eq!(done.words(), book::requests(&mut theirs, &words.list, &mut expected).words());
+    assert!(lent.words() == theirs && answers.words() == expected);
+    answered.add(("requests", end, done.number));
+
+    let done = caviar::serve_words(settings.words(), lent.words_mut(), list.words(), answers.words_mut());
+    assert_eq!(done.words(), book::serve(&words.settings, &mut theirs, &words.list, &mut expected).words());
+    assert!(lent.words() == theirs && answers.words() == expected);
+    answered.add(("serve", end, done.number));
 }
 
 #[test]
 fn inside_what_is_lent() {
     let mut rng = Rng::new(seed(40));
+    let mut answered = Answered::new();
     let turns = times(600);
     for turn in 0..turns {
-        let end = if turn % 2 == 0 { End::First } else { End::Last };
-        let (head, words, list) = words_of(&mut rng, turn);
-        let settings = Guarded::new(&head, end).read_only();
-        let list = Guarded::new(&list[..list.len() - turn % 8], end).read_only();
-        let mut answers = Guarded::new(&vec![9; 75 - turn % 4], end);
-        let mut lent = Guarded::new(&words, end);
-
-        assert_eq!(caviar::book_len(settings.words()) as u64, book::book_len(&head));
-        let only = Guarded::new(&words, end).read_only();
-        assert_eq!(caviar::check(only.words()).words(), book::check(&words).words());
-
-        let (mut theirs, mut expected) = (words.clone(), answers.words().to_vec());
-        let done = caviar::requests_words(lent.words_mut(), list.words(), answers.words_mut());
-        assert_eq!(done.words(), book::requests(&mut theirs, list.words(), &mut expected).words());
-        assert!(lent.words() == theirs && answers.words() == expected);
-
-        let done = caviar::serve_words(settings.words(), lent.words_mut(), list.words(), answers.words_mut());
-        assert_eq!(done.words(), book::serve(&head, &mut theirs, list.words(), &mut expected).words());
-        assert!(lent.words() == theirs && answers.words() == expected);
+        let words = words_of(&mut rng, turn);
+        for end in [End::First, End::Last] {
+            read_only_calls(&words, end, &mut answered);
+            single_calls(&words, end, &mut answered);
+            list_calls(&words, end, &mut answered);
+        }
     }
-    println!("seed {}: {turns} turns between guard pages", seed(40));
+    println!("seed {}: {turns} turns between guard pages, by function, end and number: {answered}", seed(40));
+    let met = [
+        ("book_len", vec![0, 1]),
+        ("check", vec![0, 1, 2]),
+        ("request", vec![0, 1, 2, 3]),
+        ("lay", vec![0, 24, 25]),
+        ("requests", vec![0, 1, 2]),
+        ("serve", vec![0, 24, 25]),
+    ];
+    for (function, numbers) in met {
+        for end in [End::First, End::Last] {
+            answered.assert_each(numbers.iter().map(|number| (function, end, *number)), 30);
+        }
+    }
+}
+
+/// What a process of its own does that must end it: a read beside the words, or a write to words that
+/// are only read. Run by the test below.
+#[test]
+#[ignore = "ends its process"]
+fn touches() {
+    let words = |end| Guarded::new(&[1, 2, 3], end);
+    match std::env::var("TOUCH").expect("what to touch").as_str() {
+        // SAFETY: none; the process is meant to end here.
+        "before" => unsafe { std::ptr::read_volatile(words(End::First).words().as_ptr().sub(1)) },
+        "behind" => unsafe { std::ptr::read_volatile(words(End::Last).words().as_ptr().add(3)) },
+        "only read" => {
+            let mut lent = words(End::First).read_only();
+            lent.words_mut()[0] = 7;
+            lent.words()[0]
+        }
+        _ => words(End::Last).words()[2],
+    };
+}
+
+/// The guards hold: else the test above would pass whatever a function does.
+#[test]
+fn guards_end_a_process_that_touches_them() {
+    for (touched, signal) in [("before", Some(11)), ("behind", Some(11)), ("only read", Some(11)), ("inside", None)] {
+        let mut command = Command::new(std::env::current_exe().expect("this test"));
+        command.args(["--ignored", "--exact", "touches"]).env("TOUCH", touched).stdout(Stdio::null());
+        assert_eq!(command.status().expect("a process").signal(), signal, "{touched}");
+    }
 }

@@ -1,40 +1,15 @@
 //! Requests and lists against the second program, answer by answer and word by word.
 
 use caviar::Request;
+use differential::reached::{pairs, Reached};
 use differential::{seed, times, Counts};
-use second::book;
+use second::book::{
+    self,
+    regions::{address, Name},
+};
 use second::gen::conflicts::edges;
 use second::gen::{deep_state, full_book, junk_book, list, list_from_fresh, site, sites, Mix, Rng, Size};
 use second::machine::{self, Answer, Settings, State};
-
-/// Which kinds were done and which numbers refused.
-#[derive(Default)]
-struct Reached {
-    done: Counts<u32>,
-    refused: Counts<u32>,
-}
-
-impl Reached {
-    fn add(&mut self, kind: u32, number: u32) {
-        match number {
-            0 => self.done.add(kind),
-            _ => self.refused.add(number),
-        }
-    }
-
-    fn total(&self) -> usize {
-        self.done.total() + self.refused.total()
-    }
-
-    fn print(&self, what: &str, seed: u64) {
-        println!(
-            "seed {seed}: {what}, {} requests; done by kind {}; refused by number {}",
-            self.total(),
-            self.done,
-            self.refused
-        );
-    }
-}
 
 fn ours(request: &machine::Request) -> Request {
     Request::from_words(request.words())
@@ -84,9 +59,9 @@ fn lists_from_fresh() {
         assert!(first == third, "{settings:?}");
     }
     reached.print(&format!("{lists} lists from fresh"), seed(20));
-    reached.done.assert_each(1..=20, 100);
-    reached.refused.assert_each(3..=22, 100);
-    assert_eq!(reached.total(), lists * 70);
+    reached.done.assert_each(1..=20, 300);
+    reached.numbers.assert_each(3..=22, 100);
+    reached.refused.assert_each(pairs(4..=22), 10);
 }
 
 /// The list through `requests`, with words to spare at both ends.
@@ -115,7 +90,7 @@ fn served(settings: &Settings, book: &mut [u32], requests: &[machine::Request], 
 #[test]
 fn lists_on_deep_books() {
     let mut rng = Rng::new(seed(21));
-    let mut reached = Reached::default();
+    let (mut reached, mut rooms) = (Reached::default(), Counts::new());
     for _ in 0..times(400) {
         let settings = sites::site_within(&mut rng, Size::Any, 20_000);
         let mut state = deep_state(&mut rng, settings, 60);
@@ -129,13 +104,14 @@ fn lists_on_deep_books() {
         assert_eq!(done.words(), book::requests(&mut theirs, &list, &mut expected).words());
         assert_eq!(answers, expected);
         assert!(book == theirs);
-        for (request, answer) in requests.iter().zip(answers.chunks_exact(3)) {
-            reached.add(request.kind, answer[0]);
-        }
+        reached.add_list(&list, &answers);
+        rooms.add(if room / 3 < requests.len() { "less" } else { "enough" });
     }
     reached.print("lists on deep books", seed(21));
-    reached.done.assert_each(1..=20, 20);
-    reached.refused.assert_each(3..=22, 20);
+    reached.done.assert_each(1..=20, 50);
+    reached.numbers.assert_each(3..=22, 20);
+    reached.refused.assert_each(pairs(8..=22), 15);
+    rooms.assert_each(["less", "enough"], 50);
 }
 
 /// Every fault of form, alone and with each other, on a deep book of each size.
@@ -152,7 +128,8 @@ fn faults_of_form() {
         one_by_one(&mut book, &mut state, &requests, &mut reached);
     }
     reached.print("faults of form", seed(22));
-    reached.refused.assert_each(3..=8, 20);
+    reached.numbers.assert_each([3], 20);
+    reached.refused.assert_each(pairs(4..=8), 32);
 }
 
 /// Calls on damaged and lawful books: one request, a list, a laying with a list. A refusal leaves
@@ -160,7 +137,7 @@ fn faults_of_form() {
 #[test]
 fn raw_books() {
     let mut rng = Rng::new(seed(23));
-    let mut reached = Reached::default();
+    let (mut reached, mut lists) = (Reached::default(), Counts::new());
     for turn in 0..times(12_000) {
         let settings = site(&mut rng, Size::Small);
         let mut state = deep_state(&mut rng, settings, 15);
@@ -176,15 +153,18 @@ fn raw_books() {
             _ => assert_eq!(one, before),
         }
         reached.add(request.kind, answer.number);
-        list_on_raw(&before, &words_of(&requests));
+        lists.add(list_on_raw(&before, &words_of(&requests)));
     }
     reached.print("calls on raw books", seed(23));
-    reached.refused.assert_each(1..=22, 5);
+    println!("seed {}: lists on raw books by number {lists}", seed(23));
     reached.done.assert_each(1..=20, 5);
-    assert_eq!(reached.total(), times(12_000));
+    reached.numbers.assert_each(3..=22, 4);
+    reached.numbers.assert_each([1, 2], 1000);
+    lists.assert_each([0, 1, 2], 1000);
 }
 
-fn list_on_raw(before: &[u32], list: &[u32]) {
+/// The number that a list on these words is answered with.
+fn list_on_raw(before: &[u32], list: &[u32]) -> u32 {
     let (mut book, mut theirs) = (before.to_vec(), before.to_vec());
     let (mut answers, mut expected) = ([3; 10], [3; 10]);
     let done = caviar::requests_words(&mut book, list, &mut answers);
@@ -193,6 +173,7 @@ fn list_on_raw(before: &[u32], list: &[u32]) {
     if done.number != 0 {
         assert_eq!(answers, [3; 10]);
     }
+    done.number
 }
 
 /// `serve` on good and bad settings and lengths.
@@ -237,12 +218,11 @@ fn full_books() {
         assert_eq!(done.words(), book::requests(&mut theirs, &list, &mut expected).words());
         assert_eq!(answers, expected);
         assert!(book == theirs);
-        for (request, answer) in list.chunks_exact(7).zip(answers.chunks_exact(3)) {
-            reached.add(request[0], answer[0]);
-        }
+        reached.add_list(&list, &answers);
     }
     reached.print("trial load on full books", seed(25));
-    assert_eq!(reached.total(), times(40) * 300);
+    reached.done.assert_each(1..=20, 5);
+    reached.numbers.assert_each(8..=22, 20);
 }
 
 #[test]
@@ -254,19 +234,19 @@ fn largest_book() {
     let mut book = full_book(&mut rng, &settings, 50);
     let mut theirs = book.clone();
     let mut reached = Reached::default();
-    let count = times(20_000);
-    let list = load(&book, rng.word(), count);
-    let (mut answers, mut expected) = (vec![0; 3 * count], vec![0; 3 * count]);
+    let mut list = load(&book, rng.word(), times(20_000));
+    list.extend(words_of(&erasures(&mut rng, &book, &settings, times(100))));
+    let room = list.len() / 7 * 3;
+    let (mut answers, mut expected) = (vec![0; room], vec![0; room]);
     let done = caviar::requests_words(&mut book, &list, &mut answers);
     assert_eq!(done.words(), plain::requests(&mut theirs, &list, &mut expected).words());
     assert!(answers == expected);
     assert!(book == theirs);
     assert_eq!(caviar::check(&book).words(), [0, 0, 0]);
-    for (request, answer) in list.chunks_exact(7).zip(answers.chunks_exact(3)) {
-        reached.add(request[0], answer[0]);
-    }
-    reached.print("trial load on the largest book", seed(26));
-    assert_eq!(reached.total(), count);
+    reached.add_list(&list, &answers);
+    reached.print("trial load and erasures on the largest book", seed(26));
+    reached.done.assert_each(1..=20, 20);
+    reached.numbers.assert_each((9..=21).filter(|number| *number != 14), 20);
 }
 
 /// The trial load of the plain engine, as words.
@@ -274,4 +254,27 @@ fn load(book: &[u32], seed: u32, count: usize) -> Vec<u32> {
     let site = plain::Site::of_book(book).expect("a full book has its length");
     let requests = plain::traffic::traffic(&site, seed, count);
     requests.iter().flat_map(|r| [r.kind, r.a, r.b, r.first, r.last, r.n, r.info]).collect()
+}
+
+/// So many erasures of each kind that takes a pair, of entries that stand in the book.
+fn erasures(rng: &mut Rng, book: &[u32], s: &Settings, each: usize) -> Vec<machine::Request> {
+    let regions = [
+        (5, Name::Hotel, s.dates, s.hotel_rooms),
+        (7, Name::Ride, s.times(), s.transports),
+        (11, Name::Attend, s.sessions(), s.visitors),
+        (15, Name::Lunch, s.dates, s.meetings),
+    ];
+    let mut all = Vec::new();
+    for (kind, region, slots, items) in regions {
+        let before = all.len();
+        while all.len() < before + each {
+            let (slot, item) = (rng.below(slots), rng.below(items));
+            let cell = book[address(s, region, slot, item)];
+            if cell != 0 {
+                let (a, b) = if matches!(kind, 5 | 7) { (item, cell - 1) } else { (cell - 1, item) };
+                all.push(machine::Request { kind, a, b, first: slot, last: slot, n: 0, info: 0 });
+            }
+        }
+    }
+    all
 }

@@ -3,7 +3,7 @@
 
 use differential::{seed, times, Counts};
 use second::frames::{frames, words_line};
-use second::gen::streams::stream_of;
+use second::gen::streams::{damage_line, stream_of, DAMAGES};
 use second::gen::{clean_stream, damaged_stream, Rng};
 use second::machine::Settings;
 use std::io::{ErrorKind, Read, Write};
@@ -66,13 +66,51 @@ fn streams_in_random_writes() {
         let expected = frames(&stream);
         let wrote = written(cut(&mut rng, &stream), pause);
         assert!(wrote == expected, "stream {turn}: {:?}", String::from_utf8_lossy(&stream));
-        for line in expected.chunks(25) {
-            let number = std::str::from_utf8(&line[..8]).expect("digits");
-            numbers.add(u32::from_str_radix(number, 16).expect("a number"));
-        }
+        numbers_of(&expected).into_iter().for_each(|number| numbers.add(number));
     }
     println!("seed {}: {streams} streams, {} answer lines, by number {numbers}", seed(30), numbers.total());
-    numbers.assert_each((0..=25).filter(|number| !matches!(number, 1 | 2)), 20);
+    numbers.assert_each((3..=23).chain([0]), 50);
+    numbers.assert_each([24, 25], 10);
+}
+
+/// The numbers of answer lines.
+fn numbers_of(answers: &[u8]) -> Vec<u32> {
+    let number = |line: &[u8]| u32::from_str_radix(std::str::from_utf8(&line[..8]).expect("digits"), 16);
+    answers.chunks(25).map(|line| number(line).expect("a number")).collect()
+}
+
+/// A stream of which this line alone is damaged, and is another line than before.
+fn with_damage(rng: &mut Rng, sort: u32, at: usize) -> Vec<u8> {
+    loop {
+        let clean = clean_stream(rng, 8);
+        let mut lines: Vec<Vec<u8>> = clean.split_inclusive(|byte| *byte == 10).map(<[u8]>::to_vec).collect();
+        damage_line(rng, &mut lines[at], sort);
+        let damaged = lines.concat();
+        if damaged != clean {
+            return damaged;
+        }
+    }
+}
+
+/// Each sort of damage by itself, to a frame line and to the settings line, with good lines behind it:
+/// the program goes on after the one and ends after the other.
+#[test]
+fn each_damage() {
+    let mut rng = Rng::new(seed(33));
+    let mut refused = Counts::new();
+    for sort in 0..DAMAGES {
+        for turn in 0..times(20) {
+            let (at, number) = if turn % 2 == 0 { (3, 23) } else { (0, 24) };
+            let stream = with_damage(&mut rng, sort, at);
+            let wrote = written(vec![stream.clone()], None);
+            assert_eq!(wrote, frames(&stream), "{:?}", String::from_utf8_lossy(&stream));
+            if numbers_of(&wrote).contains(&number) {
+                refused.add((sort, number));
+            }
+        }
+    }
+    println!("seed {}: lines refused by sort of damage and number: {refused}", seed(33));
+    refused.assert_each((0..DAMAGES).flat_map(|sort| [(sort, 23), (sort, 24)]), 5);
 }
 
 /// A long stream of one site, in large writes.
@@ -83,7 +121,10 @@ fn long_stream() {
     let stream = stream_of(&mut rng, settings, times(30_000));
     let wrote = written(stream.chunks(50_000).map(<[u8]>::to_vec).collect(), None);
     assert!(wrote == frames(&stream));
-    println!("seed {}: one stream of {} answer lines", seed(31), wrote.len() / 25);
+    let mut numbers = Counts::new();
+    numbers_of(&wrote).into_iter().for_each(|number| numbers.add(number));
+    println!("seed {}: one stream of {} answer lines, by number {numbers}", seed(31), numbers.total());
+    numbers.assert_each((3..=22).chain([0]), 50);
 }
 
 /// Every answer is there before the next line is written.

@@ -8,21 +8,30 @@ use second::gen::conflicts::{conflicts_of, edges, CONFLICTS};
 use second::gen::requests::opening;
 use second::gen::sites::bad_settings;
 use second::gen::{clean_stream, damaged_stream, deep_state, junk_book, list, site, tables, Mix, Rng, Size};
+use second::machine::kinds::uses;
 use second::machine::{run, step, Answer, Request, State};
-use std::collections::{BTreeMap, BTreeSet};
+use std::collections::BTreeMap;
+use std::fmt::Debug;
 
 const SEED: u64 = 0x5eed;
 
-fn count(counts: &mut BTreeMap<u32, u32>, key: u32) {
+fn count<Key: Ord>(counts: &mut BTreeMap<Key, u32>, key: Key) {
     *counts.entry(key).or_default() += 1;
+}
+
+/// Each of the keys was counted at least so often.
+fn want<Key: Ord + Debug>(counts: &BTreeMap<Key, u32>, keys: impl IntoIterator<Item = Key>, least: u32) {
+    for key in keys {
+        let met = counts.get(&key).copied().unwrap_or(0);
+        assert!(met >= least, "{key:?} was met {met} times, wanted {least}");
+    }
 }
 
 /// Lists over sites of all sizes; after each request the laws hold and a refusal changed nothing.
 #[test]
 fn lists_reach_every_kind_and_every_number() {
     let mut rng = Rng::new(SEED);
-    let (mut done, mut refused, mut conflicts) = (BTreeMap::new(), BTreeMap::new(), BTreeSet::new());
-    let mut total = 0;
+    let (mut done, mut refused, mut conflicts) = (BTreeMap::new(), BTreeMap::new(), BTreeMap::new());
     for _ in 0..200 {
         let mut state = State::empty(site(&mut rng, Size::Any));
         let start = opening(&mut rng, &state.settings);
@@ -30,7 +39,7 @@ fn lists_reach_every_kind_and_every_number() {
         let mut replayed = state.clone();
         let requests = list(&mut rng, &mut state, 60, Mix::USUAL);
         for request in &requests {
-            conflicts.extend(conflicts_of(&replayed, request));
+            conflicts_of(&replayed, request).into_iter().for_each(|decided| count(&mut conflicts, decided));
             match step(&mut replayed, request) {
                 Answer::Done(_) => count(&mut done, request.kind),
                 Answer::Refused { number, .. } => count(&mut refused, number),
@@ -38,28 +47,32 @@ fn lists_reach_every_kind_and_every_number() {
         }
         assert_eq!(replayed, state);
         assert!(book::laws_broken(&state).is_empty());
-        total += requests.len();
     }
-    println!("seed {SEED}: {total} requests, done by kind {done:?}, refused by number {refused:?}");
-    println!("conflicts decided: {} of {}", conflicts.len(), CONFLICTS.len());
-    assert_eq!(conflicts.len(), CONFLICTS.len());
-    assert_eq!(done.values().sum::<u32>() + refused.values().sum::<u32>(), total as u32);
-    assert!((1..=20).all(|kind| done.get(&kind).is_some_and(|count| *count >= 5)));
-    assert!((3..=22).all(|number| refused.get(&number).is_some_and(|count| *count >= 5)));
+    println!("seed {SEED}: done by kind {done:?}, refused by number {refused:?}, conflicts decided {conflicts:?}");
+    want(&done, 1..=20, 30);
+    want(&refused, 3..=22, 30);
+    want(&conflicts, CONFLICTS, 2);
 }
 
 /// Every fault of form, alone and with each other: questions 3 to 8 all say no to some.
 #[test]
 fn edges_meet_3_to_8() {
     let mut rng = Rng::new(SEED + 6);
-    let mut numbers = BTreeMap::new();
+    let (mut numbers, mut by_kind) = (BTreeMap::new(), BTreeMap::new());
     let settings = site(&mut rng, Size::Small);
     let mut state = deep_state(&mut rng, settings, 30);
     for request in edges(&mut rng, &state) {
-        count(&mut numbers, step(&mut state, &request).number());
+        let number = step(&mut state, &request).number();
+        count(&mut numbers, number);
+        count(&mut by_kind, (request.kind, number));
     }
     println!("seed {}: edges by number {numbers:?}", SEED + 6);
-    assert!((3..=8).all(|number| numbers.contains_key(&number)));
+    want(&by_kind, [(0, 3), (21, 3), (14, 8)], 1);
+    for (kind, used) in (1..=20).map(|kind| (kind, uses(kind).expect("a kind of the table"))) {
+        let unused = used.a.is_none() || used.b.is_none() || !used.n || !used.info;
+        let asked = [(4, unused), (5, used.a.is_some()), (6, used.b.is_some()), (7, true)];
+        want(&by_kind, asked.into_iter().filter(|(_, asked)| *asked).map(|(number, _)| (kind, number)), 3);
+    }
 }
 
 /// A call on a raw book is the machine's step from the state shown, and a refused one keeps it.
@@ -83,14 +96,16 @@ fn calls_on_raw_books() {
         count(&mut numbers, answer.number());
     }
     println!("seed {}: calls on raw books {numbers:?}", SEED + 1);
-    assert!(numbers[&0] > 100 && numbers[&1] > 100 && numbers[&2] > 100);
+    want(&numbers, 0..=2, 100);
+    want(&numbers, 3..=21, 2);
 }
 
 /// `requests` answers as `request` does one by one, as many as both slices hold.
 #[test]
 fn a_list_of_calls_answers_as_the_calls_one_by_one() {
     let mut rng = Rng::new(SEED + 2);
-    for _ in 0..60 {
+    let mut rooms = BTreeMap::new();
+    for _ in 0..240 {
         let settings = site(&mut rng, Size::Small);
         let mut state = deep_state(&mut rng, settings, 20);
         let (mut whole, mut single) = (words(&state), words(&state));
@@ -99,6 +114,7 @@ fn a_list_of_calls_answers_as_the_calls_one_by_one() {
         asked.extend(vec![9; rng.below(7) as usize]);
         let mut answers = vec![99; rng.between(20, 40) as usize];
         let number = (asked.len() / 7).min(answers.len() / 3);
+        count(&mut rooms, (number < requests.len(), asked.len() % 7 != 0));
         assert_eq!(book::requests(&mut whole, &asked, &mut answers), Answer::Done(number as u32));
         for (at, request) in requests[..number].iter().enumerate() {
             let answer = book::request(&mut single, request);
@@ -107,6 +123,8 @@ fn a_list_of_calls_answers_as_the_calls_one_by_one() {
         assert_eq!(whole, single);
         assert!(answers[3 * number..].iter().all(|word| *word == 99));
     }
+    println!("seed {}: lists by too little room and by words left over {rooms:?}", SEED + 2);
+    want(&rooms, [(false, false), (false, true), (true, false), (true, true)], 3);
 }
 
 #[test]
@@ -127,7 +145,7 @@ fn layings_reach_24_and_25() {
         count(&mut numbers, answer.number());
     }
     println!("seed {}: layings {numbers:?}", SEED + 3);
-    assert!(numbers[&0] > 100 && numbers[&24] > 100 && numbers[&25] > 100);
+    want(&numbers, [0, 24, 25], 100);
 }
 
 #[test]
@@ -147,13 +165,14 @@ fn streams_reach_23_to_25() {
         }
     }
     println!("seed {}: lines by number {numbers:?}", SEED + 4);
-    assert!([0, 23, 24, 25].into_iter().all(|number| numbers[&number] > 10));
+    want(&numbers, [0, 23, 24, 25], 10);
+    want(&numbers, (3..=22).filter(|number| *number != 14), 5);
 }
 
 /// The single cases for the specification check: 0 to 2, 24 and 25 occur, and every input is short.
 #[test]
 fn cases_hold_every_sort() {
-    let mut numbers = BTreeMap::new();
+    let (mut numbers, mut rules) = (BTreeMap::new(), BTreeMap::new());
     let all = cases::cases(SEED + 5);
     for case in &all {
         match case {
@@ -162,19 +181,37 @@ fn cases_hold_every_sort() {
             }
             Case::Input { input, output } => assert_eq!(frames(input), *output),
         }
+        let Case::Check { book, .. } = case else { continue };
+        let settings = book::calls::question_1(book);
+        let broken = settings.map(|settings| book::broken(settings, book)).unwrap_or_default();
+        broken.into_iter().for_each(|rule| count(&mut rules, rule));
     }
-    println!("seed {}: {} cases, by number {numbers:?}", SEED + 5, all.len());
-    assert!([0, 1, 2, 24, 25].into_iter().all(|number| numbers[&number] >= 4));
-    assert!(numbers[&2] as usize >= 2 * Rule::breakable().count());
+    println!("seed {}: {} cases, by number {numbers:?}, broken {rules:?}", SEED + 5, all.len());
+    want(&numbers, [0, 1, 2, 24, 25], 4);
+    want(&rules, Rule::breakable(), 2);
 }
 
 #[test]
 fn tables_have_enough_steps_of_every_sort() {
     for seed in [1, 2, 3, 20_261_115] {
+        let (mut done, mut refused, mut conflicts) = (BTreeMap::new(), BTreeMap::new(), BTreeMap::new());
         let all = tables::tables(seed);
-        let steps: usize = all.iter().map(|table| table.steps.len()).sum();
-        assert!(all.len() >= 5 && steps >= 400);
-        assert!(all.iter().all(|table| check(&table.book) == Answer::Done(0)));
-        println!("seed {seed}: {} sites, {steps} steps", all.len());
+        for table in &all {
+            let mut state = State::empty(table.settings.clone());
+            for (request, answer) in &table.steps {
+                conflicts_of(&state, request).into_iter().for_each(|decided| count(&mut conflicts, decided));
+                assert_eq!(step(&mut state, request), *answer);
+                match answer {
+                    Answer::Done(_) => count(&mut done, request.kind),
+                    Answer::Refused { number, .. } => count(&mut refused, *number),
+                }
+            }
+            assert_eq!(table.book, words(&state));
+            assert_eq!(check(&table.book), Answer::Done(0));
+        }
+        println!("seed {seed}: {} sites, done by kind {done:?}, refused by number {refused:?}", all.len());
+        want(&done, 1..=20, 1);
+        want(&refused, 3..=22, 1);
+        want(&conflicts, CONFLICTS, 1);
     }
 }

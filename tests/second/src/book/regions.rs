@@ -5,7 +5,7 @@ use super::pool_words;
 use crate::machine::Settings;
 
 /// The regions in the order of the book.
-#[derive(Clone, Copy, Debug, PartialEq, Eq)]
+#[derive(Clone, Copy, Debug, PartialEq, Eq, PartialOrd, Ord)]
 pub enum Name {
     Leave,
     Hotel,
