@@ -10,11 +10,11 @@ use Rattle.book.specs.declared.grid.Grids.{Grids}
 use Rattle.book.specs.Founds.{foundOf}
 use Rattle.book.specs.Grids.{gridsOf}
 use Rattle.book.specs.Good.{Good}
-use Rattle.judge.specs.Rows.{Ready, rowFor, rowAt}
-use Rattle.judge.specs.Asked.{holdsIn, roomLeft, notHeld}
+use Rattle.kinds.specs.Rows.{Ready, rowFor, rowAt}
+use Rattle.questions.specs.Asked.{firstWith, firstWithout, firstRowWith, holdsIn, roomLeft, notHeld}
 use Rattle.judge.specs.Chains.{asked, tested, foundOr, askedAll, answerFor, answerAt, inWords}
 use Rattle.judge.specs.Chains.{addStay, attendAdds, confAdds, lunchAdds, lunchFits, standingEnds, eraseAll, erasePair}
-use Rattle.judge.proofs.Pairs.{present-fails, absent-fails, free-fails, elsewhere-a-fails, elsewhere-v-fails}
+use Rattle.questions.proofs.Pairs.{present-fails, absent-fails, free-fails, elsewhere-a-fails, elsewhere-v-fails}
 use Rattle.model.specs.declared.Settings.{Settings}
 use Rattle.model.specs.declared.Request.{Request}
 use Rattle.model.specs.declared.Answer.{Answer}
@@ -35,6 +35,14 @@ use Rattle.model.proofs.Search.{failing-at, none-failing}
 -- a question whose search agrees, before others and as the last; a question that is the same
 step : (n : ℕ) {o u : Option ℕ} {next later : Answer} → o ≡ u → next ≡ later → asked n (foundOf o) next ≡ asked n (foundOf u) later
 step n e f = ap₂ (λ (o : Option ℕ) (a : Answer). asked n (foundOf o) a) e f
+
+-- a question that finds nothing leaves what the next may use
+then : (n : ℕ) {o u : Option ℕ} {next later : Answer} → o ≡ u → (u ≡ none → next ≡ later) → asked n (foundOf o) next ≡ asked n (foundOf u) later
+then n {o} {u} {next} {later} e f = ap (λ (o : Option ℕ). asked n (foundOf o) next) e ∙ go u f
+  where
+    go : (u : Option ℕ) → (u ≡ none → next ≡ later) → asked n (foundOf u) next ≡ asked n (foundOf u) later
+    go none f = f refl
+    go (some i) f = refl
 
 last : (n : ℕ) {o u : Option ℕ} → o ≡ u → asked n (foundOf o) (Done 0) ≡ asked n (foundOf u) (Done 0)
 last n e = ap (λ (o : Option ℕ). asked n (foundOf o) (Done 0)) e
@@ -76,29 +84,29 @@ module _ (b : List ℕ) (good : Good (settingsOf b) b) (r : Request) where
       (sym (one-slot (λ i. isSome (f i)) (r .first)) ∙ ap (λ (l : ℕ). failing (λ i. isSome (f i)) (r .first) l) e)
 
   kind-is : (k : Kind) → Ready (settingsOf b) (row k) r → inWords (settingsOf b) (gridsOf (settingsOf b)) b r k ≡ askedAll (stateOf b) r k (further k) (Done (value (stateOf b) r k))
-  unfolding stateOf readState ask test value inWords holdsIn roomLeft notHeld addStay attendAdds confAdds lunchAdds lunchFits standingEnds eraseAll erasePair
+  unfolding stateOf readState ask test value inWords holdsIn roomLeft notHeld firstWith firstWithout firstRowWith addStay attendAdds confAdds lunchAdds lunchFits standingEnds eraseAll erasePair
   kind-is addLeave h = refl
   kind-is endLeave h = refl
   kind-is removeVisitor h = refl
   kind-is addHotel h =
       same 9 (ask (stateOf b) r addHotel onLeave)
-      (step 11 (sym (absent-fails good hotels (r .a) (r .b) (r .first) (r .last) (h .a) (h .b) (h .slot)))
-      (step 12 (sym (free-fails good hotels (r .a) (r .b) (r .first) (r .last) (h .a) (h .b) (h .slot) refl))
-      (last 13 (sym (elsewhere-a-fails good hotels (r .a) (r .b) (r .first) (r .last) (h .a) (h .b) (h .slot) refl)))))
+      (then 11 (sym (absent-fails good hotels (r .a) (r .b) (r .first) (r .last) (h .a) (h .b) (h .slot)))
+      (λ passed. step 12 (sym (free-fails good hotels (r .a) (r .b) (r .first) (r .last) (h .a) (h .b) (h .slot) refl))
+      (last 13 (sym (elsewhere-a-fails good hotels (r .a) (r .b) (r .first) (r .last) (h .a) (h .b) (h .slot) passed refl)))))
   kind-is eraseHotel h = last 15 (sym (present-fails good hotels (r .a) (r .b) (r .first) (r .last) (h .a) (h .b) (h .slot)))
   kind-is addRide h =
       same 9 (ask (stateOf b) r addRide onLeave)
-      (step 11 (sym (absent-fails good rides (r .a) (r .b) (r .first) (r .last) (h .a) (h .b) (h .slot)))
-      (step 12 (sym (free-fails good rides (r .a) (r .b) (r .first) (r .last) (h .a) (h .b) (h .slot) refl))
-      (last 13 (sym (elsewhere-a-fails good rides (r .a) (r .b) (r .first) (r .last) (h .a) (h .b) (h .slot) refl)))))
+      (then 11 (sym (absent-fails good rides (r .a) (r .b) (r .first) (r .last) (h .a) (h .b) (h .slot)))
+      (λ passed. step 12 (sym (free-fails good rides (r .a) (r .b) (r .first) (r .last) (h .a) (h .b) (h .slot) refl))
+      (last 13 (sym (elsewhere-a-fails good rides (r .a) (r .b) (r .first) (r .last) (h .a) (h .b) (h .slot) passed refl)))))
   kind-is eraseRide h = last 15 (sym (present-fails good rides (r .a) (r .b) (r .first) (r .last) (h .a) (h .b) (h .slot)))
   kind-is addStanding h = refl
   kind-is endStanding h = refl
   kind-is addAttend h =
       same 9 (ask (stateOf b) r addAttend onLeave)
       (same 10 (ask (stateOf b) r addAttend (stands inA))
-      (step 11 (sym (absent-fails good attends (r .a) (r .b) (r .first) (r .last) (h .a) (h .b) (h .slot)))
-      (last 13 (sym (elsewhere-v-fails good attends (r .a) (r .b) (r .first) (r .last) (h .a) (h .b) (h .slot) refl)))))
+      (then 11 (sym (absent-fails good attends (r .a) (r .b) (r .first) (r .last) (h .a) (h .b) (h .slot)))
+      (λ passed. last 13 (sym (elsewhere-v-fails good attends (r .a) (r .b) (r .first) (r .last) (h .a) (h .b) (h .slot) passed refl)))))
   kind-is eraseAttend h = last 15 (sym (present-fails good attends (r .a) (r .b) (r .first) (r .last) (h .a) (h .b) (h .slot)))
   kind-is addConf h =
       same 10 (ask (stateOf b) r addConf (stands inB))
@@ -109,8 +117,8 @@ module _ (b : List ℕ) (good : Good (settingsOf b) b) (r : Request) where
       whole-is 8 (within 1 (capacity (settingsOf b) (r .a)) (r .n)) _
       ∙ same 8 (ask (stateOf b) r addLunch seatsFit)
       (same 10 (ask (stateOf b) r addLunch standsThatDate)
-      (step 11 (sym (absent-fails good lunches (r .a) (r .b) (r .first) (r .last) (h .a) (h .b) (h .slot)))
-      (step 13 (sym (elsewhere-v-fails good lunches (r .a) (r .b) (r .first) (r .last) (h .a) (h .b) (h .slot) refl))
+      (then 11 (sym (absent-fails good lunches (r .a) (r .b) (r .first) (r .last) (h .a) (h .b) (h .slot)))
+      (λ passed. step 13 (sym (elsewhere-v-fails good lunches (r .a) (r .b) (r .first) (r .last) (h .a) (h .b) (h .slot) passed refl))
       (same 14 (ask (stateOf b) r addLunch roomIsLeft) done))))
   kind-is eraseLunch h = last 15 (sym (present-fails good lunches (r .a) (r .b) (r .first) (r .last) (h .a) (h .b) (h .slot)))
   kind-is eraseConfAndLunch h = refl

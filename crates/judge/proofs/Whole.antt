@@ -1,7 +1,7 @@
 -- Questions 3 to 7, asked of the words of a request: what they leave to know, and the machine's answer from them on.
 -- Assumes nothing.
 use Prim.Native.Nat.{ℕ, zero, suc, _+_, _-_, _≤_, _<_}
-use mathlib.Core.Path.{_≡_, refl, sym, _∙_, ap}
+use mathlib.Core.Path.{_≡_, refl, sym, _∙_, ap, subst}
 use mathlib.Core.Bool.{Bool, true, false, not, _&&_, _||_, cond, false≢true}
 use mathlib.Core.Option.{Option, none, some}
 use mathlib.Core.List.{List, [], _∷_, _++_}
@@ -11,7 +11,10 @@ use lib.ListN.{List·getD-eq-default}
 use borrow.Author.Tests.{ltb-true, leb-true, eqb-true}
 use Rattle.book.specs.Founds.{foundOf}
 use Rattle.book.specs.Good.{Good}
-use Rattle.judge.specs.Rows.{Ready, Below, rowFor, rowAt, firstNo, fieldsNo, unusedZero, slotsFit}
+use Rattle.book.specs.Ranges.{Ranges}
+use Rattle.book.proofs.Goods.{good-laid}
+use Rattle.kinds.specs.Rows.{lastKind, rowOf, rowFor, rowAt, firstNo, fieldsNo, unusedZero, slotsFit}
+use Rattle.kinds.proofs.Limits.{fields-is}
 use Rattle.judge.specs.Chains.{asked, askedAll, answerFor, answerAt}
 use Rattle.model.specs.declared.Settings.{Settings}
 use Rattle.model.specs.declared.Request.{Request}
@@ -24,36 +27,6 @@ use Rattle.model.specs.Questions.{Question, number, ask, test, judge, always, f
 use Rattle.model.specs.Machine.{value, finish, stepKind, step}
 use Rattle.model.specs.Reading.{settingsOf, readState, stateOf}
 use Rattle.model.proofs.Search.{and-left, and-right, all-true}
-
--- ---- what questions 4 to 7 leave of a request
-
-no-zero : (n : ℕ) (t : Bool) (next : ℕ) → firstNo (suc n) t next ≡ 0 → (t ≡ true) × (next ≡ 0)
-no-zero n true next e = (refl, e)
-no-zero n false next e = absurd (omega (arith, e))
-
-below-is : (o : Option ℕ) (w : ℕ) → below o w ≡ true → Below o w
-below-is none w e = tt
-below-is (some l) w e = ltb-true w l e
-
-one-is : (t : Bool) (i j : ℕ) → not t || eqb i j ≡ true → t ≡ true → i ≡ j
-one-is true i j e f = eqb-true i j e
-one-is false i j e f = absurd (false≢true f)
-
-pub ready-by : (S : Settings) (w : Row) (r : Request) → fieldsNo S w r ≡ 0 → Ready S w r
-unfolding fieldsNo slotsFit
-ready-by S w r e =
-    let e5 = no-zero 3 (unusedZero w (r .a) (r .b) (r .n) (r .info)) _ e .1 in
-    let e6 = no-zero 4 (below (limit S (w .a)) (r .a)) _ e5 in
-    let e7 = no-zero 5 (below (limit S (w .b)) (r .b)) _ (e6 .1) in
-    let e8 = no-zero 6 (slotsFit S (w .unit) (w .one) (r .first) (r .last)) 0 (e7 .1) .0 in
-    let fit = and-left (leb (r .first) (r .last) && ltb (r .last) (slotsOf S (w .unit))) _ e8 in
-    record {
-      a = below-is (limit S (w .a)) (r .a) (e6 .0);
-      b = below-is (limit S (w .b)) (r .b) (e7 .0);
-      order = leb-true (r .first) (r .last) (and-left (leb (r .first) (r .last)) _ fit);
-      slot = ltb-true (r .last) (slotsOf S (w .unit)) (and-right (leb (r .first) (r .last)) _ fit);
-      one = one-is (w .one) (r .first) (r .last) (and-right (leb (r .first) (r .last) && ltb (r .last) (slotsOf S (w .unit))) _ e8);
-    }
 
 -- ---- the machine's answer as the questions one after the other
 
@@ -95,18 +68,21 @@ whole-four true true false t7 next = refl
 whole-four true true true false next = refl
 whole-four true true true true next = refl
 
-module _ (b : List ℕ) (r : Request) where
-  fields-are : (k : Kind) → unless (fieldsNo (settingsOf b) (row k) r) (answerFor (stateOf b) r (some k)) ≡ askedAll (stateOf b) r k (always ++ further k) (Done (value (stateOf b) r k))
-  unfolding fieldsNo unusedZero slotsFit ask test stateOf readState
+module _ (b : List ℕ) (h : Ranges (settingsOf b)) (r : Request) where
+  fields-are : (k : Kind)
+      → unless (fieldsNo (rowOf (settingsOf b) (row k)) r) (answerFor (stateOf b) r (some k))
+      ≡ askedAll (stateOf b) r k (always ++ further k) (Done (value (stateOf b) r k))
+  unfolding unusedZero slotsFit ask test stateOf readState
   fields-are k =
-      whole-four (unusedZero (row k) (r .a) (r .b) (r .n) (r .info)) (below (limit (settingsOf b) (row k .a)) (r .a))
-      (below (limit (settingsOf b) (row k .b)) (r .b)) (slotsFit (settingsOf b) (row k .unit) (row k .one) (r .first) (r .last))
+      ap (λ (n : ℕ). unless n (answerFor (stateOf b) r (some k))) (fields-is h (row k) r)
+      ∙ whole-four (unusedZero (rowOf (settingsOf b) (row k)) (r .a) (r .b) (r .n) (r .info)) (below (limit (settingsOf b) (row k .a)) (r .a))
+      (below (limit (settingsOf b) (row k .b)) (r .b)) (slotsFit (slotsOf (settingsOf b) (row k .unit)) (row k .one) (r .first) (r .last))
       (answerFor (stateOf b) r (some k))
 
-  step-by : (k : Kind) → kindOf (r .kind) ≡ some k → unless (fieldsNo (settingsOf b) (rowAt (r .kind)) r) (answerAt b r) ≡ step (stateOf b) r .answer
+  step-by : (k : Kind) → kindOf (r .kind) ≡ some k → unless (fieldsNo (rowOf (settingsOf b) (rowAt (r .kind))) r) (answerAt b r) ≡ step (stateOf b) r .answer
   unfolding step
   step-by k e =
-      ap (λ (o : Option Kind). unless (fieldsNo (settingsOf b) (rowFor o) r) (answerFor (stateOf b) r o)) e
+      ap (λ (o : Option Kind). unless (fieldsNo (rowOf (settingsOf b) (rowFor o)) r) (answerFor (stateOf b) r o)) e
       ∙ fields-are k
       ∙ sym (judge-asked (stateOf b) r k (always ++ further k) (value (stateOf b) r k))
       ∙ sym (finish-asked (stateOf b) r k (judge (stateOf b) r k (always ++ further k)))
@@ -117,7 +93,7 @@ module _ (b : List ℕ) (r : Request) where
 unfoldable named : ℕ → Bool
 named n = isSome (kindOf (suc n))
 
-all-named : all named 20 ≡ true
+all-named : all named lastKind ≡ true
 unfolding kindOf named
 all-named = refl
 
@@ -125,22 +101,22 @@ some-by : {A : Type 0} (o : Option A) → isSome o ≡ true → (a : A) × (o �
 some-by none e = absurd (false≢true e)
 some-by (some a) e = (a, refl)
 
-pub kind-some : (n : ℕ) → 1 ≤ n → n ≤ 20 → (k : Kind) × (kindOf n ≡ some k)
+pub kind-some : (n : ℕ) → 1 ≤ n → n ≤ lastKind → (k : Kind) × (kindOf n ≡ some k)
 unfolding named
 kind-some zero l h = absurd (omega (arith, l))
-kind-some (suc n) l h = some-by (kindOf (suc n)) (all-true named 20 all-named n (omega (arith, h)))
+kind-some (suc n) l h = some-by (kindOf (suc n)) (all-true named lastKind all-named n (omega (arith, h)))
 
-pub kind-none : (n : ℕ) → 20 < n → kindOf n ≡ none
+pub kind-none : (n : ℕ) → lastKind < n → kindOf n ≡ none
 unfolding kindOf
 kind-none n h = List·getD-eq-default kinds none h
 
 -- the answer of a request from question 4 on, for a good book
-pub step-is : {S : Settings} {b : List ℕ} → Good S b → (r : Request) → 1 ≤ r .kind → r .kind ≤ 20
-    → unless (fieldsNo S (rowAt (r .kind)) r) (answerAt b r) ≡ step (stateOf b) r .answer
+pub step-is : {S : Settings} {b : List ℕ} → Good S b → (r : Request) → 1 ≤ r .kind → r .kind ≤ lastKind
+    → unless (fieldsNo (rowOf S (rowAt (r .kind))) r) (answerAt b r) ≡ step (stateOf b) r .answer
 step-is {S} {b} good r l h =
     let k = kind-some (r .kind) l h in
-    ap (λ (S : Settings). unless (fieldsNo S (rowAt (r .kind)) r) (answerAt b r)) (good .read)
-    ∙ step-by b r (k .0) (k .1)
+    ap (λ (S : Settings). unless (fieldsNo (rowOf S (rowAt (r .kind))) r) (answerAt b r)) (good .read)
+    ∙ step-by b (subst Ranges (good .read) (good-laid good .ranges)) r (k .0) (k .1)
 
 -- and where no kind has the number
 pub step-none : (b : List ℕ) (r : Request) → kindOf (r .kind) ≡ none → Refused 3 0 ≡ step (stateOf b) r .answer

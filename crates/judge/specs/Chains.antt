@@ -8,21 +8,17 @@ use Rattle.book.specs.declared.found.Found.{Found}
 use Rattle.book.specs.declared.found.Found.the-variants.{At, Nothing}
 use Rattle.book.specs.declared.grid.Grid.{Grid}
 use Rattle.book.specs.declared.grid.Grids.{Grids}
-use Rattle.book.specs.declared.units.Slot.{Slot}
-use Rattle.book.specs.declared.units.Slot.the-variants.{Dates, Sessions, Times}
 use Rattle.book.specs.Founds.{foundOf}
-use Rattle.judge.specs.declared.cells.Ask.{Ask}
-use Rattle.judge.specs.declared.cells.Ask.the-variants.{Absent, Empty, Alone, Own, Present}
-use Rattle.judge.specs.Asked.{holdsAt, holdsIn, Test}
-use Rattle.judge.specs.Asked.{OnLeave, Stands, StandsThatDate, RoomLeft, HasConf, HasLunch, NoBookings, NotHeld, Attended}
+use Rattle.questions.specs.Asked.{firstWith, firstWithout, firstRowWith, slotsFail}
+use Rattle.questions.specs.Asked.{OnLeave, Stands, StandsThatDate, RoomLeft, HasConf, HasLunch, NoBookings, NotHeld, Attended}
 use Rattle.model.specs.declared.Settings.{Settings}
 use Rattle.model.specs.declared.Request.{Request}
 use Rattle.model.specs.declared.Answer.{Answer}
 use Rattle.model.specs.declared.Answer.the-variants.{Done, Refused}
-use Rattle.model.specs.Bounded.{failing, within, count}
+use Rattle.model.specs.Bounded.{within, count}
 use Rattle.model.specs.Site.{capacity, dateOfSession}
 use Rattle.model.specs.State.{State, reserved}
-use Rattle.model.specs.Kinds.{Kind, kindOf}
+use Rattle.model.specs.Kinds.{Kind, kindOf, Unit as SlotUnit, dates, sessions, times}
 use Rattle.model.specs.Kinds.{Kind.addLeave, Kind.endLeave, Kind.removeVisitor, Kind.addHotel, Kind.eraseHotel, Kind.addRide, Kind.eraseRide}
 use Rattle.model.specs.Kinds.{Kind.addStanding, Kind.endStanding, Kind.addAttend, Kind.eraseAttend, Kind.addConf, Kind.eraseConf}
 use Rattle.model.specs.Kinds.{Kind.addLunch, Kind.eraseLunch, Kind.eraseConfAndLunch, Kind.whichMeeting, Kind.countLeave, Kind.seatsLeft, Kind.freeRoom}
@@ -40,38 +36,34 @@ abbrev pub tested : ℕ → Bool → Answer → Answer
 tested n true next = next
 tested n false next = Refused n 0
 
--- the lowest slot of first..last that fails a question of cells, or a test of what the book shows
-abbrev pub cellsFail : Grid → List ℕ → Ask → ℕ → ℕ → ℕ → ℕ → Found
-cellsFail g b q j w first last = foundOf (failing (holdsAt g b q j w) first last)
-
-abbrev pub slotsFail : Settings → List ℕ → Test → ℕ → ℕ → ℕ → ℕ → Found
-slotsFail S b t who n first last = foundOf (failing (holdsIn S (stateOf b) t who n) first last)
-
-unfoldable pub addStay : Settings → List ℕ → Grid → Slot → ℕ → ℕ → ℕ → ℕ → Answer
+-- kinds 4 and 6; after question 11 the pair's own cell does not hold it, so that 13 may ask the whole row
+unfoldable pub addStay : Settings → List ℕ → Grid → SlotUnit → ℕ → ℕ → ℕ → ℕ → Answer
 addStay S b g u a v first last =
     asked 9 (slotsFail S b (OnLeave u) v 0 first last)
-    (asked 11 (cellsFail g b Absent a (v + 1) first last)
-    (asked 12 (cellsFail g b Empty a (v + 1) first last)
-    (asked 13 (cellsFail g b Alone a (v + 1) first last) (Done 0))))
+    (asked 11 (firstWith g b a (v + 1) first last)
+    (asked 12 (firstWithout g b a 0 first last)
+    (asked 13 (firstRowWith g b (v + 1) first last) (Done 0))))
 
+-- kind 10; after question 11 the visitor's cell does not hold the meeting, so that 13 asks whether it is empty
 unfoldable pub attendAdds : Settings → List ℕ → Grid → ℕ → ℕ → ℕ → ℕ → Answer
 attendAdds S b g m v first last =
-    asked 9 (slotsFail S b (OnLeave Sessions) v 0 first last)
+    asked 9 (slotsFail S b (OnLeave sessions) v 0 first last)
     (asked 10 (slotsFail S b Stands m 0 first last)
-    (asked 11 (cellsFail g b Absent v (m + 1) first last)
-    (asked 13 (cellsFail g b Own v (m + 1) first last) (Done 0))))
+    (asked 11 (firstWith g b v (m + 1) first last)
+    (asked 13 (firstWithout g b v 0 first last) (Done 0))))
 
 unfoldable pub confAdds : Settings → List ℕ → Grid → ℕ → ℕ → ℕ → ℕ → Answer
 confAdds S b g c m first last =
     asked 10 (slotsFail S b Stands m 0 first last)
-    (asked 11 (cellsFail g b Absent c (m + 1) first last)
-    (asked 12 (cellsFail g b Empty c (m + 1) first last) (Done 0)))
+    (asked 11 (firstWith g b c (m + 1) first last)
+    (asked 12 (firstWithout g b c 0 first last) (Done 0)))
 
+-- kind 14 from question 10 on; question 13 as for kind 10
 unfoldable pub lunchAdds : Settings → List ℕ → Grid → ℕ → ℕ → ℕ → ℕ → ℕ → Answer
 lunchAdds S b g d m n first last =
     asked 10 (slotsFail S b StandsThatDate m 0 first last)
-    (asked 11 (cellsFail g b Absent m (d + 1) first last)
-    (asked 13 (cellsFail g b Own m (d + 1) first last)
+    (asked 11 (firstWith g b m (d + 1) first last)
+    (asked 13 (firstWithout g b m 0 first last)
     (asked 14 (slotsFail S b RoomLeft d n first last) (Done 0))))
 
 unfoldable pub lunchFits : Settings → List ℕ → Grid → ℕ → ℕ → ℕ → ℕ → ℕ → Answer
@@ -88,7 +80,7 @@ eraseAll S b m first last =
     (asked 17 (slotsFail S b HasLunch m 0 (dateOfSession S first) (dateOfSession S last)) (Done 0))
 
 unfoldable pub erasePair : List ℕ → Grid → ℕ → ℕ → ℕ → ℕ → Answer
-erasePair b g j w first last = asked 15 (cellsFail g b Present j w first last) (Done 0)
+erasePair b g j w first last = asked 15 (firstWithout g b j w first last) (Done 0)
 
 -- done with what was found, or refused
 abbrev pub foundOr : ℕ → ℕ → Found → Answer
@@ -100,9 +92,9 @@ unfoldable pub inWords : Settings → Grids → List ℕ → Request → Kind �
 inWords S g b r addLeave = Done 0
 inWords S g b r endLeave = asked 18 (slotsFail S b NoBookings (r .b) 0 (r .first) (r .last)) (Done 0)
 inWords S g b r removeVisitor = Done (bookings (stateOf b) (r .b) (r .first) (r .last))
-inWords S g b r addHotel = addStay S b (g .hotel) Dates (r .a) (r .b) (r .first) (r .last)
+inWords S g b r addHotel = addStay S b (g .hotel) dates (r .a) (r .b) (r .first) (r .last)
 inWords S g b r eraseHotel = erasePair b (g .hotel) (r .a) (r .b + 1) (r .first) (r .last)
-inWords S g b r addRide = addStay S b (g .ride) Times (r .a) (r .b) (r .first) (r .last)
+inWords S g b r addRide = addStay S b (g .ride) times (r .a) (r .b) (r .first) (r .last)
 inWords S g b r eraseRide = erasePair b (g .ride) (r .a) (r .b + 1) (r .first) (r .last)
 inWords S g b r addStanding = Done 0
 inWords S g b r endStanding = standingEnds S b (r .a) (r .first) (r .last)

@@ -1,44 +1,44 @@
 // The questions of each kind past 7, in order, and the value of a request that is done.
 //
 // A grid is copied by `let` before it is passed on: passed as a field of `g` it would make every call lay out all the grids in memory.
-use crate::cells::Ask;
-use crate::cells::first_failing;
-use crate::slots::capacity;
-use crate::slots::first_booked;
-use crate::slots::first_held;
-use crate::slots::first_not_member;
-use crate::slots::first_off_leave;
-use crate::slots::first_over;
-use crate::slots::first_row_without;
-use crate::slots::first_without_lunch;
 use book::found::Found;
 use book::grid::Grid;
 use book::grid::Grids;
-use book::units::Slot;
 use book::units::date_of_session;
+use kinds::seats::capacity;
 use model::Answer;
+use model::Date;
 use model::Request;
 use model::Session;
 use model::Settings;
+use model::Time;
 use queries::bookings::bookings;
 use queries::dates::first_without_session;
 use queries::dates::members;
 use queries::entries::meeting_of;
 use queries::rooms::lowest_free;
 use queries::rooms::reserved;
+use questions::cells::first_not_member;
+use questions::cells::first_row_with;
+use questions::cells::first_row_without;
+use questions::cells::first_with;
+use questions::cells::first_without;
+use questions::slots::first_booked;
+use questions::slots::first_held;
+use questions::slots::first_over;
+use questions::slots::first_session_off_leave;
+use questions::slots::first_time_off_leave;
 ghost use mathlib.Core.Path.{_≡_};
-ghost use Prim.Native.Nat.{_+_, _-_, _≤_, _<_};
-ghost use lib.ListN.{length};
-ghost use Rattle.model.specs.Kinds.{slotsOf};
+ghost use Prim.Native.Nat.{_-_, _≤_, _<_};
+ghost use Rattle.model.specs.Kinds.{dates, times};
 ghost use Rattle.model.specs.Reading.{stateOf};
-ghost use Rattle.model.specs.Site.{allSessions, capacity as capacityOf};
+ghost use Rattle.model.specs.Site.{allSessions, allTimes, capacity as capacityOf};
 ghost use Rattle.model.specs.State.{reserved as reservedIn};
 ghost use Rattle.book.specs.Good.{Good};
-ghost use Rattle.book.specs.Grids.{Fits, gridsOf};
-ghost use Rattle.book.specs.Units.{unitOf};
-ghost use Rattle.judge.specs.Rows.{Ready, rowAt};
-ghost use Rattle.judge.specs.Chains.{asked, addStay, attendAdds, confAdds, lunchAdds, lunchFits, standingEnds, eraseAll, erasePair, foundOr, answerAt};
+ghost use Rattle.book.specs.Grids.{gridsOf};
 ghost use Rattle.book.specs.Lent.{reading, Lies};
+ghost use Rattle.kinds.specs.Rows.{Ready, lastKind, rowAt};
+ghost use Rattle.judge.specs.Chains.{asked, addStay, attendAdds, confAdds, lunchAdds, lunchFits, standingEnds, eraseAll, erasePair, foundOr, answerAt};
 
 // Done with 0 where the last question found no slot, or refused with its number at the slot found.
 fn settled(number: u32, f: Found) -> Answer
@@ -56,93 +56,113 @@ fn refused(number: u32, place: u32) -> Answer
     Answer::Refused { number, place }
 }
 
-// Kinds 4 and 6: the cells are those of the set, the slots of its unit.
-fn add_stay(
-    book: &[u32],
-    s: Settings,
-    leave: Grid,
-    cells: Grid,
-    u: Slot,
-    a: u32,
-    b: u32,
-    first: u32,
-    last: u32,
-) -> Answer
-    requires { ⌜ Good s (reading (now book)) ⌝ }
-    requires { ⌜ leave ≡ gridsOf s .leave ⌝ }
-    requires { ⌜ Lies cells (reading (now book)) ⌝ }
-    requires { ⌜ last < slotsOf s (unitOf u) ⌝ }
-    requires { ⌜ last < cells .slots ⌝ }
-    requires { ⌜ a < cells .items ⌝ }
-    requires { ⌜ b < s .visitors ⌝ }
-    ensures { λ r. ⌜ r ≡ addStay s (reading (now (book .entry))) cells u a b first last ⌝ }
-{
-    if let Found::At(i) = first_off_leave(book, s, leave, u, b, first, last) {
-        return refused(9, i);
-    }
-    if let Found::At(i) = first_failing(book, cells, Ask::Absent, a, b + 1, first, last) {
-        return refused(11, i);
-    }
-    if let Found::At(i) = first_failing(book, cells, Ask::Empty, a, b + 1, first, last) {
-        return refused(12, i);
-    }
-    settled(
-        13,
-        first_failing(book, cells, Ask::Alone, a, b + 1, first, last),
-    )
-}
-
-// Kind 10.
-fn add_attend(book: &[u32], s: Settings, g: Grids, a: u32, b: u32, first: u32, last: u32) -> Answer
+// Kind 4. After question 11 the room's cell does not hold the visitor, so that 13 may ask the whole row.
+fn add_hotel(book: &[u32], s: Settings, g: Grids, a: u32, b: u32, first: Date, last: Date) -> Answer
     requires { ⌜ Good s (reading (now book)) ⌝ }
     requires { ⌜ g ≡ gridsOf s ⌝ }
-    requires { ⌜ last < allSessions s ⌝ }
-    requires { ⌜ a < s .meetings ⌝ }
+    requires { ⌜ last .0 < s .dates ⌝ }
+    requires { ⌜ a < s .hotels ⌝ }
     requires { ⌜ b < s .visitors ⌝ }
-    ensures { λ r. ⌜ r ≡ attendAdds s (reading (now (book .entry))) (g .attend) a b first last ⌝ }
+    ensures { λ r. ⌜ r ≡ addStay s (reading (now (book .entry))) (g .hotel) dates a b (first .0) (last .0) ⌝ }
 {
     let leave = g.leave;
-    if let Found::At(i) = first_off_leave(book, s, leave, Slot::Sessions, b, first, last) {
+    if let Found::At(i) = first_not_member(book, leave, b, first.0, last.0) {
+        return refused(9, i);
+    }
+    let cells = g.hotel;
+    if let Found::At(i) = first_with(book, cells, a, b + 1, first.0, last.0) {
+        return refused(11, i);
+    }
+    if let Found::At(i) = first_without(book, cells, a, 0, first.0, last.0) {
+        return refused(12, i);
+    }
+    settled(13, first_row_with(book, cells, b + 1, first.0, last.0))
+}
+
+// Kind 6: the same of a transport, where leave is asked of the date of a time.
+fn add_ride(book: &[u32], s: Settings, g: Grids, a: u32, b: u32, first: Time, last: Time) -> Answer
+    requires { ⌜ Good s (reading (now book)) ⌝ }
+    requires { ⌜ g ≡ gridsOf s ⌝ }
+    requires { ⌜ last .0 < allTimes s ⌝ }
+    requires { ⌜ a < s .transports ⌝ }
+    requires { ⌜ b < s .visitors ⌝ }
+    ensures { λ r. ⌜ r ≡ addStay s (reading (now (book .entry))) (g .ride) times a b (first .0) (last .0) ⌝ }
+{
+    let leave = g.leave;
+    if let Found::At(i) = first_time_off_leave(book, s, leave, b, first, last) {
+        return refused(9, i);
+    }
+    let cells = g.ride;
+    if let Found::At(i) = first_with(book, cells, a, b + 1, first.0, last.0) {
+        return refused(11, i);
+    }
+    if let Found::At(i) = first_without(book, cells, a, 0, first.0, last.0) {
+        return refused(12, i);
+    }
+    settled(13, first_row_with(book, cells, b + 1, first.0, last.0))
+}
+
+// Kind 10. After question 11 the visitor's cell does not hold the meeting, so that 13 asks whether it is empty.
+fn add_attend(
+    book: &[u32],
+    s: Settings,
+    g: Grids,
+    a: u32,
+    b: u32,
+    first: Session,
+    last: Session,
+) -> Answer
+    requires { ⌜ Good s (reading (now book)) ⌝ }
+    requires { ⌜ g ≡ gridsOf s ⌝ }
+    requires { ⌜ last .0 < allSessions s ⌝ }
+    requires { ⌜ a < s .meetings ⌝ }
+    requires { ⌜ b < s .visitors ⌝ }
+    ensures { λ r. ⌜ r ≡ attendAdds s (reading (now (book .entry))) (g .attend) a b (first .0) (last .0) ⌝ }
+{
+    let leave = g.leave;
+    if let Found::At(i) = first_session_off_leave(book, s, leave, b, first, last) {
         return refused(9, i);
     }
     let standing = g.standing;
-    if let Found::At(i) = first_not_member(book, standing, a, first, last) {
+    if let Found::At(i) = first_not_member(book, standing, a, first.0, last.0) {
         return refused(10, i);
     }
     let cells = g.attend;
-    if let Found::At(i) = first_failing(book, cells, Ask::Absent, b, a + 1, first, last) {
+    if let Found::At(i) = first_with(book, cells, b, a + 1, first.0, last.0) {
         return refused(11, i);
     }
-    settled(
-        13,
-        first_failing(book, cells, Ask::Own, b, a + 1, first, last),
-    )
+    settled(13, first_without(book, cells, b, 0, first.0, last.0))
 }
 
 // Kind 12.
-fn add_conf(book: &[u32], s: Settings, g: Grids, a: u32, b: u32, first: u32, last: u32) -> Answer
+fn add_conf(
+    book: &[u32],
+    s: Settings,
+    g: Grids,
+    a: u32,
+    b: u32,
+    first: Session,
+    last: Session,
+) -> Answer
     requires { ⌜ Good s (reading (now book)) ⌝ }
     requires { ⌜ g ≡ gridsOf s ⌝ }
-    requires { ⌜ last < allSessions s ⌝ }
+    requires { ⌜ last .0 < allSessions s ⌝ }
     requires { ⌜ a < s .rooms ⌝ }
     requires { ⌜ b < s .meetings ⌝ }
-    ensures { λ r. ⌜ r ≡ confAdds s (reading (now (book .entry))) (g .conf) a b first last ⌝ }
+    ensures { λ r. ⌜ r ≡ confAdds s (reading (now (book .entry))) (g .conf) a b (first .0) (last .0) ⌝ }
 {
     let standing = g.standing;
-    if let Found::At(i) = first_not_member(book, standing, b, first, last) {
+    if let Found::At(i) = first_not_member(book, standing, b, first.0, last.0) {
         return refused(10, i);
     }
     let pairs = g.conf;
-    if let Found::At(i) = first_failing(book, pairs, Ask::Absent, a, b + 1, first, last) {
+    if let Found::At(i) = first_with(book, pairs, a, b + 1, first.0, last.0) {
         return refused(11, i);
     }
-    settled(
-        12,
-        first_failing(book, pairs, Ask::Empty, a, b + 1, first, last),
-    )
+    settled(12, first_without(book, pairs, a, 0, first.0, last.0))
 }
 
-// Kind 14 from question 10 on.
+// Kind 14 from question 10 on; question 13 as for kind 10.
 fn add_lunch(
     book: &[u32],
     s: Settings,
@@ -150,25 +170,25 @@ fn add_lunch(
     a: u32,
     b: u32,
     n: u32,
-    first: u32,
-    last: u32,
+    first: Date,
+    last: Date,
 ) -> Answer
     requires { ⌜ Good s (reading (now book)) ⌝ }
     requires { ⌜ g ≡ gridsOf s ⌝ }
-    requires { ⌜ last < s .dates ⌝ }
+    requires { ⌜ last .0 < s .dates ⌝ }
     requires { ⌜ a < s .dining ⌝ }
     requires { ⌜ b < s .meetings ⌝ }
     requires { ⌜ n ≤ 1000 ⌝ }
-    ensures { λ r. ⌜ r ≡ lunchAdds s (reading (now (book .entry))) (g .lunch) a b n first last ⌝ }
+    ensures { λ r. ⌜ r ≡ lunchAdds s (reading (now (book .entry))) (g .lunch) a b n (first .0) (last .0) ⌝ }
 {
     if let Found::At(i) = first_without_session(book, s, g, b, first, last) {
         return refused(10, i);
     }
     let triples = g.lunch;
-    if let Found::At(i) = first_failing(book, triples, Ask::Absent, b, a + 1, first, last) {
+    if let Found::At(i) = first_with(book, triples, b, a + 1, first.0, last.0) {
         return refused(11, i);
     }
-    if let Found::At(i) = first_failing(book, triples, Ask::Own, b, a + 1, first, last) {
+    if let Found::At(i) = first_without(book, triples, b, 0, first.0, last.0) {
         return refused(13, i);
     }
     settled(14, first_over(book, s, g, a, n, first, last))
@@ -182,15 +202,15 @@ fn lunch_fits(
     a: u32,
     b: u32,
     n: u32,
-    first: u32,
-    last: u32,
+    first: Date,
+    last: Date,
 ) -> Answer
     requires { ⌜ Good s (reading (now book)) ⌝ }
     requires { ⌜ g ≡ gridsOf s ⌝ }
-    requires { ⌜ last < s .dates ⌝ }
+    requires { ⌜ last .0 < s .dates ⌝ }
     requires { ⌜ a < s .dining ⌝ }
     requires { ⌜ b < s .meetings ⌝ }
-    ensures { λ r. ⌜ r ≡ lunchFits s (reading (now (book .entry))) (g .lunch) a b n first last ⌝ }
+    ensures { λ r. ⌜ r ≡ lunchFits s (reading (now (book .entry))) (g .lunch) a b n (first .0) (last .0) ⌝ }
 {
     if n < 1 {
         return refused(8, 0);
@@ -202,36 +222,43 @@ fn lunch_fits(
 }
 
 // Kind 9.
-fn end_standing(book: &[u32], s: Settings, g: Grids, a: u32, first: u32, last: u32) -> Answer
+fn end_standing(
+    book: &[u32],
+    s: Settings,
+    g: Grids,
+    a: u32,
+    first: Session,
+    last: Session,
+) -> Answer
     requires { ⌜ Good s (reading (now book)) ⌝ }
     requires { ⌜ g ≡ gridsOf s ⌝ }
-    requires { ⌜ last < allSessions s ⌝ }
+    requires { ⌜ last .0 < allSessions s ⌝ }
     requires { ⌜ a < s .meetings ⌝ }
-    ensures { λ r. ⌜ r ≡ standingEnds s (reading (now (book .entry))) a first last ⌝ }
+    ensures { λ r. ⌜ r ≡ standingEnds s (reading (now (book .entry))) a (first .0) (last .0) ⌝ }
 {
     if let Found::At(i) = first_held(book, s, g, a, first, last) {
         return refused(19, i);
     }
     let cells = g.attend;
-    settled(20, first_row_without(book, cells, a + 1, first, last))
+    settled(20, first_row_without(book, cells, a + 1, first.0, last.0))
 }
 
 // Kind 16: a conference room in each session, and a lunch on each date from first's to last's.
-fn erase_all(book: &[u32], s: Settings, g: Grids, b: u32, first: u32, last: u32) -> Answer
+fn erase_all(book: &[u32], s: Settings, g: Grids, b: u32, first: Session, last: Session) -> Answer
     requires { ⌜ Good s (reading (now book)) ⌝ }
     requires { ⌜ g ≡ gridsOf s ⌝ }
-    requires { ⌜ last < allSessions s ⌝ }
+    requires { ⌜ last .0 < allSessions s ⌝ }
     requires { ⌜ b < s .meetings ⌝ }
-    ensures { λ r. ⌜ r ≡ eraseAll s (reading (now (book .entry))) b first last ⌝ }
+    ensures { λ r. ⌜ r ≡ eraseAll s (reading (now (book .entry))) b (first .0) (last .0) ⌝ }
 {
     let pairs = g.conf;
-    if let Found::At(i) = first_row_without(book, pairs, b + 1, first, last) {
+    if let Found::At(i) = first_row_without(book, pairs, b + 1, first.0, last.0) {
         return refused(16, i);
     }
-    let from = date_of_session(s, Session(first));
-    let to = date_of_session(s, Session(last));
+    let from = date_of_session(s, first);
+    let to = date_of_session(s, last);
     let triples = g.lunch;
-    settled(17, first_without_lunch(book, triples, b, from.0, to.0))
+    settled(17, first_with(book, triples, b, 0, from.0, to.0))
 }
 
 // Kinds 5, 7, 11 and 15: the item's cell holds w in each slot.
@@ -241,10 +268,7 @@ fn erase(book: &[u32], cells: Grid, item: u32, w: u32, first: u32, last: u32) ->
     requires { ⌜ item < cells .items ⌝ }
     ensures { λ r. ⌜ r ≡ erasePair (reading (now (book .entry))) cells item w first last ⌝ }
 {
-    settled(
-        15,
-        first_failing(book, cells, Ask::Present, item, w, first, last),
-    )
+    settled(15, first_without(book, cells, item, w, first, last))
 }
 
 // Kinds 17 and 20: done with what was found, or refused where there is nothing.
@@ -258,12 +282,12 @@ fn found_or(number: u32, place: u32, f: Found) -> Answer
 }
 
 // Kind 19.
-fn seats_left(book: &[u32], s: Settings, g: Grids, date: u32, room: u32) -> u32
+fn seats_left(book: &[u32], s: Settings, g: Grids, date: Date, room: u32) -> u32
     requires { ⌜ Good s (reading (now book)) ⌝ }
     requires { ⌜ g ≡ gridsOf s ⌝ }
-    requires { ⌜ date < s .dates ⌝ }
+    requires { ⌜ date .0 < s .dates ⌝ }
     requires { ⌜ room < s .dining ⌝ }
-    ensures { λ r. ⌜ r ≡ capacityOf s room - reservedIn (stateOf (reading (now (book .entry)))) date room ⌝ }
+    ensures { λ r. ⌜ r ≡ capacityOf s room - reservedIn (stateOf (reading (now (book .entry)))) (date .0) room ⌝ }
 {
     capacity(s, room) - reserved(book, s, g, date, room)
 }
@@ -280,22 +304,17 @@ fn of_visitor(book: &[u32], s: Settings, g: Grids, r: Request) -> Answer
     let kind = r.kind;
     match kind {
         1 => Answer::Done(0),
-        2 => settled(18, first_booked(book, s, g, r.b, r.first, r.last)),
-        3 => Answer::Done(bookings(book, s, r.b, r.first, r.last)),
-        4 => {
-            let leave = g.leave;
-            let set = g.hotel;
-            add_stay(book, s, leave, set, Slot::Dates, r.a, r.b, r.first, r.last)
-        }
+        2 => settled(
+            18,
+            first_booked(book, s, g, r.b, Date(r.first), Date(r.last)),
+        ),
+        3 => Answer::Done(bookings(book, s, r.b, Date(r.first), Date(r.last))),
+        4 => add_hotel(book, s, g, r.a, r.b, Date(r.first), Date(r.last)),
         5 => {
             let hotel = g.hotel;
             erase(book, hotel, r.a, r.b + 1, r.first, r.last)
         }
-        6 => {
-            let leave = g.leave;
-            let set = g.ride;
-            add_stay(book, s, leave, set, Slot::Times, r.a, r.b, r.first, r.last)
-        }
+        6 => add_ride(book, s, g, r.a, r.b, Time(r.first), Time(r.last)),
         _ => {
             let ride = g.ride;
             erase(book, ride, r.a, r.b + 1, r.first, r.last)
@@ -303,12 +322,12 @@ fn of_visitor(book: &[u32], s: Settings, g: Grids, r: Request) -> Answer
     }
 }
 
-// The answer of a request whose questions up to 7 are answered yes; the last kind is 20.
+// The answer of a request whose questions up to 7 are answered yes, so that first and last are slots of the kind's unit.
 pub fn answer(book: &[u32], s: Settings, g: Grids, r: Request) -> Answer
     requires { ⌜ Good s (reading (now book)) ⌝ }
     requires { ⌜ g ≡ gridsOf s ⌝ }
     requires { ⌜ 1 ≤ r .kind ⌝ }
-    requires { ⌜ r .kind ≤ 20 ⌝ }
+    requires { ⌜ r .kind ≤ lastKind ⌝ }
     requires { ⌜ Ready s (rowAt (r .kind)) r ⌝ }
     ensures { λ a. ⌜ a ≡ answerAt (reading (now (book .entry))) r ⌝ }
 {
@@ -318,26 +337,30 @@ pub fn answer(book: &[u32], s: Settings, g: Grids, r: Request) -> Answer
     }
     match kind {
         8 => Answer::Done(0),
-        9 => end_standing(book, s, g, r.a, r.first, r.last),
-        10 => add_attend(book, s, g, r.a, r.b, r.first, r.last),
+        9 => end_standing(book, s, g, r.a, Session(r.first), Session(r.last)),
+        10 => add_attend(book, s, g, r.a, r.b, Session(r.first), Session(r.last)),
         11 => {
             let cells = g.attend;
             erase(book, cells, r.b, r.a + 1, r.first, r.last)
         }
-        12 => add_conf(book, s, g, r.a, r.b, r.first, r.last),
+        12 => add_conf(book, s, g, r.a, r.b, Session(r.first), Session(r.last)),
         13 => {
             let pairs = g.conf;
             settled(16, first_row_without(book, pairs, r.b + 1, r.first, r.last))
         }
-        14 => lunch_fits(book, s, g, r.a, r.b, r.n, r.first, r.last),
+        14 => lunch_fits(book, s, g, r.a, r.b, r.n, Date(r.first), Date(r.last)),
         15 => {
             let triples = g.lunch;
             erase(book, triples, r.b, r.a + 1, r.first, r.last)
         }
-        16 => erase_all(book, s, g, r.b, r.first, r.last),
-        17 => found_or(21, r.first, meeting_of(book, s, g, r.first, r.b)),
-        18 => Answer::Done(members(book, s, g, r.first)),
-        19 => Answer::Done(seats_left(book, s, g, r.first, r.a)),
-        _ => found_or(22, 0, lowest_free(book, s, g, r.first, r.last)),
+        16 => erase_all(book, s, g, r.b, Session(r.first), Session(r.last)),
+        17 => found_or(21, r.first, meeting_of(book, s, g, Session(r.first), r.b)),
+        18 => Answer::Done(members(book, s, g, Date(r.first))),
+        19 => Answer::Done(seats_left(book, s, g, Date(r.first), r.a)),
+        _ => found_or(
+            22,
+            0,
+            lowest_free(book, s, g, Session(r.first), Session(r.last)),
+        ),
     }
 }

@@ -1,10 +1,10 @@
 // The answer of a request on a book that passes questions 1 and 2: reads only.
 pub mod answers;
-pub mod cells;
-pub mod kinds;
-pub mod slots;
 
 use book::grid::Grids;
+use kinds::fields::first_no;
+use kinds::table::LAST_KIND;
+use kinds::table::row_of;
 use model::Answer;
 use model::Request;
 use model::Settings;
@@ -14,9 +14,6 @@ ghost use Rattle.model.specs.Reading.{stateOf};
 ghost use Rattle.book.specs.Good.{Good};
 ghost use Rattle.book.specs.Grids.{gridsOf};
 ghost use Rattle.book.specs.Lent.{reading};
-
-// The number of the last kind.
-const LAST_KIND: u32 = 20;
 
 // Every answer of the machine from question 3 on.
 pub fn judge(book: &[u32], s: Settings, g: Grids, r: Request) -> Answer
@@ -37,7 +34,7 @@ pub fn judge(book: &[u32], s: Settings, g: Grids, r: Request) -> Answer
             place: 0,
         };
     }
-    let no = kinds::fields(s, kinds::row_of(kind), r);
+    let no = first_no(row_of(s, kind), r);
     if no != 0 {
         return Answer::Refused {
             number: no,

@@ -1,13 +1,15 @@
--- `judge` meets its contract: question 3, then 4 to 7, then the kind.
+-- Question 3, then 4 to 7, then the kind.
 -- Assumes nothing.
 use Rattle.book.specs.Lent.{reading}
 use mathlib.Core.Path.{sym, _∙_, ap}
 use native.Mathlib.Omega.{arith}
 use Rattle.book.proofs.Goods.{good-laid}
-use Rattle.model.specs.Kinds.{kindOf, Row}
-use Rattle.judge.specs.Rows.{rowAt, fieldsNo}
+use Rattle.model.specs.Kinds.{kindOf}
+use Rattle.kinds.specs.declared.table.Row.{Row}
+use Rattle.kinds.specs.Rows.{rowAt, fieldsNo}
+use Rattle.kinds.proofs.Limits.{ready-by}
 use Rattle.judge.specs.Chains.{answerAt}
-use Rattle.judge.proofs.Whole.{unless, unless-some, ready-by, kind-none, step-is, step-none}
+use Rattle.judge.proofs.Whole.{unless, unless-some, kind-none, step-is, step-none}
 use borrow.Author.Needs.{needs}
 use Rattle.judge.proofs.judge.Statement.{statement}
 use Rattle.judge.proofs.judge.Tie as tie
@@ -20,14 +22,15 @@ returns-2 : tie.Need-returns-2
 returns-2 c = let a = c .before .before .before .args in step-none (reading (a .book .now)) (a .r) (kind-none (a .r .kind) (c .if2 .taken))
 
 row-of-requires : tie.Need-row-of-requires
-row-of-requires c κs = search needs
+row-of-requires c κs =
+    (good-laid (c .before .before .before .pre .0) .ranges, (omega (arith, c .before .if1 .left), c .if2 .left))
 
-fields-requires : tie.Need-fields-requires
-fields-requires c κs = good-laid (c .before .before .before .before .pre .0) .ranges
+first-no-requires : tie.Need-first-no-requires
+first-no-requires c κs = search needs
 
 returns-3 : tie.Need-returns-3
 returns-3 c = let a = c .before .before .before .before .before .before .args in
-    let e = c .before .fields .ensures ∙ ap (λ (w : Row). fieldsNo (a .s) w (a .r)) (c .before .before .row-of .ensures) in
+    let e = c .before .first-no .ensures ∙ ap (λ (w : Row). fieldsNo w (a .r)) (c .before .before .row-of .ensures) in
     sym (unless-some _ (answerAt (reading (a .book .now)) (a .r)) (c .if3 .taken))
     ∙ ap (λ n. unless n (answerAt (reading (a .book .now)) (a .r))) e
     ∙ step-is (c .before .before .before .before .before .before .pre .0) (a .r) (omega (arith, c .before .before .before .before .if1 .left)) (c .before .before .before .if2 .left)
@@ -43,8 +46,8 @@ answer-requires c κs =
           omega (arith, c .before .before .before .before .if1 .left),
           (
             c .before .before .before .if2 .left,
-            ready-by (a .s) (rowAt (a .r .kind)) (a .r)
-                (sym (c .before .fields .ensures ∙ ap (λ (w : Row). fieldsNo (a .s) w (a .r)) (c .before .before .row-of .ensures)) ∙ c .if3 .left),
+            ready-by (good-laid (p .0) .ranges) (rowAt (a .r .kind)) (a .r)
+                (sym (c .before .first-no .ensures ∙ ap (λ (w : Row). fieldsNo w (a .r)) (c .before .before .row-of .ensures)) ∙ c .if3 .left),
           ),
         ),
       ),
@@ -52,7 +55,7 @@ answer-requires c κs =
 
 returns-4 : tie.Need-returns-4
 returns-4 c = let a = c .before .before .before .before .before .before .before .args in
-    let e = c .before .before .fields .ensures ∙ ap (λ (w : Row). fieldsNo (a .s) w (a .r)) (c .before .before .before .row-of .ensures) in
+    let e = c .before .before .first-no .ensures ∙ ap (λ (w : Row). fieldsNo w (a .r)) (c .before .before .before .row-of .ensures) in
     c .answer .ensures
     ∙ ap (λ n. unless n (answerAt (reading (a .book .now)) (a .r))) (sym (c .before .if3 .left) ∙ e)
     ∙ step-is (c .before .before .before .before .before .before .before .pre .0) (a .r) (omega (arith, c .before .before .before .before .before .if1 .left)) (c .before .before .before .before .if2 .left)
@@ -64,7 +67,7 @@ judge-spec =
     returns
     returns-2
     row-of-requires
-    fields-requires
+    first-no-requires
     returns-3
     answer-requires
     returns-4)

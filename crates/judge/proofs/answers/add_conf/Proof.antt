@@ -1,14 +1,14 @@
--- `answers::add_conf` meets its contract: the questions of kind 12, one after the other.
+-- The questions of kind 12, one after the other.
 -- Assumes nothing.
 use mathlib.Core.Path.{_∙_, ap}
-use Rattle.judge.specs.Chains.{confAdds}
-use Rattle.book.specs.declared.grid.Grids.{Grids}
-use Rattle.judge.proofs.Grounds.{ground}
 use native.Mathlib.Omega.{arith}
+use Rattle.book.specs.declared.grid.Grids.{Grids}
 use Rattle.book.proofs.Goods.{good-laid}
-use Rattle.model.specs.Words.{confPairs, standings}
+use Rattle.model.specs.Words.{standings, confPairs}
 use Rattle.book.proofs.Regions.{group-lt}
-use Rattle.judge.proofs.Shown.{stands-fail}
+use Rattle.questions.proofs.Shown.{stands-fail}
+use Rattle.judge.proofs.Grounds.{ground}
+use Rattle.judge.specs.Chains.{confAdds}
 use borrow.Author.Needs.{needs}
 use Rattle.judge.proofs.answers.add_conf.Statement.{statement}
 use Rattle.judge.proofs.answers.add_conf.Tie as tie
@@ -31,23 +31,18 @@ returns c =
     let p = c .before .before .before .before .before .before .before .pre in
     let a = c .before .before .before .before .before .before .before .args in
     rw (
-      ← (c .before .before .before .before .first-not-member .ensures ∙ stands-fail (p .0) (p .1 .0) (a .b) (a .first) (a .last) (p .1 .1 .1 .1) (p .1 .1 .0)),
+      ← (c .before .before .before .before .first-not-member .ensures ∙ stands-fail (p .0) (p .1 .0) (a .first .0) (a .last .0) (a .b) (p .1 .1 .1 .1) (p .1 .1 .0)),
       c .before .before .i .given .1,
     ) (c .refused .ensures)
 
 enum-told : tie.Need-enum-told
 enum-told c = search needs
 
-add-first-failing : tie.Need-add-first-failing
-add-first-failing c =
-    omega (
-      arith,
-      good-laid (c .before .before .before .before .before .before .pre .0) .ranges .meetings,
-      c .before .before .before .before .before .before .pre .1 .1 .1 .1,
-    )
+add-first-with : tie.Need-add-first-with
+add-first-with c = let p = c .before .before .before .before .before .before .pre in omega (arith, good-laid (p .0) .ranges .meetings, p .1 .1 .1 .1)
 
-first-failing-requires : tie.Need-first-failing-requires
-first-failing-requires c κs =
+first-with-requires : tie.Need-first-with-requires
+first-with-requires c κs =
     let p = c .before .before .before .before .before .before .pre in
     ground (p .0) confPairs (ap (λ (g : Grids). g .conf) (p .1 .0)) (p .1 .1 .0) (p .1 .1 .1 .0)
 
@@ -63,25 +58,17 @@ returns-2 c =
     let p = c .before .before .before .before .before .before .before .before .before .before .before .pre in
     let a = c .before .before .before .before .before .before .before .before .before .before .before .args in
     rw (
-      ← (c .before .before .before .before .before .before .before .before .first-not-member .ensures ∙ stands-fail (p .0) (p .1 .0) (a .b) (a .first) (a .last) (p .1 .1 .1 .1) (p .1 .1 .0)),
+      ← (c .before .before .before .before .before .before .before .before .first-not-member .ensures ∙ stands-fail (p .0) (p .1 .0) (a .first .0) (a .last .0) (a .b) (p .1 .1 .1 .1) (p .1 .1 .0)),
       c .before .before .before .before .before .before .enum-told .given .1,
-      ← (c .before .before .before .before .first-failing .ensures),
+      ← (c .before .before .before .before .first-with .ensures),
       c .before .before .i2 .given .1,
     ) (c .refused2 .ensures)
 
 enum-told-2 : tie.Need-enum-told-2
 enum-told-2 c = search needs
 
-add-first-failing-2 : tie.Need-add-first-failing-2
-add-first-failing-2 c =
-    omega (
-      arith,
-      good-laid (c .before .before .before .before .before .before .before .before .before .pre .0) .ranges .meetings,
-      c .before .before .before .before .before .before .before .before .before .pre .1 .1 .1 .1,
-    )
-
-first-failing-requires-2 : tie.Need-first-failing-requires-2
-first-failing-requires-2 c κs =
+first-without-requires : tie.Need-first-without-requires
+first-without-requires c κs =
     let p = c .before .before .before .before .before .before .before .before .before .pre in
     ground (p .0) confPairs (ap (λ (g : Grids). g .conf) (p .1 .0)) (p .1 .1 .0) (p .1 .1 .1 .0)
 
@@ -94,11 +81,11 @@ returns-3 c =
     let p = c .before .before .before .before .before .before .before .before .before .before .before .pre in
     let a = c .before .before .before .before .before .before .before .before .before .before .before .args in
     rw (
-      ← (c .before .before .before .before .before .before .before .before .first-not-member .ensures ∙ stands-fail (p .0) (p .1 .0) (a .b) (a .first) (a .last) (p .1 .1 .1 .1) (p .1 .1 .0)),
+      ← (c .before .before .before .before .before .before .before .before .first-not-member .ensures ∙ stands-fail (p .0) (p .1 .0) (a .first .0) (a .last .0) (a .b) (p .1 .1 .1 .1) (p .1 .1 .0)),
       c .before .before .before .before .before .before .enum-told .given .1,
-      ← (c .before .before .before .before .first-failing .ensures),
+      ← (c .before .before .before .before .first-with .ensures),
       c .before .before .enum-told2 .given .1,
-      ← (c .before .first-failing2 .ensures),
+      ← (c .before .first-without .ensures),
     ) (c .settled .ensures)
 
 pub add-conf-spec : {M : Type 1} → statement M
@@ -110,13 +97,12 @@ add-conf-spec =
     refused-requires
     returns
     enum-told
-    add-first-failing
-    first-failing-requires
+    add-first-with
+    first-with-requires
     enum-known-i-2
     refused-requires-2
     returns-2
     enum-told-2
-    add-first-failing-2
-    first-failing-requires-2
+    first-without-requires
     settled-requires
     returns-3)

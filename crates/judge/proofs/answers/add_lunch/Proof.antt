@@ -1,19 +1,21 @@
--- `answers::add_lunch` meets its contract: the questions of kind 14 from 10 on, one after the other.
+-- The questions of kind 14 from 10 on, one after the other.
 -- Assumes nothing.
 use mathlib.Core.Path.{ap}
-use Rattle.judge.specs.Asked.{holdsIn}
-use Rattle.judge.specs.Chains.{lunchAdds}
-use Rattle.book.specs.declared.grid.Grids.{Grids}
-use Rattle.judge.proofs.Grounds.{ground}
 use native.Mathlib.Omega.{arith}
+use Rattle.book.specs.declared.grid.Grids.{Grids}
 use Rattle.book.proofs.Goods.{good-laid}
+use Rattle.questions.specs.Asked.{holdsIn}
 use Rattle.model.specs.Words.{lunchTriples}
+use Rattle.judge.proofs.Grounds.{ground}
+use Rattle.judge.specs.Chains.{lunchAdds}
 use borrow.Author.Needs.{needs}
 use Rattle.judge.proofs.answers.add_lunch.Statement.{statement}
 use Rattle.judge.proofs.answers.add_lunch.Tie as tie
 
 first-without-session-requires : tie.Need-first-without-session-requires
-first-without-session-requires c κs = let p = c .before .pre in (p .0, (p .1 .0, (p .1 .1 .1 .1 .0, p .1 .1 .0)))
+first-without-session-requires c κs =
+    let p = c .before .pre in
+    (p .0, (p .1 .0, (p .1 .1 .1 .1 .0, p .1 .1 .0)))
 
 enum-known-i : tie.Need-enum-known-i
 enum-known-i c = search needs
@@ -23,21 +25,20 @@ refused-requires c κs = search needs
 
 returns : tie.Need-returns
 unfolding lunchAdds holdsIn
-returns c = rw (← (c .before .before .before .before .first-without-session .ensures), c .before .before .i .given .1) (c .refused .ensures)
+returns c =
+    rw (
+      ← (c .before .before .before .before .first-without-session .ensures),
+      c .before .before .i .given .1,
+    ) (c .refused .ensures)
 
 enum-told : tie.Need-enum-told
 enum-told c = search needs
 
-add-first-failing : tie.Need-add-first-failing
-add-first-failing c =
-    omega (
-      arith,
-      good-laid (c .before .before .before .before .before .pre .0) .ranges .dining,
-      c .before .before .before .before .before .pre .1 .1 .1 .0,
-    )
+add-first-with : tie.Need-add-first-with
+add-first-with c = let p = c .before .before .before .before .before .pre in omega (arith, good-laid (p .0) .ranges .dining, p .1 .1 .1 .0)
 
-first-failing-requires : tie.Need-first-failing-requires
-first-failing-requires c κs =
+first-with-requires : tie.Need-first-with-requires
+first-with-requires c κs =
     let p = c .before .before .before .before .before .pre in
     ground (p .0) lunchTriples (ap (λ (g : Grids). g .lunch) (p .1 .0)) (p .1 .1 .0) (p .1 .1 .1 .1 .0)
 
@@ -53,23 +54,15 @@ returns-2 c =
     rw (
       ← (c .before .before .before .before .before .before .before .before .first-without-session .ensures),
       c .before .before .before .before .before .before .enum-told .given .1,
-      ← (c .before .before .before .before .first-failing .ensures),
+      ← (c .before .before .before .before .first-with .ensures),
       c .before .before .i2 .given .1,
     ) (c .refused2 .ensures)
 
 enum-told-2 : tie.Need-enum-told-2
 enum-told-2 c = search needs
 
-add-first-failing-2 : tie.Need-add-first-failing-2
-add-first-failing-2 c =
-    omega (
-      arith,
-      good-laid (c .before .before .before .before .before .before .before .before .pre .0) .ranges .dining,
-      c .before .before .before .before .before .before .before .before .pre .1 .1 .1 .0,
-    )
-
-first-failing-requires-2 : tie.Need-first-failing-requires-2
-first-failing-requires-2 c κs =
+first-without-requires : tie.Need-first-without-requires
+first-without-requires c κs =
     let p = c .before .before .before .before .before .before .before .before .pre in
     ground (p .0) lunchTriples (ap (λ (g : Grids). g .lunch) (p .1 .0)) (p .1 .1 .0) (p .1 .1 .1 .1 .0)
 
@@ -85,9 +78,9 @@ returns-3 c =
     rw (
       ← (c .before .before .before .before .before .before .before .before .before .before .before .first-without-session .ensures),
       c .before .before .before .before .before .before .before .before .before .enum-told .given .1,
-      ← (c .before .before .before .before .before .before .before .first-failing .ensures),
+      ← (c .before .before .before .before .before .before .before .first-with .ensures),
       c .before .before .before .before .before .enum-told2 .given .1,
-      ← (c .before .before .before .before .first-failing2 .ensures),
+      ← (c .before .before .before .before .first-without .ensures),
       c .before .before .i3 .given .1,
     ) (c .refused3 .ensures)
 
@@ -108,9 +101,9 @@ returns-4 c =
     rw (
       ← (c .before .before .before .before .before .before .before .before .before .before .before .first-without-session .ensures),
       c .before .before .before .before .before .before .before .before .before .enum-told .given .1,
-      ← (c .before .before .before .before .before .before .before .first-failing .ensures),
+      ← (c .before .before .before .before .before .before .before .first-with .ensures),
       c .before .before .before .before .before .enum-told2 .given .1,
-      ← (c .before .before .before .before .first-failing2 .ensures),
+      ← (c .before .before .before .before .first-without .ensures),
       c .before .before .enum-told3 .given .1,
       ← (c .before .first-over .ensures),
     ) (c .settled .ensures)
@@ -124,14 +117,13 @@ add-lunch-spec =
     refused-requires
     returns
     enum-told
-    add-first-failing
-    first-failing-requires
+    add-first-with
+    first-with-requires
     enum-known-i-2
     refused-requires-2
     returns-2
     enum-told-2
-    add-first-failing-2
-    first-failing-requires-2
+    first-without-requires
     enum-known-i-3
     refused-requires-3
     returns-3

@@ -1,18 +1,18 @@
--- `answers::answer` meets its contract: in each arm the kind's number gives what questions 5 to 7 leave, and the answer is the model's.
+-- In each arm the kind's number gives what questions 5 to 7 leave, and the answer is the model's.
 -- Assumes nothing.
 use mathlib.Core.Path.{refl, _∙_, ap}
 use native.Mathlib.Omega.{arith}
 use Rattle.book.specs.declared.grid.Grids.{Grids}
 use Rattle.book.proofs.Goods.{good-laid}
+use Rattle.model.specs.declared.Answer.the-variants.{Done}
 use Rattle.model.specs.Kinds.{kindOf}
 use Rattle.model.specs.Kinds.{Kind.addStanding, Kind.endStanding, Kind.addAttend, Kind.eraseAttend, Kind.addConf, Kind.eraseConf}
 use Rattle.model.specs.Kinds.{Kind.addLunch, Kind.eraseLunch, Kind.eraseConfAndLunch, Kind.whichMeeting, Kind.countLeave, Kind.seatsLeft, Kind.freeRoom}
 use Rattle.model.specs.Words.{attendCells, confPairs, lunchTriples}
-use Rattle.model.specs.declared.Answer.the-variants.{Done}
+use Rattle.kinds.proofs.Numbers.{last-kind}
+use Rattle.questions.proofs.Shown.{conf-fail}
 use Rattle.judge.specs.Chains.{asked, foundOr, inWords}
-use Rattle.judge.proofs.Numbers.{last-kind}
 use Rattle.judge.proofs.Grounds.{ground, row-ground}
-use Rattle.judge.proofs.Shown.{conf-fail}
 use Rattle.judge.proofs.Meanings.{answer-is, ready-at}
 use borrow.Author.Needs.{needs}
 use Rattle.judge.proofs.answers.answer.Statement.{statement}
@@ -169,16 +169,17 @@ returns-6 : tie.Need-returns-6
 unfolding kindOf inWords
 returns-6 c =
     let p = c .before .before .before .before .pre in
-    c .add-conf .ensures ∙ answer-is (p .0) (p .1 .0) (c .before .before .before .before .args .r) 12 addConf (c .before .match .keys5) refl (p .1 .1 .1 .1)
+    c .add-conf .ensures
+    ∙ answer-is (p .0) (p .1 .0) (c .before .before .before .before .args .r) 12 addConf (c .before .match .keys5) refl (p .1 .1 .1 .1)
 
 returns-7 : tie.Need-returns-7
 unfolding kindOf inWords
 returns-7 c =
     let p = c .before .before .before .before .before .before .before .pre in
-    let r = c .before .before .before .before .before .before .before .args .r in
     let h = ready-at 13 (c .before .before .before .before .match .keys6) (p .1 .1 .1 .1) in
     c .settled .ensures
-    ∙ ap (λ f. asked 16 f (Done 0)) (c .before .first-row-without .ensures ∙ conf-fail (p .0) (p .1 .0) (r .b) (r .first) (r .last) (h .b) (omega (arith, h .slot)))
+    ∙ ap (λ f. asked 16 f (Done 0))
+    (c .before .first-row-without .ensures ∙ conf-fail (p .0) (p .1 .0) (c .before .before .before .before .before .before .before .args .r .first) (c .before .before .before .before .before .before .before .args .r .last) (c .before .before .before .before .before .before .before .args .r .b) (h .b) (omega (arith, h .slot)))
     ∙ answer-is (p .0) (p .1 .0) (c .before .before .before .before .before .before .before .args .r) 13 eraseConf (c .before .before .before .before .match .keys6) refl (p .1 .1 .1 .1)
 
 returns-8 : tie.Need-returns-8

@@ -1,13 +1,13 @@
--- `answers::end_standing` meets its contract: the questions of kind 9, one after the other.
+-- The questions of kind 9, one after the other.
 -- Assumes nothing.
-use Rattle.judge.specs.Chains.{standingEnds}
-use native.Mathlib.Omega.{arith}
 use mathlib.Core.Path.{_∙_, ap}
+use native.Mathlib.Omega.{arith}
 use Rattle.book.specs.declared.grid.Grids.{Grids}
 use Rattle.book.proofs.Goods.{good-laid}
 use Rattle.model.specs.Words.{attendCells}
+use Rattle.questions.proofs.Shown.{attended-fail}
 use Rattle.judge.proofs.Grounds.{row-ground}
-use Rattle.judge.proofs.Shown.{attended-fail}
+use Rattle.judge.specs.Chains.{standingEnds}
 use borrow.Author.Needs.{needs}
 use Rattle.judge.proofs.answers.end_standing.Statement.{statement}
 use Rattle.judge.proofs.answers.end_standing.Tie as tie
@@ -23,7 +23,11 @@ refused-requires c κs = search needs
 
 returns : tie.Need-returns
 unfolding standingEnds
-returns c = rw (← (c .before .before .before .before .first-held .ensures), c .before .before .i .given .1) (c .refused .ensures)
+returns c =
+    rw (
+      ← (c .before .before .before .before .first-held .ensures),
+      c .before .before .i .given .1,
+    ) (c .refused .ensures)
 
 enum-told : tie.Need-enum-told
 enum-told c = search needs
@@ -32,7 +36,9 @@ add-first-row-without : tie.Need-add-first-row-without
 add-first-row-without c = let p = c .before .before .before .before .before .pre in omega (arith, good-laid (p .0) .ranges .meetings, p .1 .1 .1)
 
 first-row-without-requires : tie.Need-first-row-without-requires
-first-row-without-requires c κs = let p = c .before .before .before .before .before .pre in row-ground (p .0) attendCells (ap (λ (g : Grids). g .attend) (p .1 .0)) (p .1 .1 .0)
+first-row-without-requires c κs =
+    let p = c .before .before .before .before .before .pre in
+    row-ground (p .0) attendCells (ap (λ (g : Grids). g .attend) (p .1 .0)) (p .1 .1 .0)
 
 settled-requires : tie.Need-settled-requires
 settled-requires c κs = search needs
@@ -45,7 +51,7 @@ returns-2 c =
     rw (
       ← (c .before .before .before .before .before .first-held .ensures),
       c .before .before .before .enum-told .given .1,
-      ← (c .before .first-row-without .ensures ∙ attended-fail (p .0) (p .1 .0) (a .a) (a .first) (a .last) (p .1 .1 .1) (p .1 .1 .0)),
+      ← (c .before .first-row-without .ensures ∙ attended-fail (p .0) (p .1 .0) (a .first .0) (a .last .0) (a .a) (p .1 .1 .1) (p .1 .1 .0)),
     ) (c .settled .ensures)
 
 pub end-standing-spec : {M : Type 1} → statement M

@@ -1,16 +1,16 @@
--- `answers::erase_all` meets its contract: the questions of kind 16, one after the other.
+-- The questions of kind 16, one after the other.
 -- Assumes nothing.
-use Rattle.judge.specs.Chains.{eraseAll}
-use Rattle.book.proofs.Goods.{good-laid}
-use native.Mathlib.Omega.{arith}
-use Prim.Native.Nat.{_<_}
-use Rattle.book.specs.declared.units.Slot.the-variants.{Sessions}
-use Rattle.book.proofs.Regions.{date-lt}
 use mathlib.Core.Path.{_∙_, ap}
+use native.Mathlib.Omega.{arith}
 use Rattle.book.specs.declared.grid.Grids.{Grids}
+use Rattle.book.proofs.Goods.{good-laid}
+use Prim.Native.Nat.{_<_}
+use Rattle.model.specs.Kinds.{sessions}
 use Rattle.model.specs.Words.{confPairs, lunchTriples}
+use Rattle.book.proofs.Regions.{date-lt}
+use Rattle.questions.proofs.Shown.{conf-fail, lunch-fail}
 use Rattle.judge.proofs.Grounds.{ground, row-ground}
-use Rattle.judge.proofs.Shown.{conf-fail, lunch-fail}
+use Rattle.judge.specs.Chains.{eraseAll}
 use borrow.Author.Needs.{needs}
 use Rattle.judge.proofs.answers.erase_all.Statement.{statement}
 use Rattle.judge.proofs.answers.erase_all.Tie as tie
@@ -19,7 +19,9 @@ add-first-row-without : tie.Need-add-first-row-without
 add-first-row-without c = let p = c .before .before .pre in omega (arith, good-laid (p .0) .ranges .meetings, p .1 .1 .1)
 
 first-row-without-requires : tie.Need-first-row-without-requires
-first-row-without-requires c κs = let p = c .before .before .pre in row-ground (p .0) confPairs (ap (λ (g : Grids). g .conf) (p .1 .0)) (p .1 .1 .0)
+first-row-without-requires c κs =
+    let p = c .before .before .pre in
+    row-ground (p .0) confPairs (ap (λ (g : Grids). g .conf) (p .1 .0)) (p .1 .1 .0)
 
 enum-known-i : tie.Need-enum-known-i
 enum-known-i c = search needs
@@ -33,7 +35,7 @@ returns c =
     let p = c .before .before .before .before .before .before .before .pre in
     let a = c .before .before .before .before .before .before .before .args in
     rw (
-      ← (c .before .before .before .before .first-row-without .ensures ∙ conf-fail (p .0) (p .1 .0) (a .b) (a .first) (a .last) (p .1 .1 .1) (p .1 .1 .0)),
+      ← (c .before .before .before .before .first-row-without .ensures ∙ conf-fail (p .0) (p .1 .0) (a .first .0) (a .last .0) (a .b) (p .1 .1 .1) (p .1 .1 .0)),
       c .before .before .i .given .1,
     ) (c .refused .ensures)
 
@@ -46,11 +48,11 @@ date-of-session-requires c κs = good-laid (c .before .before .before .before .b
 date-of-session-requires-2 : tie.Need-date-of-session-requires-2
 date-of-session-requires-2 c κs = good-laid (c .before .before .before .before .before .before .pre .0) .ranges
 
-first-without-lunch-requires : tie.Need-first-without-lunch-requires
-first-without-lunch-requires c κs =
+first-with-requires : tie.Need-first-with-requires
+first-with-requires c κs =
     let p = c .before .before .before .before .before .before .before .before .pre in
     let a = c .before .before .before .before .before .before .before .before .args in
-    let d : c .before .date-of-session2 .result .0 < a .s .dates = rw (c .before .date-of-session2 .ensures) (date-lt (a .s) (good-laid (p .0) .ranges) Sessions (a .last) (p .1 .1 .0)) in
+    let d : c .before .date-of-session2 .result .0 < a .s .dates = rw (c .before .date-of-session2 .ensures) (date-lt (a .s) (good-laid (p .0) .ranges) sessions (a .last .0) (p .1 .1 .0)) in
     ground (p .0) lunchTriples (ap (λ (g : Grids). g .lunch) (p .1 .0)) d (p .1 .1 .1)
 
 settled-requires : tie.Need-settled-requires
@@ -63,13 +65,13 @@ returns-2 c =
     let a = c .before .before .before .before .before .before .before .before .before .before .args in
     let from = c .before .before .before .before .date-of-session in
     let to = c .before .before .before .date-of-session2 in
-    let d : to .result .0 < a .s .dates = rw (to .ensures) (date-lt (a .s) (good-laid (p .0) .ranges) Sessions (a .last) (p .1 .1 .0)) in
+    let d : to .result .0 < a .s .dates = rw (to .ensures) (date-lt (a .s) (good-laid (p .0) .ranges) sessions (a .last .0) (p .1 .1 .0)) in
     rw (
-      ← (c .before .before .before .before .before .before .before .first-row-without .ensures ∙ conf-fail (p .0) (p .1 .0) (a .b) (a .first) (a .last) (p .1 .1 .1) (p .1 .1 .0)),
+      ← (c .before .before .before .before .before .before .before .first-row-without .ensures ∙ conf-fail (p .0) (p .1 .0) (a .first .0) (a .last .0) (a .b) (p .1 .1 .1) (p .1 .1 .0)),
       c .before .before .before .before .before .enum-told .given .1,
       ← (from .ensures),
       ← (to .ensures),
-      ← (c .before .first-without-lunch .ensures ∙ lunch-fail (p .0) (p .1 .0) (a .b) (from .result .0) (to .result .0) (p .1 .1 .1) d),
+      ← (c .before .first-with .ensures ∙ lunch-fail (p .0) (p .1 .0) (from .result .0) (to .result .0) (a .b) (p .1 .1 .1) d),
     ) (c .settled .ensures)
 
 pub erase-all-spec : {M : Type 1} → statement M
@@ -84,6 +86,6 @@ erase-all-spec =
     enum-told
     date-of-session-requires
     date-of-session-requires-2
-    first-without-lunch-requires
+    first-with-requires
     settled-requires
     returns-2)

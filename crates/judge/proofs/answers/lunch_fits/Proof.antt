@@ -2,7 +2,7 @@
 -- Assumes nothing.
 use borrow.Author.Tests.{le-leb, lt-leb}
 use Rattle.judge.specs.Chains.{lunchFits}
-use Rattle.judge.proofs.Seats.{capacity-le}
+use Rattle.questions.proofs.Seats.{capacity-le}
 use Rattle.book.proofs.Goods.{good-laid}
 use native.Mathlib.Omega.{arith}
 use borrow.Author.Needs.{needs}

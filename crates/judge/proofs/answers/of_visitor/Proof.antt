@@ -1,15 +1,15 @@
--- `answers::of_visitor` meets its contract: in each arm the kind's number gives what questions 5 to 7 leave, and the answer is the model's.
+-- In each arm the kind's number gives what questions 5 to 7 leave, and the answer is the model's.
 -- Assumes nothing.
 use mathlib.Core.Path.{refl, _∙_, ap}
 use native.Mathlib.Omega.{arith}
 use Rattle.book.specs.declared.grid.Grids.{Grids}
 use Rattle.book.proofs.Goods.{good-laid}
+use Rattle.model.specs.declared.Answer.the-variants.{Done}
 use Rattle.model.specs.Kinds.{kindOf}
 use Rattle.model.specs.Kinds.{Kind.addLeave, Kind.endLeave, Kind.removeVisitor, Kind.addHotel, Kind.eraseHotel, Kind.addRide, Kind.eraseRide}
 use Rattle.model.specs.Words.{hotelCells, rideCells}
-use Rattle.model.specs.declared.Answer.the-variants.{Done}
+use Rattle.kinds.proofs.Numbers.{last-kind}
 use Rattle.judge.specs.Chains.{asked, inWords}
-use Rattle.judge.proofs.Numbers.{last-kind}
 use Rattle.judge.proofs.Grounds.{ground}
 use Rattle.judge.proofs.Meanings.{answer-is, ready-at}
 use borrow.Author.Needs.{needs}
@@ -33,13 +33,12 @@ bookings-requires c κs =
     let h = ready-at 3 (c .match .keys3) (p .1 .1 .1 .1) in
     (p .0, (h .b, (omega (arith, h .order), omega (arith, h .order, h .slot))))
 
-add-stay-requires : tie.Need-add-stay-requires
+add-hotel-requires : tie.Need-add-hotel-requires
 unfolding kindOf
-add-stay-requires c κs =
-    let p = c .before .before .before .before .pre in
-    let h = ready-at 4 (c .before .before .match .keys4) (p .1 .1 .1 .1) in
-    let q = ground (p .0) hotelCells (ap (λ (g : Grids). g .hotel) (p .1 .0)) (h .slot) (h .a) in
-    (p .0, (ap (λ (g : Grids). g .leave) (p .1 .0), (q .0, (h .slot, (q .1 .0, (q .1 .1, h .b))))))
+add-hotel-requires c κs =
+    let p = c .before .before .pre in
+    let h = ready-at 4 (c .match .keys4) (p .1 .1 .1 .1) in
+    (p .0, (p .1 .0, (h .slot, (h .a, h .b))))
 
 add-erase : tie.Need-add-erase
 unfolding kindOf
@@ -55,13 +54,12 @@ erase-requires c κs =
     let h = ready-at 5 (c .before .before .match .keys5) (p .1 .1 .1 .1) in
     ground (p .0) hotelCells (ap (λ (g : Grids). g .hotel) (p .1 .0)) (omega (arith, h .order, h .slot)) (h .a)
 
-add-stay-requires-2 : tie.Need-add-stay-requires-2
+add-ride-requires : tie.Need-add-ride-requires
 unfolding kindOf
-add-stay-requires-2 c κs =
-    let p = c .before .before .before .before .pre in
-    let h = ready-at 6 (c .before .before .match .keys6) (p .1 .1 .1 .1) in
-    let q = ground (p .0) rideCells (ap (λ (g : Grids). g .ride) (p .1 .0)) (h .slot) (h .a) in
-    (p .0, (ap (λ (g : Grids). g .leave) (p .1 .0), (q .0, (h .slot, (q .1 .0, (q .1 .1, h .b))))))
+add-ride-requires c κs =
+    let p = c .before .before .pre in
+    let h = ready-at 6 (c .match .keys6) (p .1 .1 .1 .1) in
+    (p .0, (p .1 .0, (h .slot, (h .a, h .b))))
 
 add-erase-2 : tie.Need-add-erase-2
 unfolding kindOf
@@ -101,8 +99,9 @@ returns-3 c =
 returns-4 : tie.Need-returns-4
 unfolding kindOf inWords
 returns-4 c =
-    let p = c .before .before .before .before .before .pre in
-    c .add-stay .ensures ∙ answer-is (p .0) (p .1 .0) (c .before .before .before .before .before .args .r) 4 addHotel (c .before .before .before .match .keys4) refl (p .1 .1 .1 .1)
+    let p = c .before .before .before .pre in
+    c .add-hotel .ensures
+    ∙ answer-is (p .0) (p .1 .0) (c .before .before .before .args .r) 4 addHotel (c .before .match .keys4) refl (p .1 .1 .1 .1)
 
 returns-5 : tie.Need-returns-5
 unfolding kindOf inWords
@@ -114,8 +113,9 @@ returns-5 c =
 returns-6 : tie.Need-returns-6
 unfolding kindOf inWords
 returns-6 c =
-    let p = c .before .before .before .before .before .pre in
-    c .add-stay2 .ensures ∙ answer-is (p .0) (p .1 .0) (c .before .before .before .before .before .args .r) 6 addRide (c .before .before .before .match .keys6) refl (p .1 .1 .1 .1)
+    let p = c .before .before .before .pre in
+    c .add-ride .ensures
+    ∙ answer-is (p .0) (p .1 .0) (c .before .before .before .args .r) 6 addRide (c .before .match .keys6) refl (p .1 .1 .1 .1)
 
 returns-7 : tie.Need-returns-7
 unfolding kindOf inWords
@@ -131,10 +131,10 @@ of-visitor-spec =
     first-booked-requires
     settled-requires
     bookings-requires
-    add-stay-requires
+    add-hotel-requires
     add-erase
     erase-requires
-    add-stay-requires-2
+    add-ride-requires
     add-erase-2
     erase-requires-2
     returns

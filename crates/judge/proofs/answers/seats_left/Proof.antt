@@ -2,7 +2,7 @@
 -- Assumes nothing.
 use native.Mathlib.Omega.{arith}
 use Rattle.book.proofs.Goods.{good-laid}
-use Rattle.judge.proofs.Seats.{reserved-le}
+use Rattle.questions.proofs.Seats.{reserved-le}
 use borrow.Author.Needs.{needs}
 use Rattle.judge.proofs.answers.seats_left.Statement.{statement}
 use Rattle.judge.proofs.answers.seats_left.Tie as tie
@@ -17,7 +17,7 @@ sub-result : tie.Need-sub-result
 sub-result c =
     let p = c .before .before .before .pre in
     let a = c .before .before .before .args in
-    omega (arith, c .before .capacity .ensures, c .reserved .ensures, reserved-le (p .0) (a .date) (a .room) (p .1 .1 .0) (p .1 .1 .1))
+    omega (arith, c .before .capacity .ensures, c .reserved .ensures, reserved-le (p .0) (a .date .0) (a .room) (p .1 .1 .0) (p .1 .1 .1))
 
 returns : tie.Need-returns
 returns c = search needs

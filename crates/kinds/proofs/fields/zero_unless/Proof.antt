@@ -1,0 +1,14 @@
+-- By the case of the flag.
+-- Assumes nothing.
+use borrow.Author.Needs.{needs}
+use Rattle.kinds.proofs.fields.zero_unless.Statement.{statement}
+use Rattle.kinds.proofs.fields.zero_unless.Tie as tie
+
+returns : tie.Need-returns
+returns c = search needs
+
+returns-2 : tie.Need-returns-2
+returns-2 c = rw (c .if1 .left)
+
+pub zero-unless-spec : {M : Type 1} → statement M
+zero-unless-spec = tie.close (tie.spec returns returns-2)

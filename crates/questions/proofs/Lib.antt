@@ -1,0 +1,4 @@
+pub mod Passed
+pub mod Seats
+pub mod Shown
+pub mod Pairs

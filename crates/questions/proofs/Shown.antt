@@ -1,0 +1,65 @@
+-- Searches over the cells of one grid find what the state shows: questions 9, 10, 16, 17 and 20.
+-- Assumes nothing.
+use Prim.Native.Nat.{ℕ, _+_, _/_, _%_, _<_}
+use mathlib.Core.Path.{_≡_, sym, _∙_, ap, ap₂}
+use mathlib.Core.Bool.{not}
+use mathlib.Core.List.{List}
+use native.Mathlib.Omega.{arith}
+use lib.Dec.{eqb}
+use Rattle.book.specs.declared.grid.Grid.{Grid}
+use Rattle.book.specs.declared.grid.Grids.{Grids}
+use Rattle.book.specs.Founds.{foundOf}
+use Rattle.book.specs.Grids.{cellAt, gridOf, gridsOf}
+use Rattle.book.specs.Rows.{rowHas}
+use Rattle.book.specs.Good.{Good}
+use Rattle.book.proofs.Entries.{failing-same}
+use Rattle.questions.specs.Asked.{firstWith, firstRowWithout, firstNotMember, slotsFail, holdsIn}
+use Rattle.questions.specs.Asked.{OnLeave, Stands, HasConf, HasLunch, Attended}
+use Rattle.model.specs.declared.Settings.{Settings}
+use Rattle.model.specs.Bounded.{bit}
+use Rattle.model.specs.Kinds.{Unit as SlotUnit, dates, dateOf}
+use Rattle.model.specs.Reading.{stateOf}
+use Rattle.model.specs.Site.{allSessions}
+use Rattle.model.specs.Words.{leaves}
+use Rattle.queries.proofs.Shows.{leave-is, standing-is, conf-held-is, attended-is, lunch-held-is}
+
+module _ {S : Settings} {b : List ℕ} (good : Good S b) where
+  -- the bit of a visitor on the date of a slot
+  pub leave-at : {g : Grid} (u : SlotUnit) (i : ℕ) {d v : ℕ} → g ≡ gridOf S leaves → d ≡ dateOf S u i → dateOf S u i < S .dates → v < S .visitors
+      → bit (cellAt g b d (v / 32)) (v % 32) ≡ holdsIn S (stateOf b) (OnLeave u) v 0 i
+  unfolding holdsIn
+  leave-at {g} u i {d} {v} e f h k =
+      ap₂ (λ (g : Grid) (d : ℕ). bit (cellAt g b d (v / 32)) (v % 32)) e f ∙ sym (leave-is S b good (dateOf S u i) v h k)
+
+  module _ {g : Grids} (e : g ≡ gridsOf S) (first last : ℕ) where
+    pub leave-fail : (v : ℕ) → v < S .visitors → last < S .dates → firstNotMember (g .leave) b v first last ≡ slotsFail S b (OnLeave dates) v 0 first last
+    unfolding firstNotMember holdsIn
+    leave-fail v k h =
+        ap foundOf (failing-same _ _ first last (λ i l j.
+        ap (λ (g : Grids). bit (cellAt (g .leave) b i (v / 32)) (v % 32)) e ∙ sym (leave-is S b good i v (omega (arith, j, h)) k)))
+
+    -- the sets of a meeting
+    module _ (m : ℕ) (k : m < S .meetings) where
+      pub stands-fail : last < allSessions S → firstNotMember (g .standing) b m first last ≡ slotsFail S b Stands m 0 first last
+      unfolding firstNotMember holdsIn
+      stands-fail h =
+          ap foundOf (failing-same _ _ first last (λ i l j.
+          ap (λ (g : Grids). bit (cellAt (g .standing) b i (m / 32)) (m % 32)) e ∙ sym (standing-is S b good i m (omega (arith, j, h)) k)))
+
+      pub conf-fail : last < allSessions S → firstRowWithout (g .conf) b (m + 1) first last ≡ slotsFail S b HasConf m 0 first last
+      unfolding firstRowWithout holdsIn
+      conf-fail h =
+          ap foundOf (failing-same _ _ first last (λ i l j.
+          ap (λ (g : Grids). rowHas (g .conf) b i (m + 1)) e ∙ sym (conf-held-is S b good i m (omega (arith, j, h)) k)))
+
+      pub attended-fail : last < allSessions S → firstRowWithout (g .attend) b (m + 1) first last ≡ slotsFail S b Attended m 0 first last
+      unfolding firstRowWithout holdsIn
+      attended-fail h =
+          ap foundOf (failing-same _ _ first last (λ i l j.
+          ap (λ (g : Grids). rowHas (g .attend) b i (m + 1)) e ∙ sym (attended-is S b good i m (omega (arith, j, h)) k)))
+
+      pub lunch-fail : last < S .dates → firstWith (g .lunch) b m 0 first last ≡ slotsFail S b HasLunch m 0 first last
+      unfolding firstWith holdsIn
+      lunch-fail h =
+          ap foundOf (failing-same _ _ first last (λ i l j.
+          ap (λ (g : Grids). not (eqb (cellAt (g .lunch) b i m) 0)) e ∙ sym (lunch-held-is S b good i m (omega (arith, j, h)) k)))
