@@ -35,7 +35,8 @@ sum-blocks f m lo (suc n) =
     ∙ sym (ap (sumFrom f (lo * m)) t)
 
 -- where a run stands
-pub stretch-is : (g : Grid) (lo hi n : ℕ) → g .width ≡ 1 → lo ≤ hi → hi ≤ g .slots → Fits g n → Stretch g lo hi (g .base + lo * g .items) (g .base + hi * g .items)
+pub stretch-is : (g : Grid) (lo hi n : ℕ) → g .width ≡ 1 → lo ≤ hi → hi ≤ g .slots → Fits g n
+    → Stretch g lo hi (g .base + lo * g .items) (g .base + hi * g .items)
 stretch-is g lo hi n e l h f =
     let a : lo * g .items ≤ hi * g .items = mul-le-mul-right (g .items) l in
     let b : hi * g .items ≤ g .slots * g .items = mul-le-mul-right (g .items) h in
@@ -86,7 +87,8 @@ module _ (g : Grid) (lo hi start end : ℕ) (e : g .width ≡ 1) (l : lo ≤ hi)
       let m : length part ≡ g .items = part-long ∙ ap (λ (n : ℕ). n * g .items) n ∙ omega arith in
       ap (λ (n : ℕ). count (member part) (n * 32)) m
       ∙ count-same (member part) (λ v. bit (getD b (place g lo (v / 32) 0) 0) (v % 32)) (g .items * 32)
-      (λ v t. ap (λ (w : ℕ). bit w (v % 32)) (part-at (v / 32) (omega (arith, part-long, m, t)) ∙ ap (λ (n : ℕ). getD b n 0) (sym (place-at lo (v / 32)))))
+      (λ v t. ap (λ (w : ℕ). bit w (v % 32))
+      (part-at (v / 32) (omega (arith, part-long, m, t)) ∙ ap (λ (n : ℕ). getD b n 0) (sym (place-at lo (v / 32)))))
 
 -- one row
 pub one-row : (g : Grid) (b : List ℕ) (w i : ℕ) → rowsCount g b w i (i + 1) ≡ rowCount g b i w

@@ -79,7 +79,8 @@ module _ (S : Settings) (b : List ℕ) (good : Good S b) (v d : ℕ) (hv : v < S
   nights =
       count-run (within d d) (λ i r. booked x hotels i r v) (λ i. rowCount (gridOf S hotelCells) b i (v + 1)) d (d + 1) (S .dates) (S .hotels)
       (omega arith) (omega arith) (λ i k. ap (λ (t : Bool). leb d i && t) (last i))
-      (λ i k. count-same (λ r. booked x hotels i r v) (λ r. eqb (cellAt (gridOf S hotelCells) b i r) (v + 1)) (S .hotels) (λ r g. booked-eqb S b hotels i k g hv))
+      (λ i k. count-same (λ r. booked x hotels i r v) (λ r. eqb (cellAt (gridOf S hotelCells) b i r) (v + 1)) (S .hotels)
+      (λ r g. booked-eqb S b hotels i k g hv))
       ∙ one-row (gridOf S hotelCells) b (v + 1) d
     where
       last : (i : ℕ) → leb i d ≡ ltb i (d + 1)
@@ -89,9 +90,11 @@ module _ (S : Settings) (b : List ℕ) (good : Good S b) (v d : ℕ) (hv : v < S
       → count2 (λ t k. within d d (dateOfTime S t) && x .ride t k v) (allTimes S) (S .transports) ≡ rowsCount (gridOf S rideCells) b (v + 1) t0 t1
   unfolding rowsCount rowCount
   taxis t0 t1 rt =
-      count-run (λ t. within d d (dateOfTime S t)) (λ t k. booked x rides t k v) (λ t. rowCount (gridOf S rideCells) b t (v + 1)) t0 t1 (allTimes S) (S .transports)
+      count-run (λ t. within d d (dateOfTime S t)) (λ t k. booked x rides t k v) (λ t. rowCount (gridOf S rideCells) b t (v + 1)) t0 t1 (allTimes S)
+      (S .transports)
       (run-order S times d d t0 t1 rt (omega arith)) (rt .ends .most) (rt .exactly)
-      (λ t k. count-same (λ r. booked x rides t r v) (λ r. eqb (cellAt (gridOf S rideCells) b t r) (v + 1)) (S .transports) (λ r g. booked-eqb S b rides t k g hv))
+      (λ t k. count-same (λ r. booked x rides t r v) (λ r. eqb (cellAt (gridOf S rideCells) b t r) (v + 1)) (S .transports)
+      (λ r g. booked-eqb S b rides t k g hv))
 
   seated : (s0 s1 : ℕ) → OnDates S sessions d d s0 s1
       → count2 (λ s m. within d d (dateOfSession S s) && x .attend s m v) (allSessions S) (S .meetings) ≡ columnCount (gridOf S attendCells) b v s0 s1
@@ -100,7 +103,8 @@ module _ (S : Settings) (b : List ℕ) (good : Good S b) (v d : ℕ) (hv : v < S
       count-run (λ s. within d d (dateOfSession S s)) (λ s m. booked x attends s m v) (λ s. one (not (eqb (cellAt (gridOf S attendCells) b s v) 0)))
       s0 s1 (allSessions S) (S .meetings)
       (run-order S sessions d d s0 s1 rs (omega arith)) (rs .ends .most) (rs .exactly)
-      (λ s k. count-same (λ m. booked x attends s m v) (λ m. eqb (cellAt (gridOf S attendCells) b s v) (m + 1)) (S .meetings) (λ m g. booked-eqb S b attends s k g hv)
+      (λ s k. count-same (λ m. booked x attends s m v) (λ m. eqb (cellAt (gridOf S attendCells) b s v) (m + 1)) (S .meetings)
+      (λ m g. booked-eqb S b attends s k g hv)
       ∙ count-cell (cellAt (gridOf S attendCells) b s v) (S .meetings) (good-cell good attends s v k hv))
 
   pub bookings-is : (s0 s1 t0 t1 : ℕ) → OnDates S sessions d d s0 s1 → OnDates S times d d t0 t1
@@ -130,4 +134,5 @@ module _ (S : Settings) (b : List ℕ) (good : Good S b) (d : ℕ) (h : d < S .d
   members-is =
       count-same (λ v. bit (cellAt (gridOf S leaves) b d (v / 32)) (v % 32)) (λ v. stateOf b .leave d v) (groups (S .visitors) * 32)
       (λ v k. sym (leave-bit S b good d v h (omega arith)))
-      ∙ count-upto (λ v. stateOf b .leave d v) (S .visitors) (groups (S .visitors) * 32) (omega arith) (λ v k l. none-past v k (stateOf b .leave d v) refl)
+      ∙ count-upto (λ v. stateOf b .leave d v) (S .visitors) (groups (S .visitors) * 32) (omega arith)
+      (λ v k l. none-past v k (stateOf b .leave d v) refl)

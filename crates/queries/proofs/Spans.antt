@@ -47,9 +47,12 @@ module _ {S : Settings} {b : List ℕ} (good : Good S b) (v : ℕ) where
       rw (good-state good)
       (omega (
         arith,
-        on-none (λ d. d) (λ d r. x .hotel d r v) (S .dates) (S .hotels) from to (λ i j l h. gone i l h (x .hotel i j v) (good-sound good .guests hotels refl i j v)),
-        on-none (dateOfTime S) (λ t k. x .ride t k v) (allTimes S) (S .transports) from to (λ i j l h. gone (dateOfTime S i) l h (x .ride i j v) (good-sound good .guests rides refl i j v)),
-        on-none (dateOfSession S) (λ s m. x .attend s m v) (allSessions S) (S .meetings) from to (λ i j l h. gone (dateOfSession S i) l h (x .attend i j v) (good-sound good .guests attends refl i j v)),
+        on-none (λ d. d) (λ d r. x .hotel d r v) (S .dates) (S .hotels) from to
+            (λ i j l h. gone i l h (x .hotel i j v) (good-sound good .guests hotels refl i j v)),
+        on-none (dateOfTime S) (λ t k. x .ride t k v) (allTimes S) (S .transports) from to
+            (λ i j l h. gone (dateOfTime S i) l h (x .ride i j v) (good-sound good .guests rides refl i j v)),
+        on-none (dateOfSession S) (λ s m. x .attend s m v) (allSessions S) (S .meetings) from to
+            (λ i j l h. gone (dateOfSession S i) l h (x .attend i j v) (good-sound good .guests attends refl i j v)),
       ))
     where
       away : (d : ℕ) → from ≤ d → d ≤ to → x .leave d v ≡ false
@@ -64,7 +67,8 @@ module _ {S : Settings} {b : List ℕ} (good : Good S b) (v : ℕ) where
   bookings-none-on d e = bookings-none d d (λ i l h. ap (λ (i : ℕ). stateOf b .leave i v) (le-antisymm h l) ∙ e)
 
 -- one date more
-one-within : (from to d : ℕ) (q : Bool) → from ≤ to → one (within from (suc to) d && q) ≡ one (within from to d && q) + one (within (suc to) (suc to) d && q)
+one-within : (from to d : ℕ) (q : Bool) → from ≤ to → one (within from (suc to) d && q)
+    ≡ one (within from to d && q) + one (within (suc to) (suc to) d && q)
 one-within from to d q h = go (leb from d) (leb d to) (leb d (suc to)) (leb (suc to) d) refl refl refl refl
   where
     go : (a b c e : Bool) → leb from d ≡ a → leb d to ≡ b → leb d (suc to) ≡ c → leb (suc to) d ≡ e
@@ -81,9 +85,11 @@ one-within from to d q h = go (leb from d) (leb d to) (leb d (suc to)) (leb (suc
     go false false false true pa pb pc pe = refl
     go false false false false pa pb pc pe = refl
 
-on-next : (date : ℕ → ℕ) (q : ℕ → ℕ → Bool) (n m from to : ℕ) → from ≤ to → on date q n m from (suc to) ≡ on date q n m from to + on date q n m (suc to) (suc to)
+on-next : (date : ℕ → ℕ) (q : ℕ → ℕ → Bool) (n m from to : ℕ) → from ≤ to → on date q n m from (suc to)
+    ≡ on date q n m from to + on date q n m (suc to) (suc to)
 on-next date q n m from to h =
-    count2-add (λ i j. within from to (date i) && q i j) (λ i j. within (suc to) (suc to) (date i) && q i j) (λ i j. within from (suc to) (date i) && q i j) n m
+    count2-add (λ i j. within from to (date i) && q i j) (λ i j. within (suc to) (suc to) (date i) && q i j)
+    (λ i j. within from (suc to) (date i) && q i j) n m
     (λ i j. one-within from to (date i) (q i j) h)
 
 module _ (x : State) (v : ℕ) where

@@ -6,7 +6,7 @@ use mathlib.Core.Bool.{not}
 use mathlib.Core.List.{List}
 use native.Mathlib.Omega.{arith}
 use lib.Dec.{eqb}
-use lib.ListN.{length, take, drop, length-take, length-drop}
+use lib.ListN.{length, take, drop, length-take}
 use borrow.Author.Needs.{needs}
 use borrow.Author.Tests.{ne-eqb}
 use Rattle.model.specs.Bounded.{count}
@@ -16,7 +16,8 @@ use Rattle.book.proofs.rows.part_has.Statement.{statement}
 use Rattle.book.proofs.rows.part_has.Tie as tie
 
 -- a block of 512 words, as it is cut
-block : (row : List ℕ) (w i : ℕ) → i + 512 ≤ length row → count (here row w) (i + 512) ≡ count (here row w) i + partCount (take (i + 512 - i) (drop i row)) w
+block : (row : List ℕ) (w i : ℕ) → i + 512 ≤ length row → count (here row w) (i + 512)
+    ≡ count (here row w) i + partCount (take (i + 512 - i) (drop i row)) w
 block row w i h =
     let m : 512 ≡ i + 512 - i = omega arith in
     part-next row w i 512 h ∙ ap (λ (n : ℕ). count (here row w) i + partCount (take n (drop i row)) w) m

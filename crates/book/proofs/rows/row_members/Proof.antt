@@ -36,14 +36,23 @@ members-requires c κs =
     let s = c .before .before .before in
     let p = c .before .rows-part in
     let n : s .args .slot + 1 - s .args .slot ≡ 1 = omega arith in
-    omega (arith, s .pre .1 .0 .1, part-long (s .args .g) (s .args .slot) (s .args .slot + 1) (p .result .start) (p .result .end) (s .pre .1 .0 .0) (omega arith) (p .ensures) (reading (s .args .book .now)) (omega (arith, p .ensures .room, s .pre .0 .ends)), ap (λ (n : ℕ). n * s .args .g .items) n)
+    omega (
+      arith,
+      s .pre .1 .0 .1,
+      part-long (s .args .g) (s .args .slot) (s .args .slot + 1) (p .result .start) (p .result .end) (s .pre .1 .0 .0)
+          (omega arith) (p .ensures) (reading (s .args .book .now)) (omega (arith, p .ensures .room, s .pre .0 .ends)),
+      ap
+          (λ (n : ℕ). n * s .args .g .items) n,
+    )
 
 returns : tie.Need-returns
 unfolding reading Lies
 returns c =
     let s = c .before .before .before .before in
     let p = c .before .before .rows-part in
-    c .members .ensures ∙ part-members (s .args .g) (s .args .slot) (s .args .slot + 1) (p .result .start) (p .result .end) (s .pre .1 .0 .0) (omega arith) (p .ensures) (reading (s .args .book .now)) (omega (arith, p .ensures .room, s .pre .0 .ends)) refl
+    c .members .ensures
+    ∙ part-members (s .args .g) (s .args .slot) (s .args .slot + 1) (p .result .start) (p .result .end) (s .pre .1 .0 .0) (omega arith) (p .ensures)
+    (reading (s .args .book .now)) (omega (arith, p .ensures .room, s .pre .0 .ends)) refl
 
 pub row-members-spec : {M : Type 1} → statement M
 row-members-spec =

@@ -4,7 +4,6 @@ use Rattle.book.specs.Lent.{reading}
 use Prim.Native.Nat.{ℕ, suc, _+_, _-_, _≤_}
 use mathlib.Core.Path.{_≡_, sym, _∙_, ap, ap₂}
 use native.Mathlib.Omega.{arith}
-use borrow.Author.Needs.{needs}
 use Rattle.model.specs.Bounded.{sumFrom}
 use Rattle.model.specs.Questions.{bookings}
 use Rattle.model.specs.Reading.{stateOf}
@@ -15,7 +14,8 @@ use Rattle.queries.proofs.bookings.bookings.Statement.{statement}
 use Rattle.queries.proofs.bookings.bookings.Tie as tie
 
 abbrev Inv-loop : tie.InvT-loop
-Inv-loop book s visitor last g n₀ date₀ n date = (date₀ .0 ≤ date .0) × (date .0 ≤ last .0 + 1) × (n ≡ sumFrom (λ d. bookings (stateOf (reading book)) visitor d d) (date₀ .0) (date .0 - date₀ .0))
+Inv-loop book s visitor last g n₀ date₀ n date = (date₀ .0 ≤ date .0) × (date .0 ≤ last .0 + 1)
+    × (n ≡ sumFrom (λ d. bookings (stateOf (reading book)) visitor d d) (date₀ .0) (date .0 - date₀ .0))
 
 abbrev μ-loop : tie.MeasureT-loop
 μ-loop book s visitor last g n₀ date₀ n date = suc (last .0) - date .0
@@ -63,7 +63,8 @@ loop-again c =
     let n = c .after .ensures in (
       omega (arith, n, l .inv .0),
       omega (arith, n, c .before .before .if1 .taken),
-      ap₂ _+_ (l .inv .2) (c .before .entries-on .ensures) ∙ sym k ∙ ap (λ (m : ℕ). sumFrom (λ d. bookings (stateOf (reading (a .book .now))) (a .visitor) d d) (a .first .0) (m - a .first .0)) (sym n),
+      ap₂ _+_ (l .inv .2) (c .before .entries-on .ensures) ∙ sym k
+          ∙ ap (λ (m : ℕ). sumFrom (λ d. bookings (stateOf (reading (a .book .now))) (a .visitor) d d) (a .first .0) (m - a .first .0)) (sym n),
     )
 
 returns : tie.Need-returns Inv-loop μ-loop

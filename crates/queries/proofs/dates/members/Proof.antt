@@ -4,8 +4,7 @@ use Rattle.book.specs.Lent.{reading}
 use mathlib.Core.Path.{refl, _∙_}
 use native.Mathlib.Omega.{arith}
 use Rattle.model.specs.Words.{leaves}
-use Rattle.book.proofs.Regions.{lies}
-use Rattle.book.proofs.Goods.{good-laid}
+use Rattle.book.proofs.Goods.{good-laid, good-lies}
 use Rattle.queries.proofs.Runs.{members-is}
 use Rattle.queries.proofs.dates.members.Statement.{statement}
 use Rattle.queries.proofs.dates.members.Tie as tie
@@ -14,7 +13,7 @@ row-members-requires : tie.Need-row-members-requires
 row-members-requires c κs =
     let s = c .before in
     let v = good-laid (s .pre .0) .ranges .visitors in
-    (rw (s .pre .1 .0) (lies (s .args .s) (reading (s .args .book .now)) (good-laid (s .pre .0)) leaves), (rw (s .pre .1 .0) (refl, omega (arith, v)), rw (s .pre .1 .0) (s .pre .1 .1)))
+    (rw (s .pre .1 .0) (good-lies (s .pre .0) leaves), (rw (s .pre .1 .0) (refl, omega (arith, v)), rw (s .pre .1 .0) (s .pre .1 .1)))
 
 returns : tie.Need-returns
 returns c =
