@@ -12,7 +12,8 @@ use Rattle.queries.proofs.bookings.some_leave.Statement.{statement}
 use Rattle.queries.proofs.bookings.some_leave.Tie as tie
 
 abbrev Inv-loop : tie.InvT-loop
-Inv-loop book s g visitor last date₀ date = (date₀ .0 ≤ date .0) × ((d : ℕ) → date₀ .0 ≤ d → d < date .0 → stateOf (reading book) .leave d visitor ≡ false)
+Inv-loop book s g visitor last date₀ date = (date₀ .0 ≤ date .0)
+    × ((d : ℕ) → date₀ .0 ≤ d → d < date .0 → stateOf (reading book) .leave d visitor ≡ false)
 
 abbrev μ-loop : tie.MeasureT-loop
 μ-loop book s g visitor last date₀ date = suc (last .0) - date .0
