@@ -23,8 +23,7 @@ use Rattle.model.specs.Machine.{Outcome, change, finish, stepKind, step}
 use Rattle.model.specs.Words.{Region, slots, items, width, words}
 use Rattle.model.specs.Reading.{settingsOf, readState, stateOf}
 use Rattle.model.proofs.Laws.{Sound}
-use Rattle.model.proofs.ReadBack.{valid-is, seated}
-use Rattle.model.proofs.Shown.{valid-settings, words-stateOf}
+use Rattle.model.proofs.Shown.{words-stateOf}
 use Rattle.model.proofs.Sound.{book-sound}
 use Rattle.model.proofs.Keeps.{Yes, judged, yes, slots-fit}
 use Rattle.model.proofs.Frame.{settings-change}
@@ -38,7 +37,7 @@ use Rattle.book.proofs.Regions.{lies, small, some-item}
 use Rattle.book.proofs.Goods.{good-laid}
 use Rattle.apply.specs.Accepted.{accepted}
 use Rattle.apply.specs.Stores.{Span, Single}
-use Rattle.apply.proofs.Stages.{Carries, carries-all, carries-words}
+use Rattle.apply.proofs.Stages.{Carries, carries-all, carries-shown}
 
 -- a grid of a region, in words c that keep the grids of a laid book
 module _ (S : Settings) (b : List ℕ) (l : Laid S b) (g : Region) (h : Grid) (is : h ≡ gridOf S g) (c : List ℕ) (keep : (f : Grid) → Lies f b → Lies f c) where
@@ -109,6 +108,10 @@ module _ {S : Settings} {b : List ℕ} {G : Grids} {r : Request} {k : Kind} (w :
     pub item : (j : ℕ) → j < items S g → j < f G .items
     item j h = item-of S g (f G) (ap f (w .grids) ∙ is) j h
 
+  -- the words of the changed state are those of the machine's
+  pub done-words : words (change (stateOf b) r k) ≡ words (step (stateOf b) r .state)
+  done-words = ap words (sym (ap (λ (o : Outcome). o .state) (accepted-step (stateOf b) r k whole)))
+
   -- writes that leave the words of the changed state
   pub arm : (W : Settings → Grids → List ℕ)
       → ((x : State) → x .settings ≡ S → Sound x → Carries (x .settings) x b → Yes x r k (always ++ further k)
@@ -120,19 +123,8 @@ module _ {S : Settings} {b : List ℕ} {G : Grids} {r : Request} {k : Kind} (w :
       ∙ ap (λ (S : Settings). W S (gridsOf S)) (w .good .read)
       ∙ carries-all (change (stateOf b) r k) _
       (subst (λ (T : Settings). Carries T (change (stateOf b) r k) (W (settingsOf b) (gridsOf (settingsOf b)))) (sym (settings-change (stateOf b) r k))
-      (write (stateOf b) (sym (w .good .read)) (book-sound b (w .good .laid) (w .good .lawful)) shown answers))
-      ∙ ap words (sym (ap (λ (o : Outcome). o .state) (accepted-step (stateOf b) r k whole)))
-    where
-      shown : Carries (settingsOf b) (stateOf b) b
-      shown =
-          subst (λ (l : List ℕ). Carries (settingsOf b) (stateOf b) l) (words-stateOf b (w .good .laid) (w .good .lawful))
-          (carries-words (stateOf b) (seated (valid-is (settingsOf b) (valid-settings b (w .good .laid) (w .good .lawful)))))
-
-  -- a change that leaves the state as it is
-  pub same-book : change (stateOf b) r k ≡ stateOf b → b ≡ words (step (stateOf b) r .state)
-  same-book e =
-      sym (words-stateOf b (w .good .laid) (w .good .lawful))
-      ∙ ap words (sym (ap (λ (o : Outcome). o .state) (accepted-step (stateOf b) r k whole) ∙ e))
+      (write (stateOf b) (sym (w .good .read)) (book-sound b (w .good .laid) (w .good .lawful)) (carries-shown b (w .good .laid) (w .good .lawful)) answers))
+      ∙ done-words
 
 -- the kinds by their numbers
 abbrev numberOf : Kind → ℕ

@@ -14,18 +14,18 @@ use Rattle.model.specs.declared.Request.{Request}
 use Rattle.model.specs.Bounded.{lowest, found, isSome, within}
 use Rattle.model.specs.Site.{dateOfSession, dateOfTime}
 use Rattle.model.specs.State.{State, Lunch, seatsOf, hotels, rides, attends, confs}
-use Rattle.model.specs.Kinds.{Kind.addLeave, Kind.endLeave, Kind.removeVisitor, Kind.addStanding, Kind.endStanding, Kind.eraseConf, Kind.eraseConfAndLunch}
+use Rattle.model.specs.Kinds.{sessions, times, Kind.addLeave, Kind.endLeave, Kind.addStanding, Kind.endStanding, Kind.eraseConf, Kind.eraseConfAndLunch}
 use Rattle.model.specs.Questions.{test, always, further, Question.aBelow, Question.bBelow}
 use Rattle.model.specs.Machine.{change, slot, minus, withLeave, withStanding, withHotel, withRide, withAttend, withConf, withLunch}
 use Rattle.model.specs.Words.{Region, leaves, hotelCells, standings, attendCells, confPairs, lunchTriples, rideCells, slots, word, cell, infoOf, lunchInfo}
 use Rattle.model.proofs.Laws.{Sound}
 use Rattle.model.proofs.Places.{Cell}
 use Rattle.model.proofs.Keeps.{Yes, yes, slots-fit}
-use Rattle.book.specs.declared.units.Slot.the-variants.{Sessions, Times}
 use Rattle.book.specs.Grids.{gridOf}
 use Rattle.book.proofs.Regions.{group-lt, date-lt}
 use Rattle.book.proofs.Goods.{ranges-by}
 use Rattle.book.specs.Stores.{wordIn, empty, swept}
+use Rattle.apply.specs.Removals.{without}
 use Rattle.apply.specs.Stores.{filled, markedAll}
 use Rattle.book.specs.Units.{OnDates}
 use Rattle.apply.proofs.Writes.{empty-word}
@@ -183,7 +183,7 @@ module _ (x : State) (s : Sound x) (r : Request) (b : List ℕ) (a : Carries (x 
   unfolding change
   write-eraseConf y = conf-rows x a (slot r) (r .first) (r .last + 1) (r .b) (last-slot x r eraseConf y) (λ i _. in-slots r i) (s .oneB confs refl)
 
-  -- kind 16: the same, then the meeting's lunches on "dates from first's to last's"
+  -- kind 16: the same, then the meeting's lunches on the dates from first's to last's
   pub write-eraseConfAndLunch : Yes x r eraseConfAndLunch (always ++ further eraseConfAndLunch)
       → Carries S (change x r eraseConfAndLunch)
       (filled (gridOf S lunchTriples) (r .b) empty (dateOfSession S (r .first)) (dateOfSession S (r .last) + 1)
@@ -196,27 +196,24 @@ module _ (x : State) (s : Sound x) (r : Request) (b : List ℕ) (a : Carries (x 
       (ltb-true _ _ (yes x r eraseConfAndLunch bBelow refl (y .1 .1 .0))) last-date (λ i _. up-to (dateOfSession S (r .first)) (dateOfSession S (r .last)) i)
     where
       last-date : dateOfSession S (r .last) + 1 ≤ S .dates
-      last-date = omega (arith, date-lt S (ranges-by S (s .valid)) Sessions (r .last) (slots-fit x r eraseConfAndLunch (y .1 .1 .1 .0) .1))
+      last-date = omega (arith, date-lt S (ranges-by S (s .valid)) sessions (r .last) (slots-fit x r eraseConfAndLunch (y .1 .1 .1 .0) .1))
 
-  -- kind 3: leave, hotel rows of the dates, ride rows of the times and the attend column of the sessions on those dates
-  pub write-removeVisitor : Yes x r removeVisitor (always ++ further removeVisitor)
-      → (lo hi from to : ℕ) → OnDates S Times (r .first) (r .last) lo hi → OnDates S Sessions (r .first) (r .last) from to
-      → Carries S (change x r removeVisitor)
-      (filled (gridOf S attendCells) (r .b) empty from to
-      (swept (gridOf S rideCells) (r .b + 1) lo hi
-      (swept (gridOf S hotelCells) (r .b + 1) (r .first) (r .last + 1)
-      (markedAll (gridOf S leaves) false (r .b) (r .first) (r .last + 1) b))))
-  unfolding change test
-  write-removeVisitor y lo hi from to times sessions =
+-- kind 3: leave, hotel rows of the dates, ride rows of the times and the attend column of the sessions on those dates
+module _ (x : State) (s : Sound x) (b : List ℕ) (a : Carries (x .settings) x b) (v first last : ℕ) (hv : v < x .settings .visitors)
+    (hd : last + 1 ≤ x .settings .dates) where
+  pub write-removal : (lo hi from to : ℕ) → OnDates (x .settings) times first last lo hi → OnDates (x .settings) sessions first last from to
+      → Carries (x .settings) (without x v first last)
+      (filled (gridOf (x .settings) attendCells) v empty from to
+      (swept (gridOf (x .settings) rideCells) (v + 1) lo hi
+      (swept (gridOf (x .settings) hotelCells) (v + 1) first (last + 1)
+      (markedAll (gridOf (x .settings) leaves) false v first (last + 1) b))))
+  unfolding change
+  write-removal lo hi from to rode met =
       attend-column (withRide (withHotel (withLeave x _) _) _)
       (ride-rows (withHotel (withLeave x _) _)
       (hotel-rows (withLeave x _)
-      (leave-bits x a (slot r) (r .first) (r .last + 1) false (r .b) hb (last-slot x r removeVisitor y) (λ i _. in-slots r i))
-      (slot r) (r .first) (r .last + 1) (r .b) (last-slot x r removeVisitor y) (λ i _. in-slots r i) (s .oneB hotels refl))
-      (λ i. slot r (dateOfTime S i)) lo hi (r .b) (times .ends .most) (times .exactly)
+      (leave-bits x a (within first last) first (last + 1) false v hv hd (λ i _. up-to first last i))
+      (within first last) first (last + 1) v hd (λ i _. up-to first last i) (s .oneB hotels refl))
+      (λ i. within first last (dateOfTime (x .settings) i)) lo hi v (rode .ends .most) (rode .exactly)
       (s .oneB rides refl))
-      (λ i. slot r (dateOfSession S i)) from to (r .b) hb (sessions .ends .most)
-      (sessions .exactly)
-    where
-      hb : r .b < S .visitors
-      hb = ltb-true _ _ (yes x r removeVisitor bBelow refl (y .1 .1 .0))
+      (λ i. within first last (dateOfSession (x .settings) i)) from to v hv (met .ends .most) (met .exactly)

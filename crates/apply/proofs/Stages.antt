@@ -17,10 +17,13 @@ use Rattle.model.specs.Kinds.{Kind, row, slotsOf}
 use Rattle.model.specs.Questions.{always, further}
 use Rattle.model.specs.Machine.{slot}
 use Rattle.model.specs.Words.{Region, slots, items, width, order, bookLength, word, words, blocks}
-use Rattle.model.specs.Reading.{at}
+use Rattle.model.specs.Reading.{at, settingsOf, readState, stateOf}
+use Rattle.model.specs.Laws.{wellLaid, lawful}
 use Rattle.model.proofs.Search.{bool-eq}
 use Rattle.model.proofs.Places.{Seated, Cell, words-at, words-ext, length-words, length-settings}
 use Rattle.model.proofs.Keeps.{Yes, slots-fit}
+use Rattle.model.proofs.ReadBack.{valid-is, seated}
+use Rattle.model.proofs.Shown.{valid-settings, words-stateOf}
 use Rattle.book.specs.Grids.{gridOf}
 use Rattle.book.specs.declared.puts.Content.{Content}
 use Rattle.book.specs.Stores.{wordIn, swept}
@@ -44,6 +47,13 @@ carries-words x s =
       head = take-at (settingsWords (x .settings)) (blocks x order) (settingsLength (x .settings)) (length-settings (x .settings) s);
       same = λ h i j k c. words-at x s h c;
     }
+
+-- a book that passes questions 1 and 2 has the words of the state that it shows
+pub carries-shown : (b : List ℕ) → wellLaid b ≡ true → lawful b ≡ true → Carries (settingsOf b) (stateOf b) b
+unfolding stateOf readState
+carries-shown b q1 q2 =
+    subst (λ (l : List ℕ). Carries (settingsOf b) (stateOf b) l) (words-stateOf b q1 q2)
+    (carries-words (stateOf b) (seated (valid-is (settingsOf b) (valid-settings b q1 q2))))
 
 -- two states that differ in the words of one region alone
 abbrev pub Frame : Region → State → State → Type 0

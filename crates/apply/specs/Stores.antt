@@ -1,18 +1,17 @@
--- What the kinds do to a list of words: a column filled, a member's bit turned in some slots, and a visitor removed.
+-- What the kinds do to a list of words: a column filled, a member's bit turned in some slots, and a meeting's sets erased.
 -- Assumes nothing.
 use Prim.Native.Nat.{ℕ, _+_, _/_, _%_, _≤_, _<_}
 use mathlib.Core.Path.{_≡_}
 use mathlib.Core.Bool.{Bool, true, false}
 use mathlib.Core.List.{List}
 use Rattle.book.specs.declared.grid.Grid.{Grid}
+use Rattle.book.specs.declared.grid.Grids.{Grids}
 use Rattle.book.specs.declared.puts.Content.{Content}
-use Rattle.book.specs.declared.units.Slot.the-variants.{Sessions, Times}
 use Rattle.model.specs.declared.Settings.{Settings}
-use Rattle.model.specs.Words.{leaves, hotelCells, attendCells, rideCells}
-use Rattle.book.specs.Grids.{cellAt, gridOf}
+use Rattle.model.specs.Site.{dateOfSession}
+use Rattle.book.specs.Grids.{cellAt}
 use Rattle.book.specs.Lent.{Lies}
 use Rattle.book.specs.Stores.{over, empty, stored, replaced, swept}
-use Rattle.book.specs.Units.{OnDates}
 use Rattle.pool.specs.Pool.{put, clear}
 
 -- an entry: the number plus 1, and the words beside it
@@ -46,14 +45,11 @@ pub record Single (g : Grid) (b : List ℕ) (to : ℕ) : Type 0 where
   pub cells : (g .width ≡ 1) × (1 ≤ g .items)
   pub most : to ≤ g .slots
 
--- kind 3: from b to c, by the times and the sessions of the dates
-pub record Removed (S : Settings) (v first last : ℕ) (b c : List ℕ) : Type 0 where
-  pub lo : ℕ
-  pub hi : ℕ
-  pub from : ℕ
-  pub to : ℕ
-  pub times : OnDates S Times first last lo hi
-  pub sessions : OnDates S Sessions first last from to
-  pub is : c
-      ≡ filled (gridOf S attendCells) v empty from to
-      (swept (gridOf S rideCells) (v + 1) lo hi (swept (gridOf S hotelCells) (v + 1) first (last + 1) (markedAll (gridOf S leaves) false v first (last + 1) b)))
+-- kind 9: the meeting's standing, and then its entries in the attend rows
+abbrev pub standingEnded : Grids → ℕ → ℕ → ℕ → List ℕ → List ℕ
+standingEnded g m first last b = swept (g .attend) (m + 1) first (last + 1) (markedAll (g .standing) false m first (last + 1) b)
+
+-- kind 16: the meeting's conference rooms, and then its lunches on the dates from first's to last's
+abbrev pub meetingErased : Settings → Grids → ℕ → ℕ → ℕ → List ℕ → List ℕ
+meetingErased S g m first last b =
+    filled (g .lunch) m empty (dateOfSession S first) (dateOfSession S last + 1) (swept (g .conf) (m + 1) first (last + 1) b)

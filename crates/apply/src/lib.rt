@@ -1,17 +1,19 @@
 // The writes of an accepted request. Nothing is asked here: every question has been answered yes.
 pub mod bits;
 pub mod cells;
+pub mod removal;
 pub mod sets;
 
 use book::grid::Grids;
+use model::Date;
 use model::Request;
+use model::Session;
 use model::Settings;
-use queries::bookings::some_leave;
+use removal::remove_visitor;
 use sets::add;
 use sets::drop;
 use sets::end_standing;
 use sets::erase_conf_and_lunch;
-use sets::remove_visitor;
 use sets::take;
 use sets::turn;
 ghost use mathlib.Core.Path.{_≡_};
@@ -24,20 +26,6 @@ ghost use Rattle.book.specs.Good.{Good};
 ghost use Rattle.apply.specs.Accepted.{accepted};
 ghost use Rattle.book.specs.Lent.{reading};
 
-// Kind 3. A visitor without leave on the dates has no entry there: nothing is erased.
-fn remove(book: &mut [u32], s: Settings, g: Grids, r: Request)
-    requires { ⌜ Good s (reading (now book)) ⌝ }
-    requires { ⌜ g ≡ gridsOf s ⌝ }
-    requires { ⌜ accepted (step (stateOf (reading (now book))) r .answer) ≡ true ⌝ }
-    requires { ⌜ r .kind ≡ 3 ⌝ }
-    ensures { λ _. ⌜ reading (now (book .exit)) ≡ words (step (stateOf (reading (now (book .entry)))) r .state) ⌝ }
-{
-    if !some_leave(book, s, g, r.b, r.first, r.last) {
-        return;
-    }
-    remove_visitor(book, s, g, r.b, r.first, r.last);
-}
-
 // The book afterwards is the words of the machine's state.
 pub fn apply(book: &mut [u32], s: Settings, g: Grids, r: Request)
     requires { ⌜ Good s (reading (now book)) ⌝ }
@@ -49,20 +37,20 @@ pub fn apply(book: &mut [u32], s: Settings, g: Grids, r: Request)
     match kind {
         1 => turn(book, g.leave, true, r.b, r.first, r.last),
         2 => turn(book, g.leave, false, r.b, r.first, r.last),
-        3 => remove(book, s, g, r),
+        3 => remove_visitor(book, s, g, r.b, Date(r.first), Date(r.last)),
         4 => add(book, g.hotel, r.a, r.b, 0, 0, r.first, r.last),
         5 => take(book, g.hotel, r.a, r.first, r.last),
         6 => add(book, g.ride, r.a, r.b, 0, 0, r.first, r.last),
         7 => take(book, g.ride, r.a, r.first, r.last),
         8 => turn(book, g.standing, true, r.a, r.first, r.last),
-        9 => end_standing(book, g, r.a, r.first, r.last),
+        9 => end_standing(book, g, r.a, Session(r.first), Session(r.last)),
         10 => add(book, g.attend, r.b, r.a, 0, 0, r.first, r.last),
         11 => take(book, g.attend, r.b, r.first, r.last),
         12 => add(book, g.conf, r.a, r.b, r.info, 0, r.first, r.last),
         13 => drop(book, g.conf, r.b, r.first, r.last),
         14 => add(book, g.lunch, r.b, r.a, r.n, r.info, r.first, r.last),
         15 => take(book, g.lunch, r.b, r.first, r.last),
-        16 => erase_conf_and_lunch(book, s, g, r.b, r.first, r.last),
+        16 => erase_conf_and_lunch(book, s, g, r.b, Session(r.first), Session(r.last)),
         _ => {}
     }
 }

@@ -7,19 +7,15 @@ use book::grid::Grids;
 use book::puts::Content;
 use book::puts::EMPTY;
 use book::runs::sweep_run;
-use book::units::Slot;
 use book::units::date_of_session;
-use book::units::slots_on;
 use model::Session;
 use model::Settings;
 ghost use mathlib.Core.Path.{_≡_};
-ghost use Prim.Native.Nat.{_+_, _/_, _≤_, _<_};
-ghost use mathlib.Core.Bool.{false};
-ghost use Rattle.model.specs.Site.{dateOfSession};
+ghost use Prim.Native.Nat.{_+_, _/_, _<_};
 ghost use Rattle.book.specs.Grids.{gridsOf, Laid};
 ghost use Rattle.book.specs.Lent.{reading};
 ghost use Rattle.book.specs.Stores.{Wrote, empty, swept};
-ghost use Rattle.apply.specs.Stores.{Span, Single, full, filled, markedAll, Removed};
+ghost use Rattle.apply.specs.Stores.{Span, Single, full, filled, markedAll, standingEnded, meetingErased};
 
 // One entry into the cells of an item, with the words beside it.
 pub fn add(
@@ -73,48 +69,35 @@ pub fn turn(book: &mut [u32], g: Grid, on: bool, v: u32, first: u32, last: u32)
 }
 
 // Kind 9: the meeting no longer stands, and nobody attends it.
-pub fn end_standing(book: &mut [u32], g: Grids, a: u32, first: u32, last: u32)
-    requires { ⌜ Span (g .standing) (reading (now book)) last ⌝ }
-    requires { ⌜ Single (g .attend) (reading (now book)) (last + 1) ⌝ }
+pub fn end_standing(book: &mut [u32], g: Grids, a: u32, first: Session, last: Session)
+    requires { ⌜ Span (g .standing) (reading (now book)) (last .0) ⌝ }
+    requires { ⌜ Single (g .attend) (reading (now book)) (last .0 + 1) ⌝ }
     requires { ⌜ a / 32 < g .standing .items ⌝ }
     requires { ⌜ a < 1000 ⌝ }
-    ensures { λ _. ⌜ Wrote (λ b. swept (g .attend) (a + 1) first (last + 1) (markedAll (g .standing) false a first (last + 1) b)) (reading (now (book .entry))) (reading (now (book .exit))) ⌝ }
+    ensures { λ _. ⌜ Wrote (standingEnded g a (first .0) (last .0)) (reading (now (book .entry))) (reading (now (book .exit))) ⌝ }
 {
-    turn(book, g.standing, false, a, first, last);
+    turn(book, g.standing, false, a, first.0, last.0);
     let attend = g.attend;
-    sweep_run(book, attend, a + 1, first, last + 1);
+    sweep_run(book, attend, a + 1, first.0, last.0 + 1);
 }
 
 // Kind 16: the meeting's conference rooms, and its lunches on the dates from first's to last's.
-pub fn erase_conf_and_lunch(book: &mut [u32], s: Settings, g: Grids, b: u32, first: u32, last: u32)
+pub fn erase_conf_and_lunch(
+    book: &mut [u32],
+    s: Settings,
+    g: Grids,
+    b: u32,
+    first: Session,
+    last: Session,
+)
     requires { ⌜ Laid s (reading (now book)) ⌝ }
     requires { ⌜ g ≡ gridsOf s ⌝ }
-    requires { ⌜ last < g .conf .slots ⌝ }
+    requires { ⌜ last .0 < g .conf .slots ⌝ }
     requires { ⌜ b < s .meetings ⌝ }
-    ensures { λ _. ⌜ Wrote (λ x. filled (g .lunch) b empty (dateOfSession s first) (dateOfSession s last + 1) (swept (g .conf) (b + 1) first (last + 1) x)) (reading (now (book .entry))) (reading (now (book .exit))) ⌝ }
+    ensures { λ _. ⌜ Wrote (meetingErased s g b (first .0) (last .0)) (reading (now (book .entry))) (reading (now (book .exit))) ⌝ }
 {
-    drop(book, g.conf, b, first, last);
-    let from = date_of_session(s, Session(first));
-    let to = date_of_session(s, Session(last));
+    drop(book, g.conf, b, first.0, last.0);
+    let from = date_of_session(s, first);
+    let to = date_of_session(s, last);
     take(book, g.lunch, b, from.0, to.0);
-}
-
-// Kind 3: the visitor's leave, their hotel rooms on those dates, their rides at the times and their meetings in the sessions on those
-// dates.
-pub fn remove_visitor(book: &mut [u32], s: Settings, g: Grids, v: u32, first: u32, last: u32)
-    requires { ⌜ Laid s (reading (now book)) ⌝ }
-    requires { ⌜ g ≡ gridsOf s ⌝ }
-    requires { ⌜ first ≤ last ⌝ }
-    requires { ⌜ last < s .dates ⌝ }
-    requires { ⌜ v < s .visitors ⌝ }
-    ensures { λ _. ⌜ Removed s v first last (reading (now (book .entry))) (reading (now (book .exit))) ⌝ }
-{
-    turn(book, g.leave, false, v, first, last);
-    let hotels = g.hotel;
-    sweep_run(book, hotels, v + 1, first, last + 1);
-    let times = slots_on(s, Slot::Times, g.ride.slots, first, last);
-    let rides = g.ride;
-    sweep_run(book, rides, v + 1, times.from, times.to);
-    let sessions = slots_on(s, Slot::Sessions, g.attend.slots, first, last);
-    fill(book, g.attend, v, EMPTY, sessions.from, sessions.to);
 }

@@ -6,9 +6,10 @@ use mathlib.Core.Bool.{true, false}
 use native.Mathlib.Omega.{arith}
 use Rattle.model.specs.Site.{dateOfSession}
 use Rattle.model.specs.Kinds.{kindOf}
-use Rattle.model.specs.Kinds.{Kind.addLeave, Kind.endLeave, Kind.addHotel, Kind.eraseHotel, Kind.addRide, Kind.eraseRide}
+use Rattle.model.specs.Kinds.{Kind.addLeave, Kind.endLeave, Kind.removeVisitor, Kind.addHotel, Kind.eraseHotel, Kind.addRide, Kind.eraseRide}
 use Rattle.model.specs.Kinds.{Kind.addStanding, Kind.endStanding, Kind.addAttend, Kind.eraseAttend, Kind.addConf, Kind.eraseConf}
 use Rattle.model.specs.Kinds.{Kind.addLunch, Kind.eraseLunch, Kind.eraseConfAndLunch}
+use Rattle.model.specs.Machine.{change}
 use Rattle.model.specs.Words.{leaves, hotelCells, standings, attendCells, confPairs, lunchTriples, rideCells}
 use Rattle.book.proofs.Regions.{group-lt}
 use Rattle.book.specs.Lent.{reading}
@@ -18,7 +19,7 @@ use Rattle.apply.proofs.Columns.{write-addHotel, write-eraseHotel, writ
 use Rattle.apply.proofs.Columns.{write-addConf, write-addLunch, write-eraseLunch}
 use Rattle.apply.proofs.Erasures.{write-addLeave, write-endLeave, write-addStanding, write-endStanding, write-eraseConf}
 use Rattle.apply.proofs.Erasures.{write-eraseConfAndLunch}
-use Rattle.apply.proofs.Arms.{Known, laid, a-ok, b-ok, span, single, item, arm, unchanged}
+use Rattle.apply.proofs.Arms.{Known, laid, slots-ok, a-ok, b-ok, span, single, item, done-words, arm, unchanged}
 use borrow.Author.Needs.{needs}
 use Rattle.apply.proofs.apply.Statement.{statement}
 use Rattle.apply.proofs.apply.Tie as tie
@@ -45,8 +46,13 @@ turn-requires-2 c κs = let s = c .before .before .before in
           (group-lt (a .s .visitors) (a .r .b) (b-ok w (a .s .visitors) refl)),
     )
 
-remove-requires : tie.Need-remove-requires
-remove-requires c κs = let p = c .before .before .before .pre in (p .0, (p .1 .0, (p .1 .1, c .before .match .keys3)))
+remove-visitor-requires : tie.Need-remove-visitor-requires
+unfolding kindOf
+remove-visitor-requires c κs = let s = c .before .before .before in
+    let a = s .args in
+    let w : Known (a .s) (reading (a .book .now)) (a .g) (a .r) removeVisitor
+    = record { good = s .pre .0; grids = s .pre .1 .0; done = s .pre .1 .1; kind = ap kindOf (c .before .match .keys3) } in
+    (s .pre .0, (s .pre .1 .0, (b-ok w (a .s .visitors) refl, slots-ok w)))
 
 add-requires : tie.Need-add-requires
 unfolding kindOf
@@ -204,7 +210,12 @@ same-length-3 : tie.Need-same-length-3
 same-length-3 c = search needs
 
 returns-3 : tie.Need-returns-3
-returns-3 c = c .before .before .remove .ensures
+unfolding kindOf change
+returns-3 c = let s = c .before .before .before .before .before .before in
+    let a = s .args in
+    let w : Known (a .s) (reading (a .book .now)) (a .g) (a .r) removeVisitor
+    = record { good = s .pre .0; grids = s .pre .1 .0; done = s .pre .1 .1; kind = ap kindOf (c .before .before .before .before .match .keys3) } in
+    c .before .before .remove-visitor .ensures ∙ done-words w
 
 same-length-4 : tie.Need-same-length-4
 same-length-4 c = search needs
@@ -392,7 +403,7 @@ apply-spec =
     (tie.spec
     turn-requires
     turn-requires-2
-    remove-requires
+    remove-visitor-requires
     add-requires
     take-requires
     add-requires-2

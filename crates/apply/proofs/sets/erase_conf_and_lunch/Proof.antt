@@ -4,11 +4,11 @@ use mathlib.Core.Path.{_≡_, _∙_, ap, subst}
 use Prim.Native.Nat.{ℕ, _+_, _<_}
 use native.Mathlib.Omega.{arith}
 use Rattle.model.specs.declared.Settings.{Settings}
+use Rattle.model.specs.Kinds.{sessions}
 use Rattle.model.specs.Site.{dateOfSession}
 use Rattle.model.specs.Words.{confPairs, lunchTriples, slots}
 use Rattle.book.specs.declared.grid.Grid.{Grid}
 use Rattle.book.specs.declared.grid.Grids.{Grids}
-use Rattle.book.specs.declared.units.Slot.the-variants.{Sessions}
 use Rattle.book.specs.Grids.{gridOf}
 use Rattle.book.specs.Lent.{reading}
 use Rattle.book.specs.Stores.{empty, swept}
@@ -29,8 +29,8 @@ drop-requires c κs =
     let s = c .before .before in
     let a = s .args in
     let e = ap (λ (g : Grids). g .conf) (s .pre .1 .0) in (
-      span-of (a .s) (reading (a .book .now)) (s .pre .0) confPairs (a .g .conf) e (reading (a .book .now)) (λ f l. l) (a .last)
-          (last-of (a .s) (a .g .conf) e (a .last) (s .pre .1 .1 .0)),
+      span-of (a .s) (reading (a .book .now)) (s .pre .0) confPairs (a .g .conf) e (reading (a .book .now)) (λ f l. l) (a .last .0)
+          (last-of (a .s) (a .g .conf) e (a .last .0) (s .pre .1 .1 .0)),
       omega (arith, s .pre .0 .ranges .meetings, s .pre .1 .1 .1),
     )
 
@@ -45,9 +45,9 @@ take-requires c κs =
     let s = c .before .before .before .before .before .before .before .before in
     let a = s .args in
     let e = ap (λ (g : Grids). g .lunch) (s .pre .1 .0) in
-    let q = last-of (a .s) (a .g .conf) (ap (λ (g : Grids). g .conf) (s .pre .1 .0)) (a .last) (s .pre .1 .1 .0) in (
+    let q = last-of (a .s) (a .g .conf) (ap (λ (g : Grids). g .conf) (s .pre .1 .0)) (a .last .0) (s .pre .1 .1 .0) in (
       span-of (a .s) (reading (a .book .now)) (s .pre .0) lunchTriples (a .g .lunch) e _ (c .before .before .before .before .before .drop .ensures .stays) _
-          (omega (arith, c .before .date-of-session2 .ensures, date-lt (a .s) (s .pre .0 .ranges) Sessions (a .last) q)),
+          (omega (arith, c .before .date-of-session2 .ensures, date-lt (a .s) (s .pre .0 .ranges) sessions (a .last .0) q)),
       item-of (a .s) lunchTriples (a .g .lunch) e (a .b) (s .pre .1 .1 .1),
     )
 
@@ -58,11 +58,11 @@ returns : tie.Need-returns
 returns c =
     let a = c .before .before .before .before .before .before .before .before .before .before .before .args in
     let w = wrote-then (c .before .before .before .before .before .before .before .before .drop .ensures) (c .before .before .take .ensures) in
-    let x = swept (a .g .conf) (a .b + 1) (a .first) (a .last + 1) (reading (a .book .now)) in
+    let x = swept (a .g .conf) (a .b + 1) (a .first .0) (a .last .0 + 1) (reading (a .book .now)) in
     record {
       is = w .is
           ∙ ap (λ (d : ℕ). filled (a .g .lunch) (a .b) empty d (c .before .before .before .before .date-of-session2 .result .0 + 1) x) (c .before .before .before .before .before .date-of-session .ensures)
-          ∙ ap (λ (d : ℕ). filled (a .g .lunch) (a .b) empty (dateOfSession (a .s) (a .first)) (d + 1) x) (c .before .before .before .before .date-of-session2 .ensures);
+          ∙ ap (λ (d : ℕ). filled (a .g .lunch) (a .b) empty (dateOfSession (a .s) (a .first .0)) (d + 1) x) (c .before .before .before .before .date-of-session2 .ensures);
       stays = w .stays;
     }
 

@@ -1,0 +1,109 @@
+-- `removal::erase`: the stores of its four parts, one after the other.
+-- Assumes nothing.
+use mathlib.Core.Bool.{false}
+use mathlib.Core.Path.{refl, _∙_, ap}
+use Prim.Native.Nat.{_+_}
+use native.Mathlib.Omega.{arith}
+use Rattle.model.specs.Words.{leaves, hotelCells, rideCells, attendCells}
+use Rattle.book.specs.declared.grid.Grids.{Grids}
+use Rattle.book.specs.Lent.{reading}
+use Rattle.book.specs.Stores.{empty, swept}
+use Rattle.book.proofs.Regions.{group-lt}
+use Rattle.book.proofs.Turns.{wrote-then}
+use Rattle.apply.specs.Stores.{Single, filled, markedAll}
+use Rattle.apply.proofs.Arms.{span-of, single-of, item-of}
+use borrow.Author.Needs.{needs}
+use Rattle.apply.proofs.removal.erase.Statement.{statement}
+use Rattle.apply.proofs.removal.erase.Tie as tie
+
+turn-requires : tie.Need-turn-requires
+turn-requires c κs =
+    let s = c .before .before in
+    let a = s .args in
+    let e = ap (λ (g : Grids). g .leave) (s .pre .1 .0) in (
+      span-of (a .s) (reading (a .book .now)) (s .pre .0) leaves (a .g .leave) e (reading (a .book .now)) (λ f l. l) (a .date .0) (s .pre .1 .1 .1),
+      item-of (a .s) leaves (a .g .leave) e _ (group-lt (a .s .visitors) (a .v) (s .pre .1 .1 .0)),
+    )
+
+add-sweep-run : tie.Need-add-sweep-run
+add-sweep-run c = search needs
+
+add-sweep-run-2 : tie.Need-add-sweep-run-2
+add-sweep-run-2 c = search needs
+
+sweep-run-requires : tie.Need-sweep-run-requires
+sweep-run-requires c κs =
+    let s = c .before .before .before .before .before .before .before .before in
+    let a = s .args in
+    let q : Single (a .g .hotel) _ (a .date .0 + 1)
+    = single-of (a .s) (reading (a .book .now)) (s .pre .0) hotelCells (a .g .hotel) (ap (λ (g : Grids). g .hotel) (s .pre .1 .0)) _
+    (c .before .before .before .before .before .turn .ensures .stays) refl (a .date .0 + 1) (omega (arith, s .pre .1 .1 .1)) in
+    (q .lies, (q .cells, q .most))
+
+times-on-requires : tie.Need-times-on-requires
+times-on-requires c κs = search needs
+
+add-sweep-run-3 : tie.Need-add-sweep-run-3
+add-sweep-run-3 c = search needs
+
+sweep-run-requires-2 : tie.Need-sweep-run-requires-2
+sweep-run-requires-2 c κs =
+    let s = c .before .before .before .before .before .before .before .before .before .before .before .before .before .before in
+    let a = s .args in
+    let q : Single (a .g .ride) _ _
+    = single-of (a .s) (reading (a .book .now)) (s .pre .0) rideCells (a .g .ride) (ap (λ (g : Grids). g .ride) (s .pre .1 .0)) _
+    (wrote-then (c .before .before .before .before .before .before .before .before .before .before .before .turn .ensures) (c .before .before .before .before .before .sweep-run .ensures) .stays) refl _ (c .before .before .times-on .ensures .ends .most) in
+    (q .lies, (q .cells, q .most))
+
+sessions-on-requires : tie.Need-sessions-on-requires
+sessions-on-requires c κs = search needs
+
+fill-requires : tie.Need-fill-requires
+fill-requires c κs =
+    let s = c .before .before .before .before .before .before .before .before .before .before .before .before .before .before .before .before .before .before .before in
+    let a = s .args in
+    let e = ap (λ (g : Grids). g .attend) (s .pre .1 .0) in
+    let q : Single (a .g .attend) _ _
+    = single-of (a .s) (reading (a .book .now)) (s .pre .0) attendCells (a .g .attend) e _
+    (wrote-then (c .before .before .before .before .before .before .before .before .before .before .before .before .before .before .before .before .turn .ensures) (wrote-then (c .before .before .before .before .before .before .before .before .before .before .sweep-run .ensures) (c .before .before .before .before .sweep-run2 .ensures)) .stays) refl _ (c .before .sessions-on .ensures .ends .most) in
+    (q .lies, (omega (arith, q .cells .0), (q .most, item-of (a .s) attendCells (a .g .attend) e (a .v) (s .pre .1 .1 .0))))
+
+same-length : tie.Need-same-length
+same-length c = c .before .before .fill .kept .0 ∙ c .before .before .before .before .before .before .before .sweep-run2 .kept .0 ∙ c .before .before .before .before .before .before .before .before .before .before .before .before .before .sweep-run .kept .0 ∙ c .before .before .before .before .before .before .before .before .before .before .before .before .before .before .before .before .before .before .before .turn .kept .0
+
+returns : tie.Need-returns
+returns c =
+    let s = c .before .before .before .before .before .before .before .before .before .before .before .before .before .before .before .before .before .before .before .before .before .before in
+    let a = s .args in
+    let t = c .before .before .before .before .before .before .before .before .before .before .times-on in
+    let u = c .before .before .before .before .sessions-on in
+    let w = wrote-then (wrote-then (c .before .before .before .before .before .before .before .before .before .before .before .before .before .before .before .before .before .before .before .turn .ensures) (c .before .before .before .before .before .before .before .before .before .before .before .before .before .sweep-run .ensures)) (wrote-then (c .before .before .before .before .before .before .before .sweep-run2 .ensures) (c .before .before .fill .ensures)) in
+    record {
+      lo = t .result .from .0;
+      hi = t .result .to .0;
+      from = u .result .from .0;
+      to = u .result .to .0;
+      rides = t .ensures;
+      meetings = u .ensures;
+      is = w .is
+          ∙ ap (λ (g : Grids). filled (g .attend) (a .v) empty (u .result .from .0) (u .result .to .0)
+          (swept (g .ride) (a .v + 1) (t .result .from .0) (t .result .to .0)
+          (swept (g .hotel) (a .v + 1) (a .date .0) (a .date .0 + 1)
+          (markedAll (g .leave) false (a .v) (a .date .0) (a .date .0 + 1) (reading (a .book .now)))))) (s .pre .1 .0);
+    }
+
+pub erase-spec : {M : Type 1} → statement M
+erase-spec =
+    tie.close
+    (tie.spec
+    turn-requires
+    add-sweep-run
+    add-sweep-run-2
+    sweep-run-requires
+    times-on-requires
+    add-sweep-run-3
+    sweep-run-requires-2
+    sessions-on-requires
+    fill-requires
+    same-length
+    returns)
