@@ -26,7 +26,7 @@ impl Grid {
     /// Exact, since slots times slots of a date are below 2^32.
     #[inline(always)]
     pub fn date_of(&self, slot: u32) -> u32 {
-        (u64::from(slot) * self.reciprocal >> 32) as u32
+        ((u64::from(slot) * self.reciprocal) >> 32) as u32
     }
 
     #[inline(always)]

@@ -25,11 +25,11 @@ struct Words {
 fn words_of(rng: &mut Rng, turn: usize) -> Words {
     let site = sites::site_within(rng, Size::Any, 20_000);
     let mut state = deep_state(rng, site.clone(), 30);
-    let book = if turn % 3 == 0 { junk_book(rng) } else { book::words(&state) };
+    let book = if turn.is_multiple_of(3) { junk_book(rng) } else { book::words(&state) };
     let requests = list(rng, &mut state, 25, Mix::USUAL);
     let mut list: Vec<u32> = requests.iter().flat_map(|request| request.words()).collect();
     list.truncate(list.len() - turn % 8);
-    let settings = if turn % 5 == 0 { sites::bad_settings(rng) } else { site.words() };
+    let settings = if turn.is_multiple_of(5) { sites::bad_settings(rng) } else { site.words() };
     Words { settings, book, requests, list, answers: 75 - turn % 4 }
 }
 

@@ -114,7 +114,7 @@ fn a_list_of_calls_answers_as_the_calls_one_by_one() {
         asked.extend(vec![9; rng.below(7) as usize]);
         let mut answers = vec![99; rng.between(20, 40) as usize];
         let number = (asked.len() / 7).min(answers.len() / 3);
-        count(&mut rooms, (number < requests.len(), asked.len() % 7 != 0));
+        count(&mut rooms, (number < requests.len(), !asked.len().is_multiple_of(7)));
         assert_eq!(book::requests(&mut whole, &asked, &mut answers), Answer::Done(number as u32));
         for (at, request) in requests[..number].iter().enumerate() {
             let answer = book::request(&mut single, request);
