@@ -57,7 +57,17 @@ size-le S h g = mul-le-mul {n₂ = 19660800} {m₂ = 3} (mul-le-mul {n₂ = 3840
 pub book-le : (S : Settings) → Ranges S → bookLength S ≤ 1000000000
 unfolding bookLength
 book-le S h =
-    omega (arith, h .dining, size-le S h leaves, size-le S h hotelCells, size-le S h standings, size-le S h attendCells, size-le S h confPairs, size-le S h lunchTriples, size-le S h rideCells)
+    omega (
+      arith,
+      h .dining,
+      size-le S h leaves,
+      size-le S h hotelCells,
+      size-le S h standings,
+      size-le S h attendCells,
+      size-le S h confPairs,
+      size-le S h lunchTriples,
+      size-le S h rideCells,
+    )
 
 -- a region ends where the next begins, and the last where the book ends
 pub end-le : (S : Settings) (g : Region) → base S g + size S g ≤ bookLength S
@@ -70,8 +80,10 @@ end-le S confPairs = omega arith
 end-le S lunchTriples = omega arith
 end-le S rideCells = omega arith
 
-pub base-next : (S : Settings) → (base S hotelCells ≡ end (gridOf S leaves)) × (base S standings ≡ end (gridOf S hotelCells)) × (base S attendCells ≡ end (gridOf S standings))
-    × (base S confPairs ≡ end (gridOf S attendCells)) × (base S lunchTriples ≡ end (gridOf S confPairs)) × (base S rideCells ≡ end (gridOf S lunchTriples))
+pub base-next : (S : Settings) → (base S hotelCells ≡ end (gridOf S leaves)) × (base S standings ≡ end (gridOf S hotelCells))
+    × (base S attendCells ≡ end (gridOf S standings))
+    × (base S confPairs ≡ end (gridOf S attendCells)) × (base S lunchTriples ≡ end (gridOf S confPairs))
+    × (base S rideCells ≡ end (gridOf S lunchTriples))
 unfolding base size
 base-next S = (omega arith, omega arith, omega arith, omega arith, omega arith, omega arith)
 
@@ -97,7 +109,8 @@ fits S b l g =
     }
 
 -- a grid with the numbers of a region
-pub grid-by : (S : Settings) (g : Region) (n : ℕ) → n ≡ base S g → _≡_ {A = Grid} (record { base = n; slots = slots S g; items = items S g; width = width g }) (gridOf S g)
+pub grid-by : (S : Settings) (g : Region) (n : ℕ) → n ≡ base S g
+    → _≡_ {A = Grid} (record { base = n; slots = slots S g; items = items S g; width = width g }) (gridOf S g)
 grid-by S g n e = ap (λ (n : ℕ). record { base = n; slots = slots S g; items = items S g; width = width g }) e
 
 -- the date of a slot is a date, and the word of a visitor a word of the row

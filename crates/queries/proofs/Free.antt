@@ -16,7 +16,8 @@ use Rattle.model.specs.State.{State}
 use Rattle.model.specs.Words.{standings}
 use Rattle.model.specs.Questions.{lowestFree, standsOn}
 use Rattle.model.specs.Reading.{stateOf, readState}
-use Rattle.model.proofs.Search.{lowest-by, any-true, any-false, true-any, false-any, none-failing, failing-none, and-true, and-left, and-right, within-true, true-within, both}
+use Rattle.model.proofs.Search.{lowest-by, any-true, any-false, true-any, false-any, none-failing, failing-none, and-true, and-left, and-right}
+use Rattle.model.proofs.Search.{within-true, true-within, both}
 use Rattle.book.specs.declared.found.Found.the-variants.{At, Nothing}
 use Rattle.book.specs.Founds.{foundOf}
 use Rattle.book.specs.Good.{Good}
@@ -43,15 +44,18 @@ free-no x first last c s l k e = go (failing (λ s. not (roomTaken x c s)) first
     go none q = both (failing-none (λ s. not (roomTaken x c s)) first last q s l k) (ap not e)
     go (some i) q = ap (λ (o : Option ℕ). not (isSome o)) q
 
-pub lowest-none : (x : State) (first last : ℕ) → ((c : ℕ) → c < x .settings .rooms → freeIn x first last c ≡ false) → Nothing ≡ foundOf (lowestFree x first last)
+pub lowest-none : (x : State) (first last : ℕ) → ((c : ℕ) → c < x .settings .rooms → freeIn x first last c ≡ false) → Nothing
+    ≡ foundOf (lowestFree x first last)
 unfolding lowestFree roomTaken
 lowest-none x first last h = sym (ap foundOf (lowest-by (freeIn x first last) 0 (x .settings .rooms) none (λ c l k. h c (omega (arith, k)))))
 
-pub lowest-at : (x : State) (first last c : ℕ) → c < x .settings .rooms → ((e : ℕ) → e < c → freeIn x first last e ≡ false) → freeIn x first last c ≡ true
+pub lowest-at : (x : State) (first last c : ℕ) → c < x .settings .rooms → ((e : ℕ) → e < c → freeIn x first last e ≡ false) → freeIn x first last c
+    ≡ true
     → At c ≡ foundOf (lowestFree x first last)
 unfolding lowestFree roomTaken
 lowest-at x first last c l h e =
-    sym (ap foundOf (lowest-by (freeIn x first last) 0 (x .settings .rooms) (some c) (record { low = omega arith; high = omega (arith, l); holds = e; first = λ j a b. h j b })))
+    sym (ap foundOf (lowest-by (freeIn x first last) 0 (x .settings .rooms) (some c)
+    (record { low = omega arith; high = omega (arith, l); holds = e; first = λ j a b. h j b })))
 
 -- the sessions of a date are those between two cuts
 module _ (x : State) (d m lo hi : ℕ) (a : Cut (x .settings) sessions d lo) (b : Cut (x .settings) sessions (d + 1) hi) where
@@ -63,7 +67,8 @@ module _ (x : State) (d m lo hi : ℕ) (a : Cut (x .settings) sessions d lo) (b 
   stands-yes s l k e =
       let n : s < allSessions (x .settings) = omega (arith, b .most) in
       let w : (d ≤ dateOfSession (x .settings) s) × (dateOfSession (x .settings) s ≤ d)
-      = within-true d d (dateOfSession (x .settings) s) (between-cuts (x .settings) sessions d d lo hi a b s n ∙ and-true (le-leb lo s l) (lt-ltb s hi k)) in
+      = within-true d d (dateOfSession (x .settings) s)
+      (between-cuts (x .settings) sessions d d lo hi a b s n ∙ and-true (le-leb lo s l) (lt-ltb s hi k)) in
       sym (true-any standsIn (allSessions (x .settings)) s n (and-true (eq-eqb (dateOfSession (x .settings) s) d (omega (arith, w))) e))
 
   pub stands-no : ((s : ℕ) → lo ≤ s → s < hi → x .standing s m ≡ false) → false ≡ standsOn x d m
@@ -75,7 +80,8 @@ module _ (x : State) (d m lo hi : ℕ) (a : Cut (x .settings) sessions d lo) (b 
       go s n true q =
           let e : dateOfSession (x .settings) s ≡ d = eqb-true _ d q in
           let c : leb lo s && ltb s hi ≡ true
-          = sym (between-cuts (x .settings) sessions d d lo hi a b s n) ∙ true-within d d (dateOfSession (x .settings) s) (omega (arith, e)) (omega (arith, e)) in
+          = sym (between-cuts (x .settings) sessions d d lo hi a b s n)
+          ∙ true-within d d (dateOfSession (x .settings) s) (omega (arith, e)) (omega (arith, e)) in
           rw q (h s (leb-true lo s (and-left (leb lo s) (ltb s hi) c)) (ltb-true s hi (and-right (leb lo s) (ltb s hi) c)))
 
 -- the same of a good book, by the cuts of its settings
@@ -107,7 +113,8 @@ module _ (S : Settings) (b : List ℕ) (good : Good S b) (d m lo hi : ℕ) (low 
       go : (t : Bool) → any at hi ≡ t → any at hi ≡ standsOn (stateOf b) d m
       go true q =
           let w : (k : ℕ) × (k < hi) × (at k ≡ true) = any-true at hi q in
-          q ∙ date-yes (w .0) (leb-true lo (w .0) (and-left (leb lo (w .0)) (stateOf b .standing (w .0) m) (w .2))) (w .1) (and-right (leb lo (w .0)) (stateOf b .standing (w .0) m) (w .2))
+          q ∙ date-yes (w .0) (leb-true lo (w .0) (and-left (leb lo (w .0)) (stateOf b .standing (w .0) m) (w .2))) (w .1)
+          (and-right (leb lo (w .0)) (stateOf b .standing (w .0) m) (w .2))
       go false q = q ∙ date-no (λ s l k. off s (le-leb lo s l) (any-false at hi q s k))
 
   -- and of their words

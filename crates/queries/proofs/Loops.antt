@@ -8,7 +8,8 @@ use native.Mathlib.Nat.{eq-or-lt-of-le}
 use native.Mathlib.Omega.{arith}
 
 -- from a number on
-pub passed-from : (t : ℕ → Bool) (from k : ℕ) → ((j : ℕ) → from ≤ j → j < k → t j ≡ false) → t k ≡ false → (j : ℕ) → from ≤ j → j < k + 1 → t j ≡ false
+pub passed-from : (t : ℕ → Bool) (from k : ℕ) → ((j : ℕ) → from ≤ j → j < k → t j ≡ false) → t k ≡ false → (j : ℕ) → from ≤ j → j < k + 1 → t j
+    ≡ false
 passed-from t from k f e j l h = go (eq-or-lt-of-le q)
   where
     q : j ≤ k

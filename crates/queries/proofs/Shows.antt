@@ -67,14 +67,16 @@ count-cell (suc c) n h =
 
 module _ (S : Settings) (b : List ℕ) (good : Good S b) where
   -- members of the pools
-  pub leave-bit : (d v : ℕ) → d < S .dates → v / 32 < groups (S .visitors) → stateOf b .leave d v ≡ bit (cellAt (gridOf S leaves) b d (v / 32)) (v % 32)
+  pub leave-bit : (d v : ℕ) → d < S .dates → v / 32 < groups (S .visitors) → stateOf b .leave d v
+      ≡ bit (cellAt (gridOf S leaves) b d (v / 32)) (v % 32)
   unfolding readState
   leave-bit d v h k = ap (λ (x : State). x .leave d v) (good-state good) ∙ bit-is S b leaves d v h k
 
   pub leave-is : (d v : ℕ) → d < S .dates → v < S .visitors → stateOf b .leave d v ≡ bit (cellAt (gridOf S leaves) b d (v / 32)) (v % 32)
   leave-is d v h k = leave-bit d v h (group-lt (S .visitors) v k)
 
-  pub standing-is : (i m : ℕ) → i < allSessions S → m < S .meetings → stateOf b .standing i m ≡ bit (cellAt (gridOf S standings) b i (m / 32)) (m % 32)
+  pub standing-is : (i m : ℕ) → i < allSessions S → m < S .meetings → stateOf b .standing i m
+      ≡ bit (cellAt (gridOf S standings) b i (m / 32)) (m % 32)
   unfolding readState
   standing-is i m h k = ap (λ (x : State). x .standing i m) (good-state good) ∙ bit-is S b standings i m h (group-lt (S .meetings) m k)
 
@@ -86,7 +88,8 @@ module _ (S : Settings) (b : List ℕ) (good : Good S b) where
       ∙ any-same (λ c. booked (readState S b) confs i c m) (λ c. eqb (cellAt (gridOf S confPairs) b i c) (m + 1)) (S .rooms)
       (λ c l. booked-eqb S b confs i h l k)
 
-  pub attended-is : (i m : ℕ) → i < allSessions S → m < S .meetings → any (λ v. stateOf b .attend i m v) (S .visitors) ≡ rowHas (gridOf S attendCells) b i (m + 1)
+  pub attended-is : (i m : ℕ) → i < allSessions S → m < S .meetings → any (λ v. stateOf b .attend i m v) (S .visitors)
+      ≡ rowHas (gridOf S attendCells) b i (m + 1)
   unfolding rowHas readState
   attended-is i m h k =
       ap (λ (x : State). any (λ v. x .attend i m v) (S .visitors)) (good-state good)
@@ -145,7 +148,8 @@ capacity-few S e g h =
     let r : Each (ranges S) = conj-is (ranges S) e in
     let f : S .dining ≤ 16 = within-true 1 16 (S .dining) (r .1 .1 .1 .1 .1 .1 .0) .1 in
     let t : cond (ltb g (S .dining)) (within 1 1000 (capacity S g)) (eqb (capacity S g) 0) ≡ true
-    = all-true (λ g. cond (ltb g (S .dining)) (within 1 1000 (capacity S g)) (eqb (capacity S g) 0)) 16 (r .1 .1 .1 .1 .1 .1 .1 .1 .1 .1 .0) g (omega arith) in
+    = all-true (λ g. cond (ltb g (S .dining)) (within 1 1000 (capacity S g)) (eqb (capacity S g) 0)) 16 (r .1 .1 .1 .1 .1 .1 .1 .1 .1 .1 .0) g
+    (omega arith) in
     within-true 1 1000 (capacity S g) (rw (lt-ltb g (S .dining) h) at t) .1
 
 -- the meeting's seats in a dining room, by its cell
@@ -156,10 +160,12 @@ module _ (S : Settings) (b : List ℕ) (good : Good S b) (d g m : ℕ) (h : d < 
 
   pub seats-other : (cellAt (gridOf S lunchTriples) b d m ≡ g + 1 → ⊥) → Seats (stateOf b) d g m 0
   seats-other n =
-      let e : seatsOf (stateOf b .lunch d g m) ≡ 0 = seats-is S b good d g m h l k ∙ ap (λ (t : Bool). cond t (at S b lunchTriples d m 1) 0) (ne-eqb _ (g + 1) n) in
+      let e : seatsOf (stateOf b .lunch d g m) ≡ 0 = seats-is S b good d g m h l k
+      ∙ ap (λ (t : Bool). cond t (at S b lunchTriples d m 1) 0) (ne-eqb _ (g + 1) n) in
       record { is = sym e; few = omega arith }
 
   pub seats-own : (w : ℕ) → cellAt (gridOf S lunchTriples) b d m ≡ g + 1 → w ≡ at S b lunchTriples d m 1 → Seats (stateOf b) d g m w
   seats-own w n q =
-      let e : seatsOf (stateOf b .lunch d g m) ≡ at S b lunchTriples d m 1 = seats-is S b good d g m h l k ∙ ap (λ (t : Bool). cond t (at S b lunchTriples d m 1) 0) (eq-eqb _ (g + 1) n) in
+      let e : seatsOf (stateOf b .lunch d g m) ≡ at S b lunchTriples d m 1 = seats-is S b good d g m h l k
+      ∙ ap (λ (t : Bool). cond t (at S b lunchTriples d m 1) 0) (eq-eqb _ (g + 1) n) in
       record { is = q ∙ sym e; few = omega (arith, few, e, q) }

@@ -7,7 +7,6 @@ use mathlib.Core.List.{List}
 use lib.Dec.{eqb}
 use Rattle.book.specs.declared.grid.Grid.{Grid}
 use Rattle.book.specs.Grids.{cellAt}
-use Rattle.book.specs.Rows.{rowCount}
 use Rattle.model.specs.Bounded.{any, isSome, one, sumFrom}
 use Rattle.model.specs.State.{State, seatsOf}
 
@@ -20,9 +19,6 @@ pub record Seats (x : State) (date room meeting r : ℕ) : Type 0 where
   pub is : r ≡ seatsOf (x .lunch date room meeting)
   pub few : r ≤ 1000
 
--- cells that hold w, and full cells of a column, in the slots from lo to before hi
-unfoldable pub rowsCount : Grid → List ℕ → ℕ → ℕ → ℕ → ℕ
-rowsCount g b w lo hi = sumFrom (λ i. rowCount g b i w) lo (hi - lo)
-
+-- full cells of a column in the slots from lo to before hi
 unfoldable pub columnCount : Grid → List ℕ → ℕ → ℕ → ℕ → ℕ
 columnCount g b j lo hi = sumFrom (λ i. one (not (eqb (cellAt g b i j) 0))) lo (hi - lo)

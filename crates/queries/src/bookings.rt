@@ -2,41 +2,27 @@
 use crate::entries::on_leave;
 use book::grid::Grid;
 use book::grid::Grids;
-use book::grid::at;
 use book::grid::cell;
 use book::grid::grids_of;
-use book::rows::part_count;
+use book::rows::row_count;
+use book::rows::rows_count;
+use book::rows::rows_have;
 use book::units::after;
 use book::units::sessions_on;
 use book::units::times_on;
 use model::Date;
 use model::Settings;
 ghost use mathlib.Core.Path.{_≡_};
-ghost use Prim.Native.Nat.{ℕ, _≤_, _<_};
-ghost use mathlib.Core.Bool.{false, not};
+ghost use Prim.Native.Nat.{_≤_, _<_};
+ghost use mathlib.Core.Bool.{not};
 ghost use lib.Dec.{eqb};
 ghost use Rattle.model.specs.Bounded.{one};
 ghost use Rattle.model.specs.Questions.{bookings as bookingsIn};
 ghost use Rattle.model.specs.Reading.{stateOf};
 ghost use Rattle.book.specs.Grids.{gridsOf};
 ghost use Rattle.book.specs.Good.{Good};
-ghost use Rattle.queries.specs.Shown.{rowsCount, columnCount};
+ghost use Rattle.queries.specs.Shown.{columnCount};
 ghost use Rattle.book.specs.Lent.{reading, Lies};
-
-// How many cells of the slots lo..hi, hi left out, hold w: rows of one-word cells stand one behind the other.
-pub fn rows_count(book: &[u32], g: Grid, w: u32, lo: u32, hi: u32) -> u32
-    requires { ⌜ Lies g (reading (now book)) ⌝ }
-    requires { ⌜ (g .width ≡ 1) × (1 ≤ g .items) ⌝ }
-    requires { ⌜ (lo ≤ hi) × (hi ≤ g .slots) ⌝ }
-    ensures { λ r. ⌜ r ≡ rowsCount g (reading (now (book .entry))) w lo hi ⌝ }
-{
-    if lo == hi {
-        return 0;
-    }
-    let start = at(g, lo, 0);
-    let end = start + ((hi - lo) as usize) * (g.items as usize);
-    part_count(&book[start..end], w)
-}
 
 fn full(w: u32) -> u32
     ensures { λ r. ⌜ r ≡ one (not (eqb w 0)) ⌝ }
@@ -63,50 +49,27 @@ fn column_count(book: &[u32], g: Grid, item: u32, lo: u32, hi: u32) -> u32
     n
 }
 
-// The entries of the visitor on the dates first..last, searched for in every slot of theirs.
-fn entries(book: &[u32], s: Settings, g: Grids, visitor: u32, first: Date, last: Date) -> u32
+// The entries of the visitor on the date: there are none without leave, and else they are searched for in every slot of the date.
+fn entries_on(book: &[u32], s: Settings, g: Grids, visitor: u32, date: Date) -> u32
     requires { ⌜ Good s (reading (now book)) ⌝ }
     requires { ⌜ g ≡ gridsOf s ⌝ }
     requires { ⌜ visitor < s .visitors ⌝ }
-    requires { ⌜ first .0 ≤ last .0 ⌝ }
-    requires { ⌜ last .0 < s .dates ⌝ }
-    ensures { λ r. ⌜ r ≡ bookingsIn (stateOf (reading (now (book .entry)))) visitor (first .0) (last .0) ⌝ }
+    requires { ⌜ date .0 < s .dates ⌝ }
+    ensures { λ r. ⌜ r ≡ bookingsIn (stateOf (reading (now (book .entry)))) visitor (date .0) (date .0) ⌝ }
 {
-    let times = times_on(s, first, last);
-    let sessions = sessions_on(s, first, last);
-    let nights = rows_count(book, g.hotel, visitor + 1, first.0, last.0 + 1);
-    let rides = rows_count(book, g.ride, visitor + 1, times.from.0, times.to.0);
-    let meetings = column_count(book, g.attend, visitor, sessions.from.0, sessions.to.0);
-    nights + rides + meetings
-}
-
-// Has the visitor leave on some date of first..last?
-pub fn some_leave(
-    book: &[u32],
-    s: Settings,
-    g: Grids,
-    visitor: u32,
-    first: Date,
-    last: Date,
-) -> bool
-    requires { ⌜ Good s (reading (now book)) ⌝ }
-    requires { ⌜ g ≡ gridsOf s ⌝ }
-    requires { ⌜ visitor < s .visitors ⌝ }
-    requires { ⌜ last .0 < s .dates ⌝ }
-    ensures { λ r. ⌜ (r ≡ false → (d : ℕ) → first .0 ≤ d → d ≤ last .0 → stateOf (reading (now (book .entry))) .leave d visitor ≡ false) ⌝ }
-{
-    let mut date = first;
-    while date.0 <= last.0 {
-        if on_leave(book, s, g, date, visitor) {
-            return true;
-        }
-        date = after(date);
+    if !on_leave(book, s, g, date, visitor) {
+        return 0;
     }
-    false
+    let sessions = sessions_on(s, date, date);
+    let times = times_on(s, date, date);
+    let nights = row_count(book, g.hotel, date.0, visitor + 1);
+    let meetings = column_count(book, g.attend, visitor, sessions.from.0, sessions.to.0);
+    let rides = rows_count(book, g.ride, visitor + 1, times.from.0, times.to.0);
+    nights + meetings + rides
 }
 
-// The entries of the visitor on the dates first..last: there are none without leave. The grids are computed here, where few products are
-// needed: a copy of all seven for the call would cost more.
+// The entries of the visitor on the dates first..last, date by date. The grids are computed here, where few products are needed: a copy of
+// all seven for the call would cost more.
 pub fn bookings(book: &[u32], s: Settings, visitor: u32, first: Date, last: Date) -> u32
     requires { ⌜ Good s (reading (now book)) ⌝ }
     requires { ⌜ visitor < s .visitors ⌝ }
@@ -115,10 +78,13 @@ pub fn bookings(book: &[u32], s: Settings, visitor: u32, first: Date, last: Date
     ensures { λ r. ⌜ r ≡ bookingsIn (stateOf (reading (now (book .entry)))) visitor (first .0) (last .0) ⌝ }
 {
     let g = grids_of(s);
-    if !some_leave(book, s, g, visitor, first, last) {
-        return 0;
+    let mut n: u32 = 0;
+    let mut date = first;
+    while date.0 <= last.0 {
+        n += entries_on(book, s, g, visitor, date);
+        date = after(date);
     }
-    entries(book, s, g, visitor, first, last)
+    n
 }
 
 // Has the visitor an entry on the date? What costs least is asked first: leave, without which there is none, a hotel room, a meeting,
@@ -133,7 +99,7 @@ pub fn has_bookings(book: &[u32], s: Settings, g: Grids, visitor: u32, date: Dat
     if !on_leave(book, s, g, date, visitor) {
         return false;
     }
-    if rows_count(book, g.hotel, visitor + 1, date.0, date.0 + 1) != 0 {
+    if row_count(book, g.hotel, date.0, visitor + 1) != 0 {
         return true;
     }
     let sessions = sessions_on(s, date, date);
@@ -141,5 +107,5 @@ pub fn has_bookings(book: &[u32], s: Settings, g: Grids, visitor: u32, date: Dat
         return true;
     }
     let times = times_on(s, date, date);
-    rows_count(book, g.ride, visitor + 1, times.from.0, times.to.0) != 0
+    rows_have(book, g.ride, visitor + 1, times.from.0, times.to.0)
 }

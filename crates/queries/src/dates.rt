@@ -2,7 +2,7 @@
 use crate::entries::member_between;
 use book::found::Found;
 use book::grid::Grids;
-use book::grid::at;
+use book::rows::row_members;
 use book::units::after;
 use book::units::sessions_on;
 use model::Date;
@@ -24,10 +24,7 @@ pub fn members(book: &[u32], s: Settings, g: Grids, date: Date) -> u32
     requires { ⌜ date .0 < s .dates ⌝ }
     ensures { λ r. ⌜ r ≡ count (λ v. stateOf (reading (now (book .entry))) .leave (date .0) v) (s .visitors) ⌝ }
 {
-    let start = at(g.leave, date.0, 0);
-    let words = g.leave.items;
-    let end = start + (words as usize);
-    pool::members(&book[start..end])
+    row_members(book, g.leave, date.0)
 }
 
 // The lowest date of first..last on which the meeting stands in no session.

@@ -1,8 +1,8 @@
 // Rooms: the lowest conference room that is free in a run of sessions, and the seats reserved in a dining room.
 use book::found::Found;
 use book::grid::Grids;
-use book::grid::at;
 use book::grid::cell;
+use book::grid::word;
 use model::Date;
 use model::Session;
 use model::Settings;
@@ -54,11 +54,10 @@ fn seats_at(book: &[u32], s: Settings, g: Grids, date: Date, room: u32, meeting:
     requires { ⌜ meeting < s .meetings ⌝ }
     ensures { λ r. ⌜ Seats (stateOf (reading (now (book .entry)))) (date .0) room meeting r ⌝ }
 {
-    let i = at(g.lunch, date.0, meeting);
-    if book[i] != room + 1 {
+    if cell(book, g.lunch, date.0, meeting) != room + 1 {
         return 0;
     }
-    book[i + 1]
+    word(book, g.lunch, date.0, meeting, 1)
 }
 
 // The seats reserved in a dining room on a date.

@@ -1,7 +1,6 @@
 -- Every slot before the one returned is before date d, by the last of them; before slot 0 there is none.
 -- Assumes nothing.
-use Prim.Native.Nat.{ℕ, _+_, _-_, _≤_, _<_}
-use mathlib.Core.Path.{_≡_}
+use Prim.Native.Nat.{ℕ, _-_, _≤_, _<_}
 use native.Mathlib.Omega.{arith}
 use borrow.Author.Needs.{needs}
 use Rattle.book.proofs.Cuts.{turn-low}
@@ -37,7 +36,8 @@ returns c =
     let lo : 0 < l .lo = c .before .before .before .before .loop-test .taken in
     record {
       order = l .inv .0;
-      before = λ i h. turn-low (s .args .s) (s .pre .0) (unitOf (s .args .u)) (s .args .d .0) (l .lo - 1) (rw (← (c .before .before .before .date-of .ensures)) (c .if1 .taken)) i (omega (arith, h, lo));
+      before = λ i h. turn-low (s .args .s) (s .pre .0) (unitOf (s .args .u)) (s .args .d .0) (l .lo - 1)
+          (rw (← (c .before .before .before .date-of .ensures)) (c .if1 .taken)) i (omega (arith, h, lo));
     }
 
 returns-2 : tie.Need-returns-2 Inv-loop μ-loop

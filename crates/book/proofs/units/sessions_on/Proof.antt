@@ -15,7 +15,7 @@ first-session-requires-2 : tie.Need-first-session-requires-2
 first-session-requires-2 c κs = search needs
 
 returns : tie.Need-returns
-returns c = on-dates (c .before .before .first-session .ensures) (rw (c .before .after .ensures) at (c .first-session2 .ensures))
+returns c = on-dates (c .before .before .first-session .ensures) (c .before .after .ensures) (c .first-session2 .ensures)
 
 pub sessions-on-spec : {M : Type 1} → statement M
 sessions-on-spec = tie.close (tie.spec first-session-requires after-requires first-session-requires-2 returns)

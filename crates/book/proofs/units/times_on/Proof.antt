@@ -15,7 +15,7 @@ first-time-requires-2 : tie.Need-first-time-requires-2
 first-time-requires-2 c κs = search needs
 
 returns : tie.Need-returns
-returns c = on-dates (c .before .before .first-time .ensures) (rw (c .before .after .ensures) at (c .first-time2 .ensures))
+returns c = on-dates (c .before .before .first-time .ensures) (c .before .after .ensures) (c .first-time2 .ensures)
 
 pub times-on-spec : {M : Type 1} → statement M
 times-on-spec = tie.close (tie.spec first-time-requires after-requires first-time-requires-2 returns)

@@ -1,4 +1,4 @@
--- `bookings::column_count` meets its contract: after the slots before i, n is their count.
+-- After the slots before i, n is their count.
 -- Assumes nothing.
 use Rattle.book.specs.Lent.{reading}
 use Prim.Native.Nat.{ℕ, _+_, _-_, _≤_}
@@ -16,15 +16,21 @@ use Rattle.queries.proofs.bookings.column_count.Statement.{statement}
 use Rattle.queries.proofs.bookings.column_count.Tie as tie
 
 abbrev Inv-loop : tie.InvT-loop
-Inv-loop book g item lo hi n₀ i₀ n i = (lo ≤ i) × (i ≤ hi) × (n ≡ sumFrom (λ k. one (not (eqb (cellAt g (reading book) k item) 0))) lo (i - lo)) × (n ≤ i - lo)
+Inv-loop book g item lo hi n₀ i₀ n i = (lo ≤ i) × (i ≤ hi) × (n ≡ sumFrom (λ k. one (not (eqb (cellAt g (reading book) k item) 0))) lo (i - lo))
+    × (n ≤ i - lo)
 
 abbrev μ-loop : tie.MeasureT-loop
 μ-loop book g item lo hi n₀ i₀ n i = hi - i
 
 loop-holds : tie.Need-loop-holds Inv-loop μ-loop
 loop-holds c =
-    let a = c .before .args in
-    (search needs, omega (arith, c .before .pre .1 .1), sum-start (λ k. one (not (eqb (cellAt (a .g) (reading (a .book .now)) k (a .item)) 0))) (a .lo), search needs)
+    let a = c .before .args in (
+      search needs,
+      omega (arith, c .before .pre .1 .1),
+      sum-start (λ k. one (not (eqb (cellAt (a .g) (reading (a .book .now)) k (a .item)) 0)))
+          (a .lo),
+      search needs,
+    )
 
 cell-requires : tie.Need-cell-requires Inv-loop μ-loop
 cell-requires c κs =
@@ -49,7 +55,8 @@ loop-again c =
     let l = c .before .before .before .loop in (
       omega arith,
       omega arith,
-      ap₂ _+_ (l .inv .2) (c .full .ensures ∙ ap (λ (w : ℕ). one (not (eqb w 0))) (c .before .cell .ensures)) ∙ sym (sum-next (λ k. one (not (eqb (cellAt (a .g) (reading (a .book .now)) k (a .item)) 0))) (a .lo) (l .i) (l .inv .0)),
+      ap₂ _+_ (l .inv .2) (c .full .ensures ∙ ap (λ (w : ℕ). one (not (eqb w 0))) (c .before .cell .ensures))
+          ∙ sym (sum-next (λ k. one (not (eqb (cellAt (a .g) (reading (a .book .now)) k (a .item)) 0))) (a .lo) (l .i) (l .inv .0)),
       omega (arith, c .full .ensures, one-le (not (eqb (c .before .cell .result) 0))),
     )
 

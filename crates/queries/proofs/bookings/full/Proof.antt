@@ -1,4 +1,4 @@
--- `bookings::full` meets its contract.
+-- By the test.
 -- Assumes nothing.
 use Prim.Native.Nat.{_-_}
 use borrow.Author.Tests.{eq-eqb, ne-eqb}

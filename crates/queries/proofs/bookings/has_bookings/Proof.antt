@@ -1,7 +1,7 @@
 -- None without leave; else a hotel room, a meeting or a ride is one, and there is no other.
 -- Assumes nothing.
 use Rattle.book.specs.Lent.{reading}
-use Prim.Native.Nat.{ℕ}
+use Prim.Native.Nat.{ℕ, _+_}
 use mathlib.Core.Path.{_≡_, refl, sym, _∙_, ap}
 use mathlib.Core.Bool.{not}
 use native.Mathlib.Omega.{arith}
@@ -12,8 +12,10 @@ use Rattle.model.specs.Kinds.{sessions, times}
 use Rattle.model.specs.Words.{attendCells, hotelCells, rideCells}
 use Rattle.model.specs.Questions.{bookings}
 use Rattle.model.specs.Reading.{stateOf}
-use Rattle.book.proofs.Regions.{lies, all-sessions}
-use Rattle.book.proofs.Goods.{good-laid}
+use Rattle.book.specs.Grids.{gridOf}
+use Rattle.book.specs.Rows.{rowsCount}
+use Rattle.book.proofs.Regions.{all-sessions}
+use Rattle.book.proofs.Goods.{good-laid, good-lies}
 use Rattle.queries.proofs.Runs.{run-order, bookings-is, nights-le, seated-le}
 use Rattle.queries.proofs.Spans.{bookings-none-on}
 use Rattle.queries.proofs.bookings.has_bookings.Statement.{statement}
@@ -25,85 +27,87 @@ on-leave-requires c κs = search needs
 returns : tie.Need-returns
 returns c =
     let s = c .before .before .before in
-    sym (ap not (eq-eqb _ 0 (bookings-none-on (s .pre .0) (s .args .visitor) (s .args .date .0) (sym (c .before .on-leave .ensures) ∙ not-true _ (c .if1 .taken)))))
+    sym (ap not (eq-eqb _ 0 (bookings-none-on (s .pre .0) (s .args .visitor) (s .args .date .0)
+    (sym (c .before .on-leave .ensures) ∙ not-true _ (c .if1 .taken)))))
 
-add-rows-count : tie.Need-add-rows-count
-add-rows-count c = let p = c .before .before .before .pre in omega (arith, good-laid (p .0) .ranges .visitors, p .1 .1 .0)
+add-row-count : tie.Need-add-row-count
+add-row-count c = let p = c .before .before .before .pre in omega (arith, good-laid (p .0) .ranges .visitors, p .1 .1 .0)
 
-add-rows-count-2 : tie.Need-add-rows-count-2
-add-rows-count-2 c = let p = c .before .before .before .before .pre in omega (arith, good-laid (p .0) .ranges .dates, p .1 .1 .1)
-
-rows-count-requires : tie.Need-rows-count-requires
-rows-count-requires c κs =
-    let s = c .before .before .before .before in
-    let l = good-laid (s .pre .0) in
-    (rw (s .pre .1 .0) (lies (s .args .s) (reading (s .args .book .now)) l hotelCells), (rw (s .pre .1 .0) (refl, l .ranges .hotels .0), rw (s .pre .1 .0) (omega arith, omega (arith, s .pre .1 .1 .1))))
+row-count-requires : tie.Need-row-count-requires
+row-count-requires c κs =
+    let s = c .before .before .before in
+    (rw (s .pre .1 .0) (good-lies (s .pre .0) hotelCells), rw (s .pre .1 .0) (s .pre .1 .1 .1))
 
 returns-2 : tie.Need-returns-2
 returns-2 c =
-    let s = c .before .before .before .before .before .before in
+    let s = c .before .before .before .before .before in
     let a = s .args in
-    let e = rw (s .pre .1 .0) at (c .before .rows-count .ensures) in
-    let k = nights-le (a .s) (reading (a .book .now)) (s .pre .0) (a .visitor) (a .date .0) (a .date .0) (s .pre .1 .1 .0) (omega arith) (s .pre .1 .1 .1) in
-    sym (ap not (ne-eqb (bookings (stateOf (reading (a .book .now))) (a .visitor) (a .date .0) (a .date .0)) 0 (λ z. c .if2 .taken (omega (arith, e, k, z)))))
+    let e = rw (s .pre .1 .0) at (c .before .row-count .ensures) in
+    let k = nights-le (a .s) (reading (a .book .now)) (s .pre .0) (a .visitor) (a .date .0) (s .pre .1 .1 .0) (s .pre .1 .1 .1) in
+    sym (ap not (ne-eqb (bookings (stateOf (reading (a .book .now))) (a .visitor) (a .date .0) (a .date .0)) 0
+    (λ z. c .if2 .taken (omega (arith, e, k, z)))))
 
 sessions-on-requires : tie.Need-sessions-on-requires
-sessions-on-requires c κs =
-    let s = c .before .before .before .before .before .before in
-    let l = good-laid (s .pre .0) in
-    (l .ranges, (omega arith, s .pre .1 .1 .1))
+sessions-on-requires c κs = let s = c .before .before .before .before .before in (good-laid (s .pre .0) .ranges, (omega arith, s .pre .1 .1 .1))
 
 column-count-requires : tie.Need-column-count-requires
 column-count-requires c κs =
-    let s = c .before .before .before .before .before .before .before in
-    let l = good-laid (s .pre .0) in
+    let s = c .before .before .before .before .before .before in
     let p = c .sessions-on .ensures in (
-      rw (s .pre .1 .0) (lies (s .args .s) (reading (s .args .book .now)) l attendCells),
+      rw (s .pre .1 .0) (good-lies (s .pre .0) attendCells),
       (
         rw (s .pre .1 .0) (s .pre .1 .1 .0),
-        rw (s .pre .1 .0) (run-order (s .args .s) sessions _ _ _ _ p (omega arith), p .ends .most, omega (arith, all-sessions (s .args .s) (l .ranges))),
+        rw (s .pre .1 .0) (
+          run-order (s .args .s) sessions _ _ _ _ p (omega arith),
+          p .ends .most,
+          omega
+              (arith, all-sessions (s .args .s) (good-laid (s .pre .0) .ranges)),
+        ),
       ),
     )
 
 returns-3 : tie.Need-returns-3
 returns-3 c =
-    let s = c .before .before .before .before .before .before .before .before .before in
+    let s = c .before .before .before .before .before .before .before .before in
     let a = s .args in
     let e = rw (s .pre .1 .0) at (c .before .column-count .ensures) in
-    let k = seated-le (a .s) (reading (a .book .now)) (s .pre .0) (a .visitor) (a .date .0) (a .date .0) (s .pre .1 .1 .0) (omega arith) (s .pre .1 .1 .1) _ _ (c .before .before .sessions-on .ensures) in
-    sym (ap not (ne-eqb (bookings (stateOf (reading (a .book .now))) (a .visitor) (a .date .0) (a .date .0)) 0 (λ z. c .if3 .taken (omega (arith, e, k, z)))))
+    let k = seated-le (a .s) (reading (a .book .now)) (s .pre .0) (a .visitor) (a .date .0) (s .pre .1 .1 .0) (s .pre .1 .1 .1) _ _
+    (c .before .before .sessions-on .ensures) in
+    sym (ap not (ne-eqb (bookings (stateOf (reading (a .book .now))) (a .visitor) (a .date .0) (a .date .0)) 0
+    (λ z. c .if3 .taken (omega (arith, e, k, z)))))
 
 times-on-requires : tie.Need-times-on-requires
 times-on-requires c κs =
-    let s = c .before .before .before .before .before .before .before .before .before in
-    let l = good-laid (s .pre .0) in
-    (l .ranges, (omega arith, s .pre .1 .1 .1))
+    let s = c .before .before .before .before .before .before .before .before in
+    (good-laid (s .pre .0) .ranges, (omega arith, s .pre .1 .1 .1))
 
-add-rows-count-3 : tie.Need-add-rows-count-3
-add-rows-count-3 c =
-    let p = c .before .before .before .before .before .before .before .before .before .before .pre in
+add-rows-have : tie.Need-add-rows-have
+add-rows-have c =
+    let p = c .before .before .before .before .before .before .before .before .before .pre in
     omega (arith, good-laid (p .0) .ranges .visitors, p .1 .1 .0)
 
-rows-count-requires-2 : tie.Need-rows-count-requires-2
-rows-count-requires-2 c κs =
-    let s = c .before .before .before .before .before .before .before .before .before .before in
-    let l = good-laid (s .pre .0) in
+rows-have-requires : tie.Need-rows-have-requires
+rows-have-requires c κs =
+    let s = c .before .before .before .before .before .before .before .before .before in
     let t = c .times-on .ensures in (
-      rw (s .pre .1 .0) (lies (s .args .s) (reading (s .args .book .now)) l rideCells),
-      (rw (s .pre .1 .0) (refl, l .ranges .transports .0), rw (s .pre .1 .0) (run-order (s .args .s) times _ _ _ _ t (omega arith), t .ends .most)),
+      rw (s .pre .1 .0) (good-lies (s .pre .0) rideCells),
+      (rw (s .pre .1 .0) refl, rw (s .pre .1 .0) (run-order (s .args .s) times _ _ _ _ t (omega arith), t .ends .most)),
     )
 
 returns-4 : tie.Need-returns-4
 returns-4 c =
-    let s = c .before .before .before .before .before .before .before .before .before .before .before in
+    let s = c .before .before .before .before .before .before .before .before .before .before in
     let a = s .args in
-    let e1 = rw (s .pre .1 .0) at (c .before .before .before .before .before .before .rows-count .ensures) in
-    let e2 = rw (s .pre .1 .0) at (c .rows-count2 .ensures) in
-    let e3 = rw (s .pre .1 .0) at (c .before .before .before .column-count .ensures) in
-    let k = bookings-is (a .s) (reading (a .book .now)) (s .pre .0) (a .visitor) (a .date .0) (a .date .0) (s .pre .1 .1 .0) (omega arith) (s .pre .1 .1 .1) _ _ _ _ (c .before .times-on .ensures) (c .before .before .before .before .sessions-on .ensures) in
-    let e : c .rows-count2 .result ≡ bookings (stateOf (reading (a .book .now))) (a .visitor) (a .date .0) (a .date .0)
-    = omega (arith, e1, e2, e3, k, c .before .before .before .before .before .if2 .left, c .before .before .if3 .left) in
-    ap (λ (n : ℕ). not (eqb n 0)) e
+    let t = c .before .times-on in
+    let e1 = rw (s .pre .1 .0) at (c .before .before .before .before .before .before .row-count .ensures) in
+    let e2 = rw (s .pre .1 .0) at (c .before .before .before .column-count .ensures) in
+    let e3 = rw (s .pre .1 .0) at (c .rows-have .ensures) in
+    let k = bookings-is (a .s) (reading (a .book .now)) (s .pre .0) (a .visitor) (a .date .0) (s .pre .1 .1 .0) (s .pre .1 .1 .1) _ _ _ _
+    (c .before .before .before .before .sessions-on .ensures) (t .ensures) in
+    let e : rowsCount (gridOf (a .s) rideCells) (reading (a .book .now)) (a .visitor + 1) (t .result .from .0) (t .result .to .0)
+    ≡ bookings (stateOf (reading (a .book .now))) (a .visitor) (a .date .0) (a .date .0)
+    = omega (arith, e1, e2, k, c .before .before .before .before .before .if2 .left, c .before .before .if3 .left) in
+    e3 ∙ ap (λ (n : ℕ). not (eqb n 0)) e
 
 pub has-bookings-spec : {M : Type 1} → statement M
 has-bookings-spec =
@@ -111,14 +115,13 @@ has-bookings-spec =
     (tie.spec
     on-leave-requires
     returns
-    add-rows-count
-    add-rows-count-2
-    rows-count-requires
+    add-row-count
+    row-count-requires
     returns-2
     sessions-on-requires
     column-count-requires
     returns-3
     times-on-requires
-    add-rows-count-3
-    rows-count-requires-2
+    add-rows-have
+    rows-have-requires
     returns-4)

@@ -11,14 +11,15 @@ use Rattle.model.specs.Reading.{stateOf}
 use Rattle.model.specs.Words.{standings}
 use Rattle.model.proofs.Search.{failing-at, passed-more, none-failing}
 use Rattle.book.specs.Founds.{foundOf}
-use Rattle.book.proofs.Goods.{good-laid}
-use Rattle.book.proofs.Regions.{lies, group-lt}
+use Rattle.book.proofs.Goods.{good-laid, good-lies}
+use Rattle.book.proofs.Regions.{group-lt}
 use Rattle.queries.proofs.Free.{date-bits}
 use Rattle.queries.proofs.dates.first_without_session.Statement.{statement}
 use Rattle.queries.proofs.dates.first_without_session.Tie as tie
 
 abbrev Inv-loop : tie.InvT-loop
-Inv-loop book s g meeting last date₀ date = (date₀ .0 ≤ date .0) × ((d : ℕ) → date₀ .0 ≤ d → d < date .0 → standsOn (stateOf (reading book)) d meeting ≡ true)
+Inv-loop book s g meeting last date₀ date = (date₀ .0 ≤ date .0)
+    × ((d : ℕ) → date₀ .0 ≤ d → d < date .0 → standsOn (stateOf (reading book)) d meeting ≡ true)
 
 abbrev μ-loop : tie.MeasureT-loop
 μ-loop book s g meeting last date₀ date = suc (last .0) - date .0
@@ -35,8 +36,12 @@ member-between-requires : tie.Need-member-between-requires Inv-loop μ-loop
 member-between-requires c κs =
     let s = c .before .before .before .before .before .before in
     let l = good-laid (s .pre .0) in (
-      rw (s .pre .1 .0) (lies (s .args .s) (reading (s .args .book .now)) l standings),
-      (rw (s .pre .1 .0) (c .sessions-on .ensures .ends .most), rw (s .pre .1 .0) (group-lt (s .args .s .meetings) (s .args .meeting) (s .pre .1 .1 .0))),
+      rw (s .pre .1 .0) (good-lies (s .pre .0) standings),
+      (
+        rw (s .pre .1 .0) (c .sessions-on .ensures .ends .most),
+        rw (s .pre .1 .0)
+            (group-lt (s .args .s .meetings) (s .args .meeting) (s .pre .1 .1 .0)),
+      ),
     )
 
 returns : tie.Need-returns Inv-loop μ-loop
@@ -47,7 +52,8 @@ returns c =
     let e = rw (s .pre .1 .0) at (c .before .member-between .ensures) in
     ap foundOf
     (sym (failing-at _ _ _ (l .date .0) (l .inv .0) (c .before .before .before .if1 .taken)
-    (sym (date-bits (s .args .s) (reading (s .args .book .now)) (s .pre .0) (l .date .0) (s .args .meeting) _ _ (r .begins) (r .ends) (s .pre .1 .1 .0))
+    (sym (date-bits (s .args .s) (reading (s .args .book .now)) (s .pre .0) (l .date .0) (s .args .meeting) _ _ (r .begins) (r .ends)
+    (s .pre .1 .1 .0))
     ∙ sym e ∙ not-true _ (c .if2 .taken)) (l .inv .1)))
 
 after-requires : tie.Need-after-requires Inv-loop μ-loop
@@ -66,14 +72,16 @@ loop-again c =
     let n = c .after .ensures in
     let e = rw (s .pre .1 .0) at (c .before .before .member-between .ensures) in
     let q = passed-more _ _ _ (l .inv .1)
-    (sym (date-bits (s .args .s) (reading (s .args .book .now)) (s .pre .0) (l .date .0) (s .args .meeting) _ _ (r .begins) (r .ends) (s .pre .1 .1 .0))
+    (sym (date-bits (s .args .s) (reading (s .args .book .now)) (s .pre .0) (l .date .0) (s .args .meeting) _ _ (r .begins) (r .ends)
+    (s .pre .1 .1 .0))
     ∙ sym e ∙ not-false _ (c .before .if2 .left)) in
     (omega (arith, n), λ d g h. q d g (omega (arith, n, h)))
 
 returns-2 : tie.Need-returns-2 Inv-loop μ-loop
 returns-2 c =
     let a = c .before .before .before .before .before .args in
-    ap foundOf (sym (none-failing _ (a .first .0) (a .last .0) (λ d l h. c .before .before .before .loop .inv .1 d l (omega (arith, h, c .if1 .left)))))
+    ap foundOf (sym (none-failing _ (a .first .0) (a .last .0)
+    (λ d l h. c .before .before .before .loop .inv .1 d l (omega (arith, h, c .if1 .left)))))
 
 pub first-without-session-spec : {M : Type 1} → statement M
 first-without-session-spec =

@@ -1,4 +1,4 @@
--- `entries::member` meets its contract.
+-- The bit of the word that holds it.
 -- Assumes nothing.
 use borrow.Author.Needs.{needs}
 use Rattle.queries.proofs.entries.member.Statement.{statement}

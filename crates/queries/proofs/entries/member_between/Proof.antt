@@ -44,7 +44,8 @@ returns-2 : tie.Need-returns-2 Inv-loop μ-loop
 returns-2 c =
     let l = c .before .loop in
     let a = c .before .before .before .args in
-    between-no (λ k. bit (cellAt (a .g) (reading (a .book .now)) k (a .v / 32)) (a .v % 32)) (a .lo) (a .hi) (λ k h g. l .inv .1 k h (omega (arith, g, c .loop-test .left)))
+    between-no (λ k. bit (cellAt (a .g) (reading (a .book .now)) k (a .v / 32)) (a .v % 32)) (a .lo) (a .hi)
+    (λ k h g. l .inv .1 k h (omega (arith, g, c .loop-test .left)))
 
 pub member-between-spec : {M : Type 1} → statement M
 member-between-spec =

@@ -2,7 +2,7 @@
 -- Assumes nothing.
 use Rattle.book.specs.Lent.{reading}
 use Prim.Native.Nat.{ℕ, _-_, _≤_, _<_}
-use mathlib.Core.Path.{_≡_, sym, _∙_, ap}
+use mathlib.Core.Path.{_≡_, _∙_, ap}
 use mathlib.Core.Bool.{false, not}
 use native.Mathlib.Omega.{arith}
 use borrow.Author.Tests.{eq-eqb, ne-eqb}
@@ -10,8 +10,7 @@ use borrow.Author.Needs.{needs}
 use Rattle.model.specs.State.{State}
 use Rattle.model.specs.Reading.{stateOf, readState}
 use Rattle.model.specs.Words.{confPairs}
-use Rattle.book.proofs.Goods.{good-laid, good-state}
-use Rattle.book.proofs.Regions.{lies}
+use Rattle.book.proofs.Goods.{good-state, good-lies}
 use Rattle.queries.specs.Shown.{roomTaken}
 use Rattle.queries.proofs.Free.{freeIn, free-yes, free-no, lowest-none, lowest-at}
 use Rattle.queries.proofs.Shows.{room-taken-is}
@@ -20,7 +19,8 @@ use Rattle.queries.proofs.rooms.lowest_free.Statement.{statement}
 use Rattle.queries.proofs.rooms.lowest_free.Tie as tie
 
 abbrev Inv-loop : tie.InvT-loop
-Inv-loop book g rooms from to next room slot₀ slot = (from ≤ slot) × (slot ≤ to) × ((k : ℕ) → from ≤ k → k < slot → roomTaken (stateOf (reading book)) room k ≡ false)
+Inv-loop book g rooms from to next room slot₀ slot = (from ≤ slot) × (slot ≤ to)
+    × ((k : ℕ) → from ≤ k → k < slot → roomTaken (stateOf (reading book)) room k ≡ false)
 
 abbrev μ-loop : tie.MeasureT-loop
 μ-loop book g rooms from to next room slot₀ slot = to - slot
@@ -43,7 +43,7 @@ loop-holds c = (search needs, omega arith, λ k h g. absurd (omega (arith, h, g)
 cell-requires : tie.Need-cell-requires Inv-loop μ-loop Inv-rooms μ-rooms
 cell-requires c κs =
     let s = c .before .before .before .before .before in (
-      rw (s .pre .1 .0) (lies (s .args .s) (reading (s .args .book .now)) (good-laid (s .pre .0)) confPairs),
+      rw (s .pre .1 .0) (good-lies (s .pre .0) confPairs),
       (rw (s .pre .1 .0) (omega (arith, s .pre .1 .1 .1)), rw (s .pre .1 .0) (omega arith)),
     )
 
@@ -60,7 +60,8 @@ rooms-again c =
     let t = room-taken-is (a .s) (reading (a .book .now)) (s .pre .0) (r .next) (l .slot) (omega (arith, s .pre .1 .1 .1)) (omega arith) in (
       omega arith,
       passed-false _ (r .next) (r .inv .1)
-          (free-no (stateOf (reading (a .book .now))) (a .first .0) (a .last .0) (r .next) (l .slot) (l .inv .0) (l .inv .1) (t ∙ rw (← e) (ap not (ne-eqb _ 0 (c .if2 .taken))))),
+          (free-no (stateOf (reading (a .book .now))) (a .first .0) (a .last .0) (r .next) (l .slot) (l .inv .0) (l .inv .1)
+          (t ∙ rw (← e) (ap not (ne-eqb _ 0 (c .if2 .taken))))),
     )
 
 add-slot : tie.Need-add-slot Inv-loop μ-loop Inv-rooms μ-rooms

@@ -1,4 +1,4 @@
--- `rooms::reserved` meets its contract: after m meetings the sum is theirs.
+-- After m meetings the sum is theirs.
 -- Assumes nothing.
 use Rattle.book.specs.Lent.{reading}
 use Prim.Native.Nat.{ℕ, _+_, _*_, _-_, _≤_}
@@ -14,7 +14,8 @@ use Rattle.queries.proofs.rooms.reserved.Statement.{statement}
 use Rattle.queries.proofs.rooms.reserved.Tie as tie
 
 abbrev Inv-loop : tie.InvT-loop
-Inv-loop book s g date room meetings seats₀ m₀ seats m = (meetings ≡ s .meetings) × (m ≤ meetings) × (seats ≡ sum (λ k. seatsOf (stateOf (reading book) .lunch (date .0) room k)) m) × (seats ≤ 1000 * m)
+Inv-loop book s g date room meetings seats₀ m₀ seats m = (meetings ≡ s .meetings) × (m ≤ meetings)
+    × (seats ≡ sum (λ k. seatsOf (stateOf (reading book) .lunch (date .0) room k)) m) × (seats ≤ 1000 * m)
 
 abbrev μ-loop : tie.MeasureT-loop
 μ-loop book s g date room meetings seats₀ m₀ seats m = meetings - m
@@ -39,8 +40,14 @@ loop-less c = search needs
 loop-again : tie.Need-loop-again Inv-loop μ-loop
 loop-again c =
     let a = c .before .before .before .before .args in
-    let l = c .before .before .loop in
-    (search needs, search needs, ap₂ _+_ (l .inv .2) (c .seats-at .ensures .is) ∙ sym (sum-more (λ k. seatsOf (stateOf (reading (a .book .now)) .lunch (a .date .0) (a .room) k)) (l .m)), omega (arith, c .seats-at .ensures .few))
+    let l = c .before .before .loop in (
+      search needs,
+      search needs,
+      ap₂ _+_ (l .inv .2) (c .seats-at .ensures .is)
+          ∙ sym (sum-more (λ k. seatsOf (stateOf (reading (a .book .now)) .lunch (a .date .0) (a .room) k)) (l .m)),
+      omega
+          (arith, c .seats-at .ensures .few),
+    )
 
 returns : tie.Need-returns Inv-loop μ-loop
 unfolding reserved readState
