@@ -4,7 +4,7 @@ use Prim.Native.Nat.{ℕ, zero, suc, _+_, _*_, _/_, _%_, _-_, _≤_, _<_}
 use mathlib.Core.Path.{_≡_, refl, sym, _∙_, ap, ap₂}
 use mathlib.Core.Bool.{Bool}
 use mathlib.Core.List.{List}
-use native.Mathlib.Nat.{mul-one, add-mul, mul-le-mul-right}
+use native.Mathlib.Nat.{mul-one, mul-assoc, mul-le-mul-right}
 use native.Mathlib.Omega.{arith}
 use lib.Dec.{eqb}
 use lib.ListN.{length, getD, take, drop, length-take, length-drop}
@@ -13,8 +13,10 @@ use Rattle.model.specs.Bounded.{one, bit, sumFrom, count}
 use Rattle.model.proofs.Sums.{sum-agree, sum-split, sum-cut}
 use Rattle.pool.specs.Pool.{member}
 use Rattle.book.specs.declared.grid.Grid.{Grid}
-use Rattle.book.specs.Grids.{Fits, place, cellAt}
-use Rattle.book.specs.Rows.{Stretch, partCount, rowCount, rowsCount, rowMembers}
+use Rattle.book.specs.Grids.{place, cellAt}
+use Rattle.book.specs.Blocks.{Part, across, blockOf}
+use Rattle.book.specs.Lent.{Lies}
+use Rattle.book.specs.Rows.{partCount, rowCount, rowsCount, rowMembers}
 use Rattle.book.proofs.Counts.{count-same}
 
 sum-shift : (f : ℕ → ℕ) (a i n : ℕ) → sumFrom (λ j. f (a + j)) i n ≡ sumFrom f (a + i) n
@@ -34,40 +36,36 @@ sum-blocks f m lo (suc n) =
     ∙ sym (sum-split f (lo * m) m (n * m))
     ∙ sym (ap (sumFrom f (lo * m)) t)
 
--- where a run stands
-pub stretch-is : (g : Grid) (lo hi n : ℕ) → g .width ≡ 1 → lo ≤ hi → hi ≤ g .slots → Fits g n
-    → Stretch g lo hi (g .base + lo * g .items) (g .base + hi * g .items)
-stretch-is g lo hi n e l h f =
-    let a : lo * g .items ≤ hi * g .items = mul-le-mul-right (g .items) l in
-    let b : hi * g .items ≤ g .slots * g .items = mul-le-mul-right (g .items) h in
-    let c : g .slots * g .items * g .width ≡ g .slots * g .items = ap (λ (w : ℕ). g .slots * g .items * w) e ∙ mul-one (g .slots * g .items) in
-    record { from = refl; to = refl; order = omega (arith, a); room = omega (arith, b, c) }
+-- the words of a block are few enough to be counted
+pub block-few : (g : Grid) (b : List ℕ) (lo hi : ℕ) → Lies g b → hi ≤ g .slots → (hi - lo) * across g ≤ 1000000000
+unfolding Lies
+block-few g b lo hi f h =
+    let a : (hi - lo) * across g ≤ g .slots * across g = mul-le-mul-right (across g) (omega (arith, h)) in
+    omega (arith, a, mul-assoc (g .slots) (g .items) (g .width), f .ends, f .small)
 
-module _ (g : Grid) (lo hi start end : ℕ) (e : g .width ≡ 1) (l : lo ≤ hi) (x : Stretch g lo hi start end) (b : List ℕ) (k : end ≤ length b) where
-  abbrev part : List ℕ
-  part = take (end - start) (drop start b)
+-- a block of one-word cells
+module _ (g : Grid) (lo hi : ℕ) (e : g .width ≡ 1) (b row : List ℕ) (p : Part row ((hi - lo) * across g) (blockOf g b lo hi)) where
+  narrow : across g ≡ g .items
+  narrow = ap (λ (w : ℕ). g .items * w) e ∙ mul-one (g .items)
 
-  pub part-long : length part ≡ (hi - lo) * g .items
-  part-long =
-      let n : lo + (hi - lo) ≡ hi = omega arith in
-      let m : lo * g .items + (hi - lo) * g .items ≡ hi * g .items = sym (add-mul lo (hi - lo) (g .items)) ∙ ap (λ (n : ℕ). n * g .items) n in
-      omega (arith, m, x .from, x .to, length-take (end - start) (drop start b), length-drop start b)
+  pub part-long : length row ≡ (hi - lo) * g .items
+  part-long = p .long ∙ ap (λ (n : ℕ). (hi - lo) * n) narrow
 
-  -- a word of the part
-  part-at : (j : ℕ) → j < (hi - lo) * g .items → getD part j 0 ≡ getD b (g .base + (lo * g .items + j)) 0
+  part-at : (j : ℕ) → j < (hi - lo) * g .items → getD row j 0 ≡ getD b (g .base + (lo * g .items + j)) 0
   part-at j h =
-      getD-take (end - start) (drop start b) j 0 (omega (arith, part-long, length-take (end - start) (drop start b), h))
-      ∙ getD-drop start b j 0
-      ∙ ap (λ (n : ℕ). getD b n 0) (omega (arith, x .from))
+      ap (λ (r : List ℕ). getD r j 0) (p .is)
+      ∙ getD-take ((hi - lo) * across g) (drop (g .base + lo * across g) b) j 0 (omega (arith, h, ap (λ (n : ℕ). (hi - lo) * n) narrow))
+      ∙ getD-drop (g .base + lo * across g) b j 0
+      ∙ ap (λ (n : ℕ). getD b n 0) (omega (arith, ap (λ (n : ℕ). lo * n) narrow))
 
   place-at : (i j : ℕ) → place g i j 0 ≡ g .base + (i * g .items + j)
   place-at i j = ap (λ (v : ℕ). g .base + ((i * g .items + j) * v + 0)) e ∙ omega (arith, mul-one (i * g .items + j))
 
-  pub part-counts : (w : ℕ) → partCount part w ≡ rowsCount g b w lo hi
+  pub part-counts : (w : ℕ) → partCount row w ≡ rowsCount g b w lo hi
   unfolding partCount rowsCount rowCount cellAt
   part-counts w =
-      ap (count (λ j. eqb (getD part j 0) w)) part-long
-      ∙ count-same (λ j. eqb (getD part j 0) w) (λ j. eqb (getD b (g .base + (lo * g .items + j)) 0) w) ((hi - lo) * g .items)
+      ap (count (λ j. eqb (getD row j 0) w)) part-long
+      ∙ count-same (λ j. eqb (getD row j 0) w) (λ j. eqb (getD b (g .base + (lo * g .items + j)) 0) w) ((hi - lo) * g .items)
       (λ j t. ap (λ (v : ℕ). eqb v w) (part-at j t))
       ∙ sum-shift f (lo * g .items) 0 ((hi - lo) * g .items)
       ∙ ap (λ (n : ℕ). sumFrom f n ((hi - lo) * g .items)) (let z : lo * g .items + 0 ≡ lo * g .items = omega arith in z)
@@ -80,13 +78,13 @@ module _ (g : Grid) (lo hi start end : ℕ) (e : g .width ≡ 1) (l : lo ≤ hi)
       f n = one (eqb (getD b (g .base + n) 0) w)
 
   -- one row of a pool
-  pub part-members : hi ≡ lo + 1 → count (member part) (length part * 32) ≡ rowMembers g b lo
+  pub part-members : hi ≡ lo + 1 → count (member row) (length row * 32) ≡ rowMembers g b lo
   unfolding rowMembers cellAt
   part-members h =
       let n : hi - lo ≡ 1 = omega arith in
-      let m : length part ≡ g .items = part-long ∙ ap (λ (n : ℕ). n * g .items) n ∙ omega arith in
-      ap (λ (n : ℕ). count (member part) (n * 32)) m
-      ∙ count-same (member part) (λ v. bit (getD b (place g lo (v / 32) 0) 0) (v % 32)) (g .items * 32)
+      let m : length row ≡ g .items = part-long ∙ ap (λ (n : ℕ). n * g .items) n ∙ omega arith in
+      ap (λ (n : ℕ). count (member row) (n * 32)) m
+      ∙ count-same (member row) (λ v. bit (getD b (place g lo (v / 32) 0) 0) (v % 32)) (g .items * 32)
       (λ v t. ap (λ (w : ℕ). bit w (v % 32))
       (part-at (v / 32) (omega (arith, part-long, m, t)) ∙ ap (λ (n : ℕ). getD b n 0) (sym (place-at lo (v / 32)))))
 

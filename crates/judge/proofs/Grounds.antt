@@ -3,7 +3,6 @@
 use Prim.Native.Nat.{ℕ, _<_}
 use mathlib.Core.Path.{_≡_, sym, subst}
 use mathlib.Core.List.{List}
-use lib.ListN.{length}
 use Rattle.book.specs.declared.grid.Grid.{Grid}
 use Rattle.book.specs.Lent.{Lies}
 use Rattle.book.specs.Grids.{gridOf}
@@ -19,5 +18,6 @@ ground {S} {b} {g} {i} {j} good p e h k =
     subst (λ (g : Grid). (Lies g b) × ((i < g .slots) × (j < g .items))) (sym e) (lies S b (good-laid good) p, (h, k))
 
 -- the same of a question of whole rows
-pub row-ground : {S : Settings} {b : List ℕ} {g : Grid} {i : ℕ} → Good S b → (p : Region) → g ≡ gridOf S p → i < slots S p → (Lies g b) × (i < g .slots)
+pub row-ground : {S : Settings} {b : List ℕ} {g : Grid} {i : ℕ} → Good S b → (p : Region) → g ≡ gridOf S p → i < slots S p
+    → (Lies g b) × (i < g .slots)
 row-ground {S} {b} {g} {i} good p e h = subst (λ (g : Grid). (Lies g b) × (i < g .slots)) (sym e) (lies S b (good-laid good) p, h)

@@ -25,7 +25,8 @@ use Rattle.model.specs.State.{hotels, rides, attends, confs, lunches}
 use Rattle.model.specs.Kinds.{Kind, kindOf, row}
 use Rattle.model.specs.Kinds.{Kind.addLeave, Kind.endLeave, Kind.removeVisitor, Kind.addHotel, Kind.eraseHotel, Kind.addRide, Kind.eraseRide}
 use Rattle.model.specs.Kinds.{Kind.addStanding, Kind.endStanding, Kind.addAttend, Kind.eraseAttend, Kind.addConf, Kind.eraseConf}
-use Rattle.model.specs.Kinds.{Kind.addLunch, Kind.eraseLunch, Kind.eraseConfAndLunch, Kind.whichMeeting, Kind.countLeave, Kind.seatsLeft, Kind.freeRoom}
+use Rattle.model.specs.Kinds.{Kind.addLunch, Kind.eraseLunch, Kind.eraseConfAndLunch}
+use Rattle.model.specs.Kinds.{Kind.whichMeeting, Kind.countLeave, Kind.seatsLeft, Kind.freeRoom}
 use Rattle.model.specs.Questions.{ask, test, further, meetingOf, lowestFree, inA, inB}
 use Rattle.model.specs.Questions.{Question.onLeave, Question.stands, Question.seatsFit, Question.standsThatDate, Question.roomLeft as roomIsLeft}
 use Rattle.model.specs.Machine.{value}
@@ -64,7 +65,8 @@ one-slot t i = go (t i) refl
     go false e = failing-at t i i i (omega arith) (omega arith) e (λ j l h. absurd (omega (arith, l, h)))
 
 -- what is found is the value, and where nothing is the question is answered no
-found-is : (n place : ℕ) (o : Option ℕ) → foundOr n place (foundOf o) ≡ asked n (foundOf (cond (isSome o) none (some place))) (Done (found o (λ k. k)))
+found-is : (n place : ℕ) (o : Option ℕ) → foundOr n place (foundOf o)
+    ≡ asked n (foundOf (cond (isSome o) none (some place))) (Done (found o (λ k. k)))
 found-is n place none = refl
 found-is n place (some k) = refl
 
@@ -77,14 +79,17 @@ module _ (b : List ℕ) (good : Good (settingsOf b) b) (r : Request) where
   done = refl
 
   meeting-is : r .first ≡ r .last → (n : ℕ) (f : ℕ → Option ℕ)
-      → foundOr n (r .first) (foundOf (f (r .first))) ≡ asked n (foundOf (failing (λ i. isSome (f i)) (r .first) (r .last))) (Done (found (f (r .first)) (λ k. k)))
+      → foundOr n (r .first) (foundOf (f (r .first)))
+      ≡ asked n (foundOf (failing (λ i. isSome (f i)) (r .first) (r .last))) (Done (found (f (r .first)) (λ k. k)))
   meeting-is e n f =
       found-is n (r .first) (f (r .first))
       ∙ ap (λ (o : Option ℕ). asked n (foundOf o) (Done (found (f (r .first)) (λ k. k))))
       (sym (one-slot (λ i. isSome (f i)) (r .first)) ∙ ap (λ (l : ℕ). failing (λ i. isSome (f i)) (r .first) l) e)
 
-  kind-is : (k : Kind) → Ready (settingsOf b) (row k) r → inWords (settingsOf b) (gridsOf (settingsOf b)) b r k ≡ askedAll (stateOf b) r k (further k) (Done (value (stateOf b) r k))
-  unfolding stateOf readState ask test value inWords holdsIn roomLeft notHeld firstWith firstWithout firstRowWith addStay attendAdds confAdds lunchAdds lunchFits standingEnds eraseAll erasePair
+  kind-is : (k : Kind) → Ready (settingsOf b) (row k) r → inWords (settingsOf b) (gridsOf (settingsOf b)) b r k
+      ≡ askedAll (stateOf b) r k (further k) (Done (value (stateOf b) r k))
+  unfolding stateOf readState ask test value inWords holdsIn roomLeft notHeld firstWith firstWithout firstRowWith
+      addStay attendAdds confAdds lunchAdds lunchFits standingEnds eraseAll erasePair
   kind-is addLeave h = refl
   kind-is endLeave h = refl
   kind-is removeVisitor h = refl
@@ -128,8 +133,8 @@ module _ (b : List ℕ) (good : Good (settingsOf b) b) (r : Request) where
   kind-is freeRoom h = found-is 22 0 (lowestFree (stateOf b) (r .first) (r .last))
 
 -- by number, for a good book
-pub answer-is : {S : Settings} {g : Grids} {b : List ℕ} → Good S b → g ≡ gridsOf S → (r : Request) (n : ℕ) (k : Kind) → r .kind ≡ n → kindOf n ≡ some k
-    → Ready S (rowAt (r .kind)) r → inWords S g b r k ≡ answerAt b r
+pub answer-is : {S : Settings} {g : Grids} {b : List ℕ} → Good S b → g ≡ gridsOf S → (r : Request) (n : ℕ) (k : Kind)
+    → r .kind ≡ n → kindOf n ≡ some k → Ready S (rowAt (r .kind)) r → inWords S g b r k ≡ answerAt b r
 answer-is {S} {g} {b} good e r n k m f h =
     ap (λ (g : Grids). inWords S g b r k) e
     ∙ subst (λ (S : Settings). Ready S (row k) r → inWords S (gridsOf S) b r k ≡ askedAll (stateOf b) r k (further k) (Done (value (stateOf b) r k)))

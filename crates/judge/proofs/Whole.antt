@@ -1,14 +1,12 @@
--- Questions 3 to 7, asked of the words of a request: what they leave to know, and the machine's answer from them on.
+-- Questions 3 to 7, asked of the words of a request, and the machine's answer from them on.
 -- Assumes nothing.
-use Prim.Native.Nat.{ℕ, zero, suc, _+_, _-_, _≤_, _<_}
+use Prim.Native.Nat.{ℕ, zero, suc, _≤_, _<_}
 use mathlib.Core.Path.{_≡_, refl, sym, _∙_, ap, subst}
-use mathlib.Core.Bool.{Bool, true, false, not, _&&_, _||_, cond, false≢true}
+use mathlib.Core.Bool.{Bool, true, false, cond, false≢true}
 use mathlib.Core.Option.{Option, none, some}
 use mathlib.Core.List.{List, [], _∷_, _++_}
 use native.Mathlib.Omega.{arith}
-use lib.Dec.{leb, ltb, eqb}
 use lib.ListN.{List·getD-eq-default}
-use borrow.Author.Tests.{ltb-true, leb-true, eqb-true}
 use Rattle.book.specs.Founds.{foundOf}
 use Rattle.book.specs.Good.{Good}
 use Rattle.book.specs.Ranges.{Ranges}
@@ -22,11 +20,11 @@ use Rattle.model.specs.declared.Answer.{Answer}
 use Rattle.model.specs.declared.Answer.the-variants.{Done, Refused}
 use Rattle.model.specs.Bounded.{all, isSome}
 use Rattle.model.specs.State.{State}
-use Rattle.model.specs.Kinds.{Kind, kindOf, kinds, row, limit, slotsOf, Row}
+use Rattle.model.specs.Kinds.{Kind, kindOf, kinds, row, limit, slotsOf}
 use Rattle.model.specs.Questions.{Question, number, ask, test, judge, always, further, refusal, Refusal, below}
 use Rattle.model.specs.Machine.{value, finish, stepKind, step}
 use Rattle.model.specs.Reading.{settingsOf, readState, stateOf}
-use Rattle.model.proofs.Search.{and-left, and-right, all-true}
+use Rattle.model.proofs.Search.{all-true}
 
 -- ---- the machine's answer as the questions one after the other
 
@@ -34,13 +32,15 @@ abbrev answerOf : Option Refusal → ℕ → Answer
 answerOf none v = Done v
 answerOf (some f) v = Refused (f .number) (f .place)
 
-refusal-asked : (q : Question) (o : Option ℕ) (later : Option Refusal) (v : ℕ) → answerOf (refusal q o later) v ≡ asked (number q) (foundOf o) (answerOf later v)
+refusal-asked : (q : Question) (o : Option ℕ) (later : Option Refusal) (v : ℕ)
+    → answerOf (refusal q o later) v ≡ asked (number q) (foundOf o) (answerOf later v)
 refusal-asked q none later v = refl
 refusal-asked q (some i) later v = refl
 
 judge-asked : (x : State) (r : Request) (k : Kind) (qs : List Question) (v : ℕ) → answerOf (judge x r k qs) v ≡ askedAll x r k qs (Done v)
 judge-asked x r k [] v = refl
-judge-asked x r k (q ∷ qs) v = refusal-asked q (ask x r k q) (judge x r k qs) v ∙ ap (asked (number q) (foundOf (ask x r k q))) (judge-asked x r k qs v)
+judge-asked x r k (q ∷ qs) v =
+    refusal-asked q (ask x r k q) (judge x r k qs) v ∙ ap (asked (number q) (foundOf (ask x r k q))) (judge-asked x r k qs v)
 
 finish-asked : (x : State) (r : Request) (k : Kind) (o : Option Refusal) → finish x r k o .answer ≡ answerOf o (value x r k)
 finish-asked x r k none = refl
@@ -79,7 +79,8 @@ module _ (b : List ℕ) (h : Ranges (settingsOf b)) (r : Request) where
       (below (limit (settingsOf b) (row k .b)) (r .b)) (slotsFit (slotsOf (settingsOf b) (row k .unit)) (row k .one) (r .first) (r .last))
       (answerFor (stateOf b) r (some k))
 
-  step-by : (k : Kind) → kindOf (r .kind) ≡ some k → unless (fieldsNo (rowOf (settingsOf b) (rowAt (r .kind))) r) (answerAt b r) ≡ step (stateOf b) r .answer
+  step-by : (k : Kind) → kindOf (r .kind) ≡ some k
+      → unless (fieldsNo (rowOf (settingsOf b) (rowAt (r .kind))) r) (answerAt b r) ≡ step (stateOf b) r .answer
   unfolding step
   step-by k e =
       ap (λ (o : Option Kind). unless (fieldsNo (rowOf (settingsOf b) (rowFor o)) r) (answerFor (stateOf b) r o)) e

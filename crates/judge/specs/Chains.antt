@@ -21,7 +21,8 @@ use Rattle.model.specs.State.{State, reserved}
 use Rattle.model.specs.Kinds.{Kind, kindOf, Unit as SlotUnit, dates, sessions, times}
 use Rattle.model.specs.Kinds.{Kind.addLeave, Kind.endLeave, Kind.removeVisitor, Kind.addHotel, Kind.eraseHotel, Kind.addRide, Kind.eraseRide}
 use Rattle.model.specs.Kinds.{Kind.addStanding, Kind.endStanding, Kind.addAttend, Kind.eraseAttend, Kind.addConf, Kind.eraseConf}
-use Rattle.model.specs.Kinds.{Kind.addLunch, Kind.eraseLunch, Kind.eraseConfAndLunch, Kind.whichMeeting, Kind.countLeave, Kind.seatsLeft, Kind.freeRoom}
+use Rattle.model.specs.Kinds.{Kind.addLunch, Kind.eraseLunch, Kind.eraseConfAndLunch}
+use Rattle.model.specs.Kinds.{Kind.whichMeeting, Kind.countLeave, Kind.seatsLeft, Kind.freeRoom}
 use Rattle.model.specs.Questions.{Question, number, ask, further, bookings, meetingOf, lowestFree}
 use Rattle.model.specs.Machine.{value}
 use Rattle.model.specs.Reading.{stateOf}

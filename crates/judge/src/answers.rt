@@ -38,7 +38,8 @@ ghost use Rattle.book.specs.Good.{Good};
 ghost use Rattle.book.specs.Grids.{gridsOf};
 ghost use Rattle.book.specs.Lent.{reading, Lies};
 ghost use Rattle.kinds.specs.Rows.{Ready, lastKind, rowAt};
-ghost use Rattle.judge.specs.Chains.{asked, addStay, attendAdds, confAdds, lunchAdds, lunchFits, standingEnds, eraseAll, erasePair, foundOr, answerAt};
+ghost use Rattle.judge.specs.Chains.{asked, foundOr, answerAt};
+ghost use Rattle.judge.specs.Chains.{addStay, attendAdds, confAdds, lunchAdds, lunchFits, standingEnds, eraseAll, erasePair};
 
 // Done with 0 where the last question found no slot, or refused with its number at the slot found.
 fn settled(number: u32, f: Found) -> Answer

@@ -13,8 +13,8 @@ use book::units::times_on;
 use model::Date;
 use model::Settings;
 ghost use mathlib.Core.Path.{_≡_};
-ghost use Prim.Native.Nat.{ℕ, _≤_, _<_};
-ghost use mathlib.Core.Bool.{false, not};
+ghost use Prim.Native.Nat.{_≤_, _<_};
+ghost use mathlib.Core.Bool.{not};
 ghost use lib.Dec.{eqb};
 ghost use Rattle.model.specs.Bounded.{one};
 ghost use Rattle.model.specs.Questions.{bookings as bookingsIn};
@@ -66,31 +66,6 @@ fn entries_on(book: &[u32], s: Settings, g: Grids, visitor: u32, date: Date) -> 
     let meetings = column_count(book, g.attend, visitor, sessions.from.0, sessions.to.0);
     let rides = rows_count(book, g.ride, visitor + 1, times.from.0, times.to.0);
     nights + meetings + rides
-}
-
-// Has the visitor leave on some date of first..last?
-pub fn some_leave(
-    book: &[u32],
-    s: Settings,
-    g: Grids,
-    visitor: u32,
-    first: Date,
-    last: Date,
-) -> bool
-    requires { ⌜ Good s (reading (now book)) ⌝ }
-    requires { ⌜ g ≡ gridsOf s ⌝ }
-    requires { ⌜ visitor < s .visitors ⌝ }
-    requires { ⌜ last .0 < s .dates ⌝ }
-    ensures { λ r. ⌜ (r ≡ false → (d : ℕ) → first .0 ≤ d → d ≤ last .0 → stateOf (reading (now (book .entry))) .leave d visitor ≡ false) ⌝ }
-{
-    let mut date = first;
-    while date.0 <= last.0 {
-        if on_leave(book, s, g, date, visitor) {
-            return true;
-        }
-        date = after(date);
-    }
-    false
 }
 
 // The entries of the visitor on the dates first..last, date by date. The grids are computed here, where few products are needed: a copy of

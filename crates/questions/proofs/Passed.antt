@@ -22,7 +22,8 @@ passed-none t first = record { low = omega arith; all = λ k l h. absurd (omega 
 pub passed-next : {t : ℕ → Bool} {first i : ℕ} {r : Bool} → Passed t first i → r ≡ t i → not r ≡ false → Passed t first (i + 1)
 passed-next {t} {first} {i} {r} p e n = record { low = omega (arith, p .low); all = passed-more t first i (p .all) (sym e ∙ not-false r n) }
 
-pub passed-at : {t : ℕ → Bool} {first last i : ℕ} {r : Bool} → Passed t first i → i ≤ last → r ≡ t i → not r ≡ true → At i ≡ foundOf (failing t first last)
+pub passed-at : {t : ℕ → Bool} {first last i : ℕ} {r : Bool} → Passed t first i → i ≤ last → r ≡ t i → not r ≡ true
+    → At i ≡ foundOf (failing t first last)
 passed-at {t} {first} {last} {i} {r} p l e n = ap foundOf (sym (failing-at t first last i (p .low) l (sym e ∙ not-true r n) (p .all)))
 
 pub passed-all : {t : ℕ → Bool} {first last i : ℕ} → Passed t first i → last < i → Nothing ≡ foundOf (failing t first last)

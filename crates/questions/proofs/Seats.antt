@@ -32,4 +32,6 @@ module _ {S : Settings} {b : List ℕ} (good : Good S b) where
       few = good-laid good .ranges .dining .1
 
       seat : cond (ltb g (S .dining)) (within 1 1000 (capacity S g)) (eqb (capacity S g) 0) ≡ true
-      seat = all-true (λ g. cond (ltb g (S .dining)) (within 1 1000 (capacity S g)) (eqb (capacity S g) 0)) 16 (all16 .1 .1 .1 .1 .1 .1 .1 .1 .1 .1 .0) g (omega (arith, k, few))
+      seat =
+          all-true (λ g. cond (ltb g (S .dining)) (within 1 1000 (capacity S g)) (eqb (capacity S g) 0)) 16
+          (all16 .1 .1 .1 .1 .1 .1 .1 .1 .1 .1 .0) g (omega (arith, k, few))

@@ -32,7 +32,8 @@ module _ {S : Settings} {b : List ℕ} (good : Good S b) where
       ap₂ (λ (g : Grid) (d : ℕ). bit (cellAt g b d (v / 32)) (v % 32)) e f ∙ sym (leave-is S b good (dateOf S u i) v h k)
 
   module _ {g : Grids} (e : g ≡ gridsOf S) (first last : ℕ) where
-    pub leave-fail : (v : ℕ) → v < S .visitors → last < S .dates → firstNotMember (g .leave) b v first last ≡ slotsFail S b (OnLeave dates) v 0 first last
+    pub leave-fail : (v : ℕ) → v < S .visitors → last < S .dates
+        → firstNotMember (g .leave) b v first last ≡ slotsFail S b (OnLeave dates) v 0 first last
     unfolding firstNotMember holdsIn
     leave-fail v k h =
         ap foundOf (failing-same _ _ first last (λ i l j.

@@ -29,11 +29,12 @@ first-no-requires : tie.Need-first-no-requires
 first-no-requires c κs = search needs
 
 returns-3 : tie.Need-returns-3
-returns-3 c = let a = c .before .before .before .before .before .before .args in
+returns-3 c = let s = c .before .before .before .before .before .before in
+    let a = s .args in
     let e = c .before .first-no .ensures ∙ ap (λ (w : Row). fieldsNo w (a .r)) (c .before .before .row-of .ensures) in
     sym (unless-some _ (answerAt (reading (a .book .now)) (a .r)) (c .if3 .taken))
     ∙ ap (λ n. unless n (answerAt (reading (a .book .now)) (a .r))) e
-    ∙ step-is (c .before .before .before .before .before .before .pre .0) (a .r) (omega (arith, c .before .before .before .before .if1 .left)) (c .before .before .before .if2 .left)
+    ∙ step-is (s .pre .0) (a .r) (omega (arith, c .before .before .before .before .if1 .left)) (c .before .before .before .if2 .left)
 
 answer-requires : tie.Need-answer-requires
 answer-requires c κs =
@@ -54,11 +55,12 @@ answer-requires c κs =
     )
 
 returns-4 : tie.Need-returns-4
-returns-4 c = let a = c .before .before .before .before .before .before .before .args in
+returns-4 c = let s = c .before .before .before .before .before .before .before in
+    let a = s .args in
     let e = c .before .before .first-no .ensures ∙ ap (λ (w : Row). fieldsNo w (a .r)) (c .before .before .before .row-of .ensures) in
     c .answer .ensures
     ∙ ap (λ n. unless n (answerAt (reading (a .book .now)) (a .r))) (sym (c .before .if3 .left) ∙ e)
-    ∙ step-is (c .before .before .before .before .before .before .before .pre .0) (a .r) (omega (arith, c .before .before .before .before .before .if1 .left)) (c .before .before .before .before .if2 .left)
+    ∙ step-is (s .pre .0) (a .r) (omega (arith, c .before .before .before .before .before .if1 .left)) (c .before .before .before .before .if2 .left)
 
 pub judge-spec : {M : Type 1} → statement M
 judge-spec =

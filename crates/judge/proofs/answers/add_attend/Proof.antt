@@ -55,7 +55,8 @@ returns-2 c =
     rw (
       ← (c .before .before .before .before .before .before .before .before .first-session-off-leave .ensures),
       c .before .before .before .before .before .before .enum-told .given .1,
-      ← (c .before .before .before .before .first-not-member .ensures ∙ stands-fail (p .0) (p .1 .0) (a .first .0) (a .last .0) (a .a) (p .1 .1 .1 .0) (p .1 .1 .0)),
+      ← (c .before .before .before .before .first-not-member .ensures
+          ∙ stands-fail (p .0) (p .1 .0) (a .first .0) (a .last .0) (a .a) (p .1 .1 .1 .0) (p .1 .1 .0)),
       c .before .before .i2 .given .1,
     ) (c .refused2 .ensures)
 
@@ -63,7 +64,9 @@ enum-told-2 : tie.Need-enum-told-2
 enum-told-2 c = search needs
 
 add-first-with : tie.Need-add-first-with
-add-first-with c = let p = c .before .before .before .before .before .before .before .before .before .before .pre in omega (arith, good-laid (p .0) .ranges .meetings, p .1 .1 .1 .0)
+add-first-with c =
+    let p = c .before .before .before .before .before .before .before .before .before .before .pre in
+    omega (arith, good-laid (p .0) .ranges .meetings, p .1 .1 .1 .0)
 
 first-with-requires : tie.Need-first-with-requires
 first-with-requires c κs =
@@ -84,7 +87,8 @@ returns-3 c =
     rw (
       ← (c .before .before .before .before .before .before .before .before .before .before .before .before .first-session-off-leave .ensures),
       c .before .before .before .before .before .before .before .before .before .before .enum-told .given .1,
-      ← (c .before .before .before .before .before .before .before .before .first-not-member .ensures ∙ stands-fail (p .0) (p .1 .0) (a .first .0) (a .last .0) (a .a) (p .1 .1 .1 .0) (p .1 .1 .0)),
+      ← (c .before .before .before .before .before .before .before .before .first-not-member .ensures
+          ∙ stands-fail (p .0) (p .1 .0) (a .first .0) (a .last .0) (a .a) (p .1 .1 .1 .0) (p .1 .1 .0)),
       c .before .before .before .before .before .before .enum-told2 .given .1,
       ← (c .before .before .before .before .first-with .ensures),
       c .before .before .i3 .given .1,
@@ -109,7 +113,8 @@ returns-4 c =
     rw (
       ← (c .before .before .before .before .before .before .before .before .before .before .before .before .first-session-off-leave .ensures),
       c .before .before .before .before .before .before .before .before .before .before .enum-told .given .1,
-      ← (c .before .before .before .before .before .before .before .before .first-not-member .ensures ∙ stands-fail (p .0) (p .1 .0) (a .first .0) (a .last .0) (a .a) (p .1 .1 .1 .0) (p .1 .1 .0)),
+      ← (c .before .before .before .before .before .before .before .before .first-not-member .ensures
+          ∙ stands-fail (p .0) (p .1 .0) (a .first .0) (a .last .0) (a .a) (p .1 .1 .1 .0) (p .1 .1 .0)),
       c .before .before .before .before .before .before .enum-told2 .given .1,
       ← (c .before .before .before .before .first-with .ensures),
       c .before .before .enum-told3 .given .1,

@@ -31,7 +31,8 @@ returns c =
     let p = c .before .before .before .before .before .before .before .pre in
     let a = c .before .before .before .before .before .before .before .args in
     rw (
-      ← (c .before .before .before .before .first-not-member .ensures ∙ leave-fail (p .0) (p .1 .0) (a .first .0) (a .last .0) (a .b) (p .1 .1 .1 .1) (p .1 .1 .0)),
+      ← (c .before .before .before .before .first-not-member .ensures
+          ∙ leave-fail (p .0) (p .1 .0) (a .first .0) (a .last .0) (a .b) (p .1 .1 .1 .1) (p .1 .1 .0)),
       c .before .before .i .given .1,
     ) (c .refused .ensures)
 
@@ -39,7 +40,9 @@ enum-told : tie.Need-enum-told
 enum-told c = search needs
 
 add-first-with : tie.Need-add-first-with
-add-first-with c = let p = c .before .before .before .before .before .before .pre in omega (arith, good-laid (p .0) .ranges .visitors, p .1 .1 .1 .1)
+add-first-with c =
+    let p = c .before .before .before .before .before .before .pre in
+    omega (arith, good-laid (p .0) .ranges .visitors, p .1 .1 .1 .1)
 
 first-with-requires : tie.Need-first-with-requires
 first-with-requires c κs =
@@ -58,7 +61,8 @@ returns-2 c =
     let p = c .before .before .before .before .before .before .before .before .before .before .before .pre in
     let a = c .before .before .before .before .before .before .before .before .before .before .before .args in
     rw (
-      ← (c .before .before .before .before .before .before .before .before .first-not-member .ensures ∙ leave-fail (p .0) (p .1 .0) (a .first .0) (a .last .0) (a .b) (p .1 .1 .1 .1) (p .1 .1 .0)),
+      ← (c .before .before .before .before .before .before .before .before .first-not-member .ensures
+          ∙ leave-fail (p .0) (p .1 .0) (a .first .0) (a .last .0) (a .b) (p .1 .1 .1 .1) (p .1 .1 .0)),
       c .before .before .before .before .before .before .enum-told .given .1,
       ← (c .before .before .before .before .first-with .ensures),
       c .before .before .i2 .given .1,
@@ -84,7 +88,8 @@ returns-3 c =
     let p = c .before .before .before .before .before .before .before .before .before .before .before .before .before .before .pre in
     let a = c .before .before .before .before .before .before .before .before .before .before .before .before .before .before .args in
     rw (
-      ← (c .before .before .before .before .before .before .before .before .before .before .before .first-not-member .ensures ∙ leave-fail (p .0) (p .1 .0) (a .first .0) (a .last .0) (a .b) (p .1 .1 .1 .1) (p .1 .1 .0)),
+      ← (c .before .before .before .before .before .before .before .before .before .before .before .first-not-member .ensures
+          ∙ leave-fail (p .0) (p .1 .0) (a .first .0) (a .last .0) (a .b) (p .1 .1 .1 .1) (p .1 .1 .0)),
       c .before .before .before .before .before .before .before .before .before .enum-told .given .1,
       ← (c .before .before .before .before .before .before .before .first-with .ensures),
       c .before .before .before .before .before .enum-told2 .given .1,
@@ -96,7 +101,9 @@ enum-told-3 : tie.Need-enum-told-3
 enum-told-3 c = search needs
 
 add-first-row-with : tie.Need-add-first-row-with
-add-first-row-with c = let p = c .before .before .before .before .before .before .before .before .before .before .before .before .pre in omega (arith, good-laid (p .0) .ranges .visitors, p .1 .1 .1 .1)
+add-first-row-with c =
+    let p = c .before .before .before .before .before .before .before .before .before .before .before .before .pre in
+    omega (arith, good-laid (p .0) .ranges .visitors, p .1 .1 .1 .1)
 
 first-row-with-requires : tie.Need-first-row-with-requires
 first-row-with-requires c κs =
@@ -112,7 +119,8 @@ returns-4 c =
     let p = c .before .before .before .before .before .before .before .before .before .before .before .before .before .before .pre in
     let a = c .before .before .before .before .before .before .before .before .before .before .before .before .before .before .args in
     rw (
-      ← (c .before .before .before .before .before .before .before .before .before .before .before .first-not-member .ensures ∙ leave-fail (p .0) (p .1 .0) (a .first .0) (a .last .0) (a .b) (p .1 .1 .1 .1) (p .1 .1 .0)),
+      ← (c .before .before .before .before .before .before .before .before .before .before .before .first-not-member .ensures
+          ∙ leave-fail (p .0) (p .1 .0) (a .first .0) (a .last .0) (a .b) (p .1 .1 .1 .1) (p .1 .1 .0)),
       c .before .before .before .before .before .before .before .before .before .enum-told .given .1,
       ← (c .before .before .before .before .before .before .before .first-with .ensures),
       c .before .before .before .before .before .enum-told2 .given .1,

@@ -35,7 +35,9 @@ enum-told : tie.Need-enum-told
 enum-told c = search needs
 
 add-first-with : tie.Need-add-first-with
-add-first-with c = let p = c .before .before .before .before .before .pre in omega (arith, good-laid (p .0) .ranges .dining, p .1 .1 .1 .0)
+add-first-with c =
+    let p = c .before .before .before .before .before .pre in
+    omega (arith, good-laid (p .0) .ranges .dining, p .1 .1 .1 .0)
 
 first-with-requires : tie.Need-first-with-requires
 first-with-requires c κs =

@@ -34,7 +34,9 @@ enum-told : tie.Need-enum-told
 enum-told c = search needs
 
 add-first-with : tie.Need-add-first-with
-add-first-with c = let p = c .before .before .before .before .before .before .pre in omega (arith, good-laid (p .0) .ranges .visitors, p .1 .1 .1 .1)
+add-first-with c =
+    let p = c .before .before .before .before .before .before .pre in
+    omega (arith, good-laid (p .0) .ranges .visitors, p .1 .1 .1 .1)
 
 first-with-requires : tie.Need-first-with-requires
 first-with-requires c κs =
@@ -87,7 +89,9 @@ enum-told-3 : tie.Need-enum-told-3
 enum-told-3 c = search needs
 
 add-first-row-with : tie.Need-add-first-row-with
-add-first-row-with c = let p = c .before .before .before .before .before .before .before .before .before .before .before .before .pre in omega (arith, good-laid (p .0) .ranges .visitors, p .1 .1 .1 .1)
+add-first-row-with c =
+    let p = c .before .before .before .before .before .before .before .before .before .before .before .before .pre in
+    omega (arith, good-laid (p .0) .ranges .visitors, p .1 .1 .1 .1)
 
 first-row-with-requires : tie.Need-first-row-with-requires
 first-row-with-requires c κs =

@@ -7,7 +7,8 @@ use Rattle.book.proofs.Goods.{good-laid}
 use Rattle.model.specs.declared.Answer.the-variants.{Done}
 use Rattle.model.specs.Kinds.{kindOf}
 use Rattle.model.specs.Kinds.{Kind.addStanding, Kind.endStanding, Kind.addAttend, Kind.eraseAttend, Kind.addConf, Kind.eraseConf}
-use Rattle.model.specs.Kinds.{Kind.addLunch, Kind.eraseLunch, Kind.eraseConfAndLunch, Kind.whichMeeting, Kind.countLeave, Kind.seatsLeft, Kind.freeRoom}
+use Rattle.model.specs.Kinds.{Kind.addLunch, Kind.eraseLunch, Kind.eraseConfAndLunch}
+use Rattle.model.specs.Kinds.{Kind.whichMeeting, Kind.countLeave, Kind.seatsLeft, Kind.freeRoom}
 use Rattle.model.specs.Words.{attendCells, confPairs, lunchTriples}
 use Rattle.kinds.proofs.Numbers.{last-kind}
 use Rattle.questions.proofs.Shown.{conf-fail}
@@ -142,96 +143,122 @@ returns-2 : tie.Need-returns-2
 unfolding kindOf inWords
 returns-2 c =
     let p = c .before .before .before .pre in
-    answer-is (p .0) (p .1 .0) (c .before .before .before .args .r) 8 addStanding (c .match .keys1) refl (p .1 .1 .1 .1)
+    let r = c .before .before .before .args .r in
+    let e = c .match .keys1 in
+    answer-is (p .0) (p .1 .0) r 8 addStanding e refl (p .1 .1 .1 .1)
 
 returns-3 : tie.Need-returns-3
 unfolding kindOf inWords
 returns-3 c =
     let p = c .before .before .before .before .pre in
+    let r = c .before .before .before .before .args .r in
+    let e = c .before .match .keys2 in
     c .end-standing .ensures
-    ∙ answer-is (p .0) (p .1 .0) (c .before .before .before .before .args .r) 9 endStanding (c .before .match .keys2) refl (p .1 .1 .1 .1)
+    ∙ answer-is (p .0) (p .1 .0) r 9 endStanding e refl (p .1 .1 .1 .1)
 
 returns-4 : tie.Need-returns-4
 unfolding kindOf inWords
 returns-4 c =
     let p = c .before .before .before .before .pre in
+    let r = c .before .before .before .before .args .r in
+    let e = c .before .match .keys3 in
     c .add-attend .ensures
-    ∙ answer-is (p .0) (p .1 .0) (c .before .before .before .before .args .r) 10 addAttend (c .before .match .keys3) refl (p .1 .1 .1 .1)
+    ∙ answer-is (p .0) (p .1 .0) r 10 addAttend e refl (p .1 .1 .1 .1)
 
 returns-5 : tie.Need-returns-5
 unfolding kindOf inWords
 returns-5 c =
     let p = c .before .before .before .before .before .before .pre in
+    let r = c .before .before .before .before .before .before .args .r in
+    let e = c .before .before .before .match .keys4 in
     c .erase .ensures
-    ∙ answer-is (p .0) (p .1 .0) (c .before .before .before .before .before .before .args .r) 11 eraseAttend (c .before .before .before .match .keys4) refl (p .1 .1 .1 .1)
+    ∙ answer-is (p .0) (p .1 .0) r 11 eraseAttend e refl (p .1 .1 .1 .1)
 
 returns-6 : tie.Need-returns-6
 unfolding kindOf inWords
 returns-6 c =
     let p = c .before .before .before .before .pre in
+    let r = c .before .before .before .before .args .r in
+    let e = c .before .match .keys5 in
     c .add-conf .ensures
-    ∙ answer-is (p .0) (p .1 .0) (c .before .before .before .before .args .r) 12 addConf (c .before .match .keys5) refl (p .1 .1 .1 .1)
+    ∙ answer-is (p .0) (p .1 .0) r 12 addConf e refl (p .1 .1 .1 .1)
 
 returns-7 : tie.Need-returns-7
 unfolding kindOf inWords
 returns-7 c =
     let p = c .before .before .before .before .before .before .before .pre in
-    let h = ready-at 13 (c .before .before .before .before .match .keys6) (p .1 .1 .1 .1) in
+    let r = c .before .before .before .before .before .before .before .args .r in
+    let e = c .before .before .before .before .match .keys6 in
+    let h = ready-at 13 e (p .1 .1 .1 .1) in
     c .settled .ensures
     ∙ ap (λ f. asked 16 f (Done 0))
-    (c .before .first-row-without .ensures ∙ conf-fail (p .0) (p .1 .0) (c .before .before .before .before .before .before .before .args .r .first) (c .before .before .before .before .before .before .before .args .r .last) (c .before .before .before .before .before .before .before .args .r .b) (h .b) (omega (arith, h .slot)))
-    ∙ answer-is (p .0) (p .1 .0) (c .before .before .before .before .before .before .before .args .r) 13 eraseConf (c .before .before .before .before .match .keys6) refl (p .1 .1 .1 .1)
+    (c .before .first-row-without .ensures ∙ conf-fail (p .0) (p .1 .0) (r .first) (r .last) (r .b) (h .b) (omega (arith, h .slot)))
+    ∙ answer-is (p .0) (p .1 .0) r 13 eraseConf e refl (p .1 .1 .1 .1)
 
 returns-8 : tie.Need-returns-8
 unfolding kindOf inWords
 returns-8 c =
     let p = c .before .before .before .before .pre in
+    let r = c .before .before .before .before .args .r in
+    let e = c .before .match .keys7 in
     c .lunch-fits .ensures
-    ∙ answer-is (p .0) (p .1 .0) (c .before .before .before .before .args .r) 14 addLunch (c .before .match .keys7) refl (p .1 .1 .1 .1)
+    ∙ answer-is (p .0) (p .1 .0) r 14 addLunch e refl (p .1 .1 .1 .1)
 
 returns-9 : tie.Need-returns-9
 unfolding kindOf inWords
 returns-9 c =
     let p = c .before .before .before .before .before .before .pre in
+    let r = c .before .before .before .before .before .before .args .r in
+    let e = c .before .before .before .match .keys8 in
     c .erase2 .ensures
-    ∙ answer-is (p .0) (p .1 .0) (c .before .before .before .before .before .before .args .r) 15 eraseLunch (c .before .before .before .match .keys8) refl (p .1 .1 .1 .1)
+    ∙ answer-is (p .0) (p .1 .0) r 15 eraseLunch e refl (p .1 .1 .1 .1)
 
 returns-10 : tie.Need-returns-10
 unfolding kindOf inWords
 returns-10 c =
     let p = c .before .before .before .before .pre in
+    let r = c .before .before .before .before .args .r in
+    let e = c .before .match .keys9 in
     c .erase-all .ensures
-    ∙ answer-is (p .0) (p .1 .0) (c .before .before .before .before .args .r) 16 eraseConfAndLunch (c .before .match .keys9) refl (p .1 .1 .1 .1)
+    ∙ answer-is (p .0) (p .1 .0) r 16 eraseConfAndLunch e refl (p .1 .1 .1 .1)
 
 returns-11 : tie.Need-returns-11
 unfolding kindOf inWords
 returns-11 c =
     let p = c .before .before .before .before .before .pre in
+    let r = c .before .before .before .before .before .args .r in
+    let e = c .before .before .match .keys10 in
     c .found-or .ensures
-    ∙ ap (foundOr 21 (c .before .before .before .before .before .args .r .first)) (c .before .meeting-of .ensures)
-    ∙ answer-is (p .0) (p .1 .0) (c .before .before .before .before .before .args .r) 17 whichMeeting (c .before .before .match .keys10) refl (p .1 .1 .1 .1)
+    ∙ ap (foundOr 21 (r .first)) (c .before .meeting-of .ensures)
+    ∙ answer-is (p .0) (p .1 .0) r 17 whichMeeting e refl (p .1 .1 .1 .1)
 
 returns-12 : tie.Need-returns-12
 unfolding kindOf inWords
 returns-12 c =
     let p = c .before .before .before .before .pre in
+    let r = c .before .before .before .before .args .r in
+    let e = c .before .match .keys11 in
     ap Done (c .members .ensures)
-    ∙ answer-is (p .0) (p .1 .0) (c .before .before .before .before .args .r) 18 countLeave (c .before .match .keys11) refl (p .1 .1 .1 .1)
+    ∙ answer-is (p .0) (p .1 .0) r 18 countLeave e refl (p .1 .1 .1 .1)
 
 returns-13 : tie.Need-returns-13
 unfolding kindOf inWords
 returns-13 c =
     let p = c .before .before .before .before .pre in
+    let r = c .before .before .before .before .args .r in
+    let e = c .before .match .keys12 in
     ap Done (c .seats-left .ensures)
-    ∙ answer-is (p .0) (p .1 .0) (c .before .before .before .before .args .r) 19 seatsLeft (c .before .match .keys12) refl (p .1 .1 .1 .1)
+    ∙ answer-is (p .0) (p .1 .0) r 19 seatsLeft e refl (p .1 .1 .1 .1)
 
 returns-14 : tie.Need-returns-14
 unfolding kindOf inWords
 returns-14 c =
     let p = c .before .before .before .before .before .pre in
+    let r = c .before .before .before .before .before .args .r in
+    let e = last-kind _ 7 12 (omega (arith, c .before .before .before .if1 .left)) (p .1 .1 .1 .0) (c .before .before .match .rest) in
     c .found-or2 .ensures
     ∙ ap (foundOr 22 0) (c .before .lowest-free .ensures)
-    ∙ answer-is (p .0) (p .1 .0) (c .before .before .before .before .before .args .r) 20 freeRoom (last-kind _ 7 12 (omega (arith, c .before .before .before .if1 .left)) (p .1 .1 .1 .0) (c .before .before .match .rest)) refl (p .1 .1 .1 .1)
+    ∙ answer-is (p .0) (p .1 .0) r 20 freeRoom e refl (p .1 .1 .1 .1)
 
 pub answer-spec : {M : Type 1} → statement M
 answer-spec =

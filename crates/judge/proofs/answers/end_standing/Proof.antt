@@ -33,7 +33,9 @@ enum-told : tie.Need-enum-told
 enum-told c = search needs
 
 add-first-row-without : tie.Need-add-first-row-without
-add-first-row-without c = let p = c .before .before .before .before .before .pre in omega (arith, good-laid (p .0) .ranges .meetings, p .1 .1 .1)
+add-first-row-without c =
+    let p = c .before .before .before .before .before .pre in
+    omega (arith, good-laid (p .0) .ranges .meetings, p .1 .1 .1)
 
 first-row-without-requires : tie.Need-first-row-without-requires
 first-row-without-requires c κs =
@@ -51,7 +53,8 @@ returns-2 c =
     rw (
       ← (c .before .before .before .before .before .first-held .ensures),
       c .before .before .before .enum-told .given .1,
-      ← (c .before .first-row-without .ensures ∙ attended-fail (p .0) (p .1 .0) (a .first .0) (a .last .0) (a .a) (p .1 .1 .1) (p .1 .1 .0)),
+      ← (c .before .first-row-without .ensures
+          ∙ attended-fail (p .0) (p .1 .0) (a .first .0) (a .last .0) (a .a) (p .1 .1 .1) (p .1 .1 .0)),
     ) (c .settled .ensures)
 
 pub end-standing-spec : {M : Type 1} → statement M

@@ -1,4 +1,4 @@
--- `answers::erase` meets its contract: question 15.
+-- Question 15.
 -- Assumes nothing.
 use Rattle.judge.specs.Chains.{erasePair}
 use borrow.Author.Needs.{needs}

@@ -16,7 +16,9 @@ use Rattle.judge.proofs.answers.erase_all.Statement.{statement}
 use Rattle.judge.proofs.answers.erase_all.Tie as tie
 
 add-first-row-without : tie.Need-add-first-row-without
-add-first-row-without c = let p = c .before .before .pre in omega (arith, good-laid (p .0) .ranges .meetings, p .1 .1 .1)
+add-first-row-without c =
+    let p = c .before .before .pre in
+    omega (arith, good-laid (p .0) .ranges .meetings, p .1 .1 .1)
 
 first-row-without-requires : tie.Need-first-row-without-requires
 first-row-without-requires c κs =
@@ -35,7 +37,8 @@ returns c =
     let p = c .before .before .before .before .before .before .before .pre in
     let a = c .before .before .before .before .before .before .before .args in
     rw (
-      ← (c .before .before .before .before .first-row-without .ensures ∙ conf-fail (p .0) (p .1 .0) (a .first .0) (a .last .0) (a .b) (p .1 .1 .1) (p .1 .1 .0)),
+      ← (c .before .before .before .before .first-row-without .ensures
+          ∙ conf-fail (p .0) (p .1 .0) (a .first .0) (a .last .0) (a .b) (p .1 .1 .1) (p .1 .1 .0)),
       c .before .before .i .given .1,
     ) (c .refused .ensures)
 
@@ -52,7 +55,8 @@ first-with-requires : tie.Need-first-with-requires
 first-with-requires c κs =
     let p = c .before .before .before .before .before .before .before .before .pre in
     let a = c .before .before .before .before .before .before .before .before .args in
-    let d : c .before .date-of-session2 .result .0 < a .s .dates = rw (c .before .date-of-session2 .ensures) (date-lt (a .s) (good-laid (p .0) .ranges) sessions (a .last .0) (p .1 .1 .0)) in
+    let d : c .before .date-of-session2 .result .0 < a .s .dates =
+    rw (c .before .date-of-session2 .ensures) (date-lt (a .s) (good-laid (p .0) .ranges) sessions (a .last .0) (p .1 .1 .0)) in
     ground (p .0) lunchTriples (ap (λ (g : Grids). g .lunch) (p .1 .0)) d (p .1 .1 .1)
 
 settled-requires : tie.Need-settled-requires
@@ -67,11 +71,13 @@ returns-2 c =
     let to = c .before .before .before .date-of-session2 in
     let d : to .result .0 < a .s .dates = rw (to .ensures) (date-lt (a .s) (good-laid (p .0) .ranges) sessions (a .last .0) (p .1 .1 .0)) in
     rw (
-      ← (c .before .before .before .before .before .before .before .first-row-without .ensures ∙ conf-fail (p .0) (p .1 .0) (a .first .0) (a .last .0) (a .b) (p .1 .1 .1) (p .1 .1 .0)),
+      ← (c .before .before .before .before .before .before .before .first-row-without .ensures
+          ∙ conf-fail (p .0) (p .1 .0) (a .first .0) (a .last .0) (a .b) (p .1 .1 .1) (p .1 .1 .0)),
       c .before .before .before .before .before .enum-told .given .1,
       ← (from .ensures),
       ← (to .ensures),
-      ← (c .before .first-with .ensures ∙ lunch-fail (p .0) (p .1 .0) (from .result .0) (to .result .0) (a .b) (p .1 .1 .1) d),
+      ← (c .before .first-with .ensures
+          ∙ lunch-fail (p .0) (p .1 .0) (from .result .0) (to .result .0) (a .b) (p .1 .1 .1) d),
     ) (c .settled .ensures)
 
 pub erase-all-spec : {M : Type 1} → statement M

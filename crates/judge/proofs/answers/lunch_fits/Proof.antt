@@ -1,4 +1,4 @@
--- `answers::lunch_fits` meets its contract: question 8, then the others of kind 14.
+-- Question 8, then the others of kind 14.
 -- Assumes nothing.
 use borrow.Author.Tests.{le-leb, lt-leb}
 use Rattle.judge.specs.Chains.{lunchFits}
@@ -34,7 +34,8 @@ returns-2 c =
 add-lunch-requires : tie.Need-add-lunch-requires
 add-lunch-requires c κs =
     let p = c .before .before .before .before .pre in
-    (p .0, (p .1 .0, (p .1 .1 .0, (p .1 .1 .1 .0, (p .1 .1 .1 .1, omega (arith, c .if2 .left, c .before .capacity .ensures, capacity-le (p .0) (c .before .before .before .before .args .a) (p .1 .1 .1 .0)))))))
+    let most = capacity-le (p .0) (c .before .before .before .before .args .a) (p .1 .1 .1 .0) in
+    (p .0, (p .1 .0, (p .1 .1 .0, (p .1 .1 .1 .0, (p .1 .1 .1 .1, omega (arith, c .if2 .left, c .before .capacity .ensures, most))))))
 
 returns-3 : tie.Need-returns-3
 unfolding lunchFits

@@ -79,50 +79,64 @@ returns : tie.Need-returns
 unfolding kindOf inWords
 returns c =
     let p = c .before .before .pre in
-    answer-is (p .0) (p .1 .0) (c .before .before .args .r) 1 addLeave (c .match .keys1) refl (p .1 .1 .1 .1)
+    let r = c .before .before .args .r in
+    let e = c .match .keys1 in
+    answer-is (p .0) (p .1 .0) r 1 addLeave e refl (p .1 .1 .1 .1)
 
 returns-2 : tie.Need-returns-2
 unfolding kindOf inWords
 returns-2 c =
     let p = c .before .before .before .before .pre in
+    let r = c .before .before .before .before .args .r in
+    let e = c .before .before .match .keys2 in
     c .settled .ensures
     ∙ ap (λ f. asked 18 f (Done 0)) (c .before .first-booked .ensures)
-    ∙ answer-is (p .0) (p .1 .0) (c .before .before .before .before .args .r) 2 endLeave (c .before .before .match .keys2) refl (p .1 .1 .1 .1)
+    ∙ answer-is (p .0) (p .1 .0) r 2 endLeave e refl (p .1 .1 .1 .1)
 
 returns-3 : tie.Need-returns-3
 unfolding kindOf inWords
 returns-3 c =
     let p = c .before .before .before .pre in
+    let r = c .before .before .before .args .r in
+    let e = c .before .match .keys3 in
     ap Done (c .bookings .ensures)
-    ∙ answer-is (p .0) (p .1 .0) (c .before .before .before .args .r) 3 removeVisitor (c .before .match .keys3) refl (p .1 .1 .1 .1)
+    ∙ answer-is (p .0) (p .1 .0) r 3 removeVisitor e refl (p .1 .1 .1 .1)
 
 returns-4 : tie.Need-returns-4
 unfolding kindOf inWords
 returns-4 c =
     let p = c .before .before .before .pre in
+    let r = c .before .before .before .args .r in
+    let e = c .before .match .keys4 in
     c .add-hotel .ensures
-    ∙ answer-is (p .0) (p .1 .0) (c .before .before .before .args .r) 4 addHotel (c .before .match .keys4) refl (p .1 .1 .1 .1)
+    ∙ answer-is (p .0) (p .1 .0) r 4 addHotel e refl (p .1 .1 .1 .1)
 
 returns-5 : tie.Need-returns-5
 unfolding kindOf inWords
 returns-5 c =
     let p = c .before .before .before .before .before .pre in
+    let r = c .before .before .before .before .before .args .r in
+    let e = c .before .before .before .match .keys5 in
     c .erase .ensures
-    ∙ answer-is (p .0) (p .1 .0) (c .before .before .before .before .before .args .r) 5 eraseHotel (c .before .before .before .match .keys5) refl (p .1 .1 .1 .1)
+    ∙ answer-is (p .0) (p .1 .0) r 5 eraseHotel e refl (p .1 .1 .1 .1)
 
 returns-6 : tie.Need-returns-6
 unfolding kindOf inWords
 returns-6 c =
     let p = c .before .before .before .pre in
+    let r = c .before .before .before .args .r in
+    let e = c .before .match .keys6 in
     c .add-ride .ensures
-    ∙ answer-is (p .0) (p .1 .0) (c .before .before .before .args .r) 6 addRide (c .before .match .keys6) refl (p .1 .1 .1 .1)
+    ∙ answer-is (p .0) (p .1 .0) r 6 addRide e refl (p .1 .1 .1 .1)
 
 returns-7 : tie.Need-returns-7
 unfolding kindOf inWords
 returns-7 c =
     let p = c .before .before .before .before .before .pre in
+    let r = c .before .before .before .before .before .args .r in
+    let e = last-kind _ 0 6 (p .1 .1 .0) (p .1 .1 .1 .0) (c .before .before .before .match .rest) in
     c .erase2 .ensures
-    ∙ answer-is (p .0) (p .1 .0) (c .before .before .before .before .before .args .r) 7 eraseRide (last-kind _ 0 6 (p .1 .1 .0) (p .1 .1 .1 .0) (c .before .before .before .match .rest)) refl (p .1 .1 .1 .1)
+    ∙ answer-is (p .0) (p .1 .0) r 7 eraseRide e refl (p .1 .1 .1 .1)
 
 pub of-visitor-spec : {M : Type 1} → statement M
 of-visitor-spec =

@@ -1,4 +1,4 @@
--- `answers::seats_left` meets its contract: reserved is at most capacity.
+-- Reserved is at most capacity.
 -- Assumes nothing.
 use native.Mathlib.Omega.{arith}
 use Rattle.book.proofs.Goods.{good-laid}

@@ -1,4 +1,4 @@
--- `answers::settled` meets its contract: by the case of what was found.
+-- By the case of what was found.
 -- Assumes nothing.
 use borrow.Author.Needs.{needs}
 use Rattle.judge.proofs.answers.settled.Statement.{statement}

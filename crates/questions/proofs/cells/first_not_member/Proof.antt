@@ -24,7 +24,10 @@ member-requires c κs = search needs
 
 returns : tie.Need-returns Inv-loop μ-loop
 unfolding firstNotMember
-returns c = passed-at (c .before .before .before .loop .inv) (c .before .before .loop-test .taken) (c .before .member .ensures) (c .if1 .taken)
+returns c =
+    passed-at (c .before .before .before .loop .inv) (c .before .before .loop-test .taken)
+    (c .before .member .ensures)
+    (c .if1 .taken)
 
 add-i : tie.Need-add-i Inv-loop μ-loop
 add-i c = search needs
@@ -33,7 +36,10 @@ loop-less : tie.Need-loop-less Inv-loop μ-loop
 loop-less c = search needs
 
 loop-again : tie.Need-loop-again Inv-loop μ-loop
-loop-again c = passed-next (c .before .before .before .loop .inv) (c .before .member .ensures) (c .if1 .left)
+loop-again c =
+    passed-next (c .before .before .before .loop .inv)
+    (c .before .member .ensures)
+    (c .if1 .left)
 
 returns-2 : tie.Need-returns-2 Inv-loop μ-loop
 unfolding firstNotMember

@@ -25,7 +25,10 @@ row-has-requires c κs = search needs
 
 returns : tie.Need-returns Inv-loop μ-loop
 unfolding firstRowWith
-returns c = passed-at (c .before .before .before .loop .inv) (c .before .before .loop-test .taken) (ap not (c .before .row-has .ensures)) (ap (λ (t : Bool). not (not t)) (c .if1 .taken))
+returns c =
+    passed-at (c .before .before .before .loop .inv) (c .before .before .loop-test .taken)
+    (ap not (c .before .row-has .ensures))
+    (ap (λ (t : Bool). not (not t)) (c .if1 .taken))
 
 add-i : tie.Need-add-i Inv-loop μ-loop
 add-i c = search needs
@@ -34,7 +37,10 @@ loop-less : tie.Need-loop-less Inv-loop μ-loop
 loop-less c = search needs
 
 loop-again : tie.Need-loop-again Inv-loop μ-loop
-loop-again c = passed-next (c .before .before .before .loop .inv) (ap not (c .before .row-has .ensures)) (ap (λ (t : Bool). not (not t)) (c .if1 .left))
+loop-again c =
+    passed-next (c .before .before .before .loop .inv)
+    (ap not (c .before .row-has .ensures))
+    (ap (λ (t : Bool). not (not t)) (c .if1 .left))
 
 returns-2 : tie.Need-returns-2 Inv-loop μ-loop
 unfolding firstRowWith

@@ -1,7 +1,6 @@
 -- Each slot passed so far passes the test.
 -- Assumes nothing.
 use Prim.Native.Nat.{suc, _-_}
-use mathlib.Core.Path.{ap}
 use native.Mathlib.Omega.{arith}
 use Rattle.model.specs.Reading.{stateOf}
 use Rattle.book.specs.Lent.{reading}
@@ -27,10 +26,14 @@ room-left-requires c κs =
 
 returns : tie.Need-returns Inv-loop μ-loop
 unfolding holdsIn
-returns c = passed-at (c .before .before .before .before .before .loop .inv) (c .before .before .if1 .taken) (c .before .room-left .ensures) (c .if2 .taken)
+returns c =
+    passed-at (c .before .before .before .before .before .loop .inv) (c .before .before .if1 .taken)
+    (c .before .room-left .ensures) (c .if2 .taken)
 
 after-requires : tie.Need-after-requires Inv-loop μ-loop
-after-requires c κs = let p = c .before .before .before .before .before .before .before .pre in omega (arith, p .1 .1 .0, c .before .before .if1 .taken, good-laid (p .0) .ranges .dates)
+after-requires c κs =
+    let p = c .before .before .before .before .before .before .before .pre in
+    omega (arith, p .1 .1 .0, c .before .before .if1 .taken, good-laid (p .0) .ranges .dates)
 
 loop-less : tie.Need-loop-less Inv-loop μ-loop
 loop-less c = omega (arith, c .after .ensures, c .before .before .before .if1 .taken)
@@ -39,7 +42,8 @@ loop-again : tie.Need-loop-again Inv-loop μ-loop
 unfolding holdsIn
 loop-again c =
     let e = c .after .ensures in
-    rw e (passed-next (c .before .before .before .before .before .before .loop .inv) (c .before .before .room-left .ensures) (c .before .if2 .left))
+    rw e (passed-next (c .before .before .before .before .before .before .loop .inv)
+    (c .before .before .room-left .ensures) (c .before .if2 .left))
 
 returns-2 : tie.Need-returns-2 Inv-loop μ-loop
 returns-2 c = passed-all (c .before .before .before .loop .inv) (c .if1 .left)

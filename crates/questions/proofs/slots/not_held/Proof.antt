@@ -29,7 +29,14 @@ conf-held-requires c κs = search needs
 
 returns-2 : tie.Need-returns-2
 unfolding notHeld
-returns-2 c = rw (← (c .before .before .before .date-of-session .ensures), ← (c .before .before .lunch-held .ensures), c .before .if1 .left, ← (c .conf-held .ensures), and-true _)
+returns-2 c =
+    rw (
+      ← (c .before .before .before .date-of-session .ensures),
+      ← (c .before .before .lunch-held .ensures),
+      c .before .if1 .left,
+      ← (c .conf-held .ensures),
+      and-true _,
+    )
 
 pub not-held-spec : {M : Type 1} → statement M
 not-held-spec =
