@@ -17,14 +17,13 @@ use Rattle.model.specs.Words.{standings}
 use Rattle.model.specs.Questions.{lowestFree, standsOn}
 use Rattle.model.specs.Reading.{stateOf, readState}
 use Rattle.model.proofs.Search.{lowest-by, any-true, any-false, true-any, false-any, none-failing, failing-none, and-true, and-left, and-right}
-use Rattle.model.proofs.Search.{within-true, true-within, both}
+use Rattle.model.proofs.Search.{any-same, within-true, true-within, both}
 use Rattle.book.specs.declared.found.Found.the-variants.{At, Nothing}
 use Rattle.book.specs.Founds.{foundOf}
 use Rattle.book.specs.Good.{Good}
 use Rattle.book.specs.Grids.{cellAt, gridOf}
 use Rattle.book.specs.Units.{Cut}
 use Rattle.book.proofs.Cuts.{between-cuts}
-use Rattle.book.proofs.Entries.{any-same}
 use Rattle.book.proofs.Goods.{good-state}
 use Rattle.queries.specs.Shown.{roomTaken}
 use Rattle.queries.proofs.Shows.{standing-is}

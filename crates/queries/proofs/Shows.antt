@@ -15,12 +15,12 @@ use Rattle.model.specs.State.{State, Lunch, attends, confs, lunches, booked, se
 use Rattle.model.specs.Questions.{confHeld, lunchHeld, meetingOf}
 use Rattle.model.specs.Words.{leaves, standings, attendCells, confPairs, lunchTriples, groups}
 use Rattle.model.specs.Reading.{stateOf, readState, holds, at}
-use Rattle.model.proofs.Search.{lowest-by, lowest-same, bool-eq, Each, conj-is, within-true, all-true}
+use Rattle.model.proofs.Search.{any-same, lowest-by, lowest-same, bool-eq, Each, conj-is, within-true, all-true}
 use Rattle.model.proofs.Sums.{sum-delta}
 use Rattle.book.specs.Grids.{cellAt, gridOf}
 use Rattle.book.specs.Rows.{rowHas}
 use Rattle.book.specs.Good.{Good}
-use Rattle.book.proofs.Entries.{booked-eqb, bit-is, any-same, holds-is}
+use Rattle.book.proofs.Entries.{booked-eqb, bit-is, holds-is}
 use Rattle.book.proofs.Goods.{good-state, good-sound, good-cell}
 use Rattle.book.proofs.Regions.{group-lt}
 use Rattle.model.proofs.Sums.{sum-empty}

@@ -13,7 +13,7 @@ use Rattle.book.specs.declared.grid.Grid.{Grid}
 use Rattle.book.specs.Grids.{cellAt, gridOf}
 use Rattle.book.specs.Rows.{rowHas}
 use Rattle.book.specs.Good.{Good}
-use Rattle.book.proofs.Entries.{cellsOf, itemOf, valueOf, byA, booked-eqb, item-lt, any-same, failing-same}
+use Rattle.book.proofs.Entries.{cellsOf, itemOf, valueOf, byA, booked-eqb, item-lt}
 use Rattle.book.proofs.Goods.{good-cell, cellLimit}
 use Rattle.model.specs.declared.Settings.{Settings}
 use Rattle.model.specs.Bounded.{any, failing}
@@ -21,7 +21,7 @@ use Rattle.model.specs.State.{State, Pairs, hotels, rides, attends, confs, lunc
 use Rattle.model.specs.Questions.{limitA, limitB}
 use Rattle.model.specs.Words.{slots, items}
 use Rattle.model.specs.Reading.{readState}
-use Rattle.model.proofs.Search.{bool-eq, both, any-false, false-any, and-true, failing-none}
+use Rattle.model.proofs.Search.{any-same, failing-same, bool-eq, both, any-false, false-any, and-true, failing-none}
 
 -- the column and the number of a pair, and their limits, in the sets indexed by a and by v
 by-a : (p : Pairs) → byA p ≡ true → (a v : ℕ) → (itemOf p a v ≡ a) × (valueOf p a v ≡ v)

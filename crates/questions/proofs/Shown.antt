@@ -6,13 +6,13 @@ use mathlib.Core.Bool.{not}
 use mathlib.Core.List.{List}
 use native.Mathlib.Omega.{arith}
 use lib.Dec.{eqb}
+use Rattle.model.proofs.Search.{failing-same}
 use Rattle.book.specs.declared.grid.Grid.{Grid}
 use Rattle.book.specs.declared.grid.Grids.{Grids}
 use Rattle.book.specs.Founds.{foundOf}
 use Rattle.book.specs.Grids.{cellAt, gridOf, gridsOf}
 use Rattle.book.specs.Rows.{rowHas}
 use Rattle.book.specs.Good.{Good}
-use Rattle.book.proofs.Entries.{failing-same}
 use Rattle.questions.specs.Asked.{firstWith, firstRowWithout, firstNotMember, slotsFail, holdsIn}
 use Rattle.questions.specs.Asked.{OnLeave, Stands, HasConf, HasLunch, Attended}
 use Rattle.model.specs.declared.Settings.{Settings}

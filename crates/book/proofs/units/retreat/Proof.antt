@@ -36,7 +36,7 @@ returns c =
     let lo : 0 < l .lo = c .before .before .before .before .loop-test .taken in
     record {
       order = l .inv .0;
-      before = λ i h. turn-low (s .args .s) (s .pre .0) (unitOf (s .args .u)) (s .args .d .0) (l .lo - 1)
+      before = λ i h. turn-low (s .args .s) (unitOf (s .args .u)) (s .args .d .0) (l .lo - 1)
           (rw (← (c .before .before .before .date-of .ensures)) (c .if1 .taken)) i (omega (arith, h, lo));
     }
 
