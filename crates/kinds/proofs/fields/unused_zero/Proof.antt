@@ -20,9 +20,8 @@ zero-unless-requires-2 c κs = search needs
 returns-2 : tie.Need-returns-2
 unfolding unusedZero
 returns-2 c = rw (
-      sym (c .before .before .before .zero-unless .ensures) ∙ not-false _ (c .before .before .if1 .left),
-      sym (c .before .zero-unless2 .ensures) ∙ not-true _ (c .if2 .taken),
-    )
+  sym (c .before .before .before .zero-unless .ensures) ∙ not-false _ (c .before .before .if1 .left),
+  sym (c .before .zero-unless2 .ensures) ∙ not-true _ (c .if2 .taken),
 )
 
 zero-unless-requires-3 : tie.Need-zero-unless-requires-3
@@ -31,11 +30,10 @@ zero-unless-requires-3 c κs = search needs
 returns-3 : tie.Need-returns-3
 unfolding unusedZero
 returns-3 c = rw (
-      sym (c .before .before .before .before .before .zero-unless .ensures)
+  sym (c .before .before .before .before .before .zero-unless .ensures)
       ∙ not-false _ (c .before .before .before .before .if1 .left),
-      sym (c .before .before .before .zero-unless2 .ensures) ∙ not-false _ (c .before .before .if2 .left),
-      sym (c .before .zero-unless3 .ensures) ∙ not-true _ (c .if3 .taken),
-    )
+  sym (c .before .before .before .zero-unless2 .ensures) ∙ not-false _ (c .before .before .if2 .left),
+  sym (c .before .zero-unless3 .ensures) ∙ not-true _ (c .if3 .taken),
 )
 
 zero-unless-requires-4 : tie.Need-zero-unless-requires-4
@@ -44,11 +42,10 @@ zero-unless-requires-4 c κs = search needs
 returns-4 : tie.Need-returns-4
 unfolding unusedZero
 returns-4 c = rw (
-      sym (c .before .before .before .before .before .before .zero-unless .ensures)
+  sym (c .before .before .before .before .before .before .zero-unless .ensures)
       ∙ not-false _ (c .before .before .before .before .before .if1 .left),
-      sym (c .before .before .before .before .zero-unless2 .ensures) ∙ not-false _ (c .before .before .before .if2 .left),
-      sym (c .before .before .zero-unless3 .ensures) ∙ not-false _ (c .before .if3 .left),
-    ) (c .zero-unless4 .ensures)
+  sym (c .before .before .before .before .zero-unless2 .ensures) ∙ not-false _ (c .before .before .before .if2 .left),
+  sym (c .before .before .zero-unless3 .ensures) ∙ not-false _ (c .before .if3 .left),
 ) (c .zero-unless4 .ensures)
 
 pub unused-zero-spec : {M : Type 1} → statement M
