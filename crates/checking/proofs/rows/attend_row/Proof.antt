@@ -15,7 +15,7 @@ blank-requires c κs = search needs
 returns : tie.Need-returns
 returns c =
     let z = c .before .blank .ensures (c .if1 .taken) in
-    let a = c .before .before .before in
+    let a = c .before .before .before .before in
     λ i h. (omega (arith, z i), ap (λ (k : ℕ). getD (a .args .stands .now) k false) (z i) ∙ a .pre .1 .1)
 
 attends-requires : tie.Need-attends-requires

@@ -49,8 +49,8 @@ returns c =
 cast-k : tie.Need-cast-k Inv-loop μ-loop
 cast-k c = omega arith
 
-element-copy-out-bad : tie.Need-element-copy-out-bad Inv-loop μ-loop
-element-copy-out-bad c = omega arith
+shared-slice-read-bad : tie.Need-shared-slice-read-bad Inv-loop μ-loop
+shared-slice-read-bad c = omega arith
 
 add-j : tie.Need-add-j Inv-loop μ-loop
 add-j c = omega arith
@@ -90,7 +90,7 @@ pairs-spec =
     shared-slice-read-info
     returns
     cast-k
-    element-copy-out-bad
+    shared-slice-read-bad
     add-j
     loop-less
     loop-again

@@ -31,10 +31,10 @@ cast-k c =
     let z = c .before .before .before in
     omega (arith, z .pre (c .before .before .loop .i) (omega arith))
 
-element-copy-out-bad : tie.Need-element-copy-out-bad Inv-loop μ-loop
-element-copy-out-bad c =
-    let z = c .before .before .before in
-    omega (arith, z .pre (c .before .before .loop .i) (omega arith))
+shared-slice-read-bad : tie.Need-shared-slice-read-bad Inv-loop μ-loop
+shared-slice-read-bad c =
+    let z = c .before .before .before .before in
+    omega (arith, z .pre (c .before .before .before .loop .i) (omega arith))
 
 add-i : tie.Need-add-i Inv-loop μ-loop
 add-i c = omega arith
@@ -63,7 +63,7 @@ stood-spec =
     mul-k
     shared-slice-read-k
     cast-k
-    element-copy-out-bad
+    shared-slice-read-bad
     add-i
     loop-less
     loop-again
