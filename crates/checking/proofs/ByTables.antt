@@ -65,7 +65,8 @@ module _ (leave : List ℕ) (limit : ℕ) (t : List Bool) (b : Barred leave limi
       }
 
 -- lunches
-module _ (stand : List ℕ) (n width meetings : ℕ) (t : List Bool) (b : BarredDate stand n width t) (all : meetings ≤ width * 32) (lunch : List ℕ) (dining : ℕ) (caps : List ℕ) where
+module _ (stand : List ℕ) (n width meetings : ℕ) (t : List Bool) (b : BarredDate stand n width t) (all : meetings ≤ width * 32) (lunch : List ℕ)
+    (dining : ℕ) (caps : List ℕ) where
   absent : (j : ℕ) → j < meetings → getD t (j + 1) false ≡ not (standsIn stand n width j)
   absent j h = ap (λ (k : ℕ). getD t k false) (add-one j) ∙ b j (omega arith)
 

@@ -67,8 +67,11 @@ module _ (seen : List Bool) (w u : ℕ) (l : w < length seen) where
   next-free f h = go (ℕ-discrete u w)
     where
       go : Dec (u ≡ w) → (getD seen u false ≡ false) × (u ≡ w → w ≡ 0)
-      go (yes e) =
-          (ap (λ (k : ℕ). getD seen k false) e ∙ f, λ q. nonzero w (sym (getD-set-same seen w (not (eqb w 0)) false l) ∙ ap (λ (k : ℕ). getD (mark seen w) k false) (sym e) ∙ h))
+      go (yes e) = (
+        ap (λ (k : ℕ). getD seen k false) e ∙ f,
+        λ q. nonzero w
+            (sym (getD-set-same seen w (not (eqb w 0)) false l) ∙ ap (λ (k : ℕ). getD (mark seen w) k false) (sym e) ∙ h),
+      )
       go (no n) = (sym (getD-set-other seen w u (not (eqb w 0)) false n) ∙ h, λ q. absurd (n q))
 
   free-next : getD seen u false ≡ false → (u ≡ w → w ≡ 0) → getD (mark seen w) u false ≡ false
@@ -113,6 +116,7 @@ said (w ∷ row) seen h r =
     rw (r .free 0 (omega arith))
     (said row (mark seen w) (rest w row seen h)
     (record {
-      free = λ i m. free-next seen w (getD row i 0) (h 0 (omega arith)) (r .free (suc i) (omega arith)) (λ q. r .once 0 (suc i) (omega arith) (omega arith) (sym q));
+      free = λ i m. free-next seen w (getD row i 0) (h 0 (omega arith)) (r .free (suc i) (omega arith))
+          (λ q. r .once 0 (suc i) (omega arith) (omega arith) (sym q));
       once = λ i j m k q. r .once (suc i) (suc j) (omega arith) (omega arith) q;
     }))

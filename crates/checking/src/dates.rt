@@ -78,7 +78,8 @@ fn sessions(
     requires { ⌜ (length (now stand) ≡ n * groups meetings) × (length (now attend) ≡ n * visitors) × (length (now conf) ≡ n * (rooms * 2)) ⌝ }
     requires { ⌜ length (now stands) ≡ 129 ⌝ }
     requires { ⌜ ((j : ℕ) → j < visitors → getD (now bounds) j 0 ≤ meetings) ⌝ }
-    ensures { λ r. ⌜ Decides r ((p : ℕ) → p < n → Session (rowAt (groups meetings) p (now (stand .entry))) (rowAt visitors p (now (attend .entry))) (rowAt (rooms * 2) p (now (conf .entry))) (now (bounds .entry)) rooms meetings) ⌝ }
+    ensures { λ r. ⌜ Decides r ((p : ℕ) → p < n → Session (rowAt (groups meetings) p (now (stand .entry))) (rowAt visitors p (now (attend .entry)))
+        (rowAt (rooms * 2) p (now (conf .entry))) (now (bounds .entry)) rooms meetings) ⌝ }
 {
     let words = (meetings as usize + 31) / 32;
     let wide = rooms * 2;
@@ -125,7 +126,8 @@ fn pads(stand: &[u32], n: usize, meetings: usize) -> bool
     true
 }
 
-// One date of n sessions and q times, by its tables: its leave words, hotel cells, standing words, attend cells, conf pairs, lunch triples and ride cells.
+// One date of n sessions and q times, by its tables: its leave words, hotel cells, standing words, attend cells, conf pairs, lunch
+// triples and ride cells.
 fn entries(
     leave: &[u32],
     hotel: &[u32],
@@ -143,7 +145,8 @@ fn entries(
     requires { ⌜ Long s n q (now leave) (now hotel) (now stand) (now attend) (now conf) (now lunch) (now ride) ⌝ }
     requires { ⌜ Caps s (now caps) ⌝ }
     requires { ⌜ Padded (now leave) (s .visitors) ⌝ }
-    ensures { λ r. ⌜ Decides r (Day s n q (now (caps .entry)) (now (leave .entry)) (now (hotel .entry)) (now (stand .entry)) (now (attend .entry)) (now (conf .entry)) (now (lunch .entry)) (now (ride .entry))) ⌝ }
+    ensures { λ r. ⌜ Decides r (Day s n q (now (caps .entry)) (now (leave .entry)) (now (hotel .entry)) (now (stand .entry)) (now (attend .entry))
+        (now (conf .entry)) (now (lunch .entry)) (now (ride .entry))) ⌝ }
 {
     let visitors = s.visitors;
     let meetings = s.meetings;
@@ -188,7 +191,8 @@ fn date(
     requires { ⌜ Ranges s ⌝ }
     requires { ⌜ Long s n q (now leave) (now hotel) (now stand) (now attend) (now conf) (now lunch) (now ride) ⌝ }
     requires { ⌜ Caps s (now caps) ⌝ }
-    ensures { λ r. ⌜ Decides r (Day s n q (now (caps .entry)) (now (leave .entry)) (now (hotel .entry)) (now (stand .entry)) (now (attend .entry)) (now (conf .entry)) (now (lunch .entry)) (now (ride .entry))) ⌝ }
+    ensures { λ r. ⌜ Decides r (Day s n q (now (caps .entry)) (now (leave .entry)) (now (hotel .entry)) (now (stand .entry)) (now (attend .entry))
+        (now (conf .entry)) (now (lunch .entry)) (now (ride .entry))) ⌝ }
 {
     if !rows::padded(leave, s.visitors as usize) {
         return false;

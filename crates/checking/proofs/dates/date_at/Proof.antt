@@ -5,6 +5,7 @@ use native.Mathlib.Omega.{arith}
 use borrow.Author.Needs.{needs}
 use Rattle.model.specs.Words.{leaves, hotelCells, standings, attendCells, confPairs, lunchTriples, rideCells}
 use Rattle.model.specs.Kinds.{sessions, times}
+use Rattle.book.specs.Lent.{reading}
 use Rattle.book.proofs.Regions.{unit-le}
 use Rattle.checking.proofs.Addresses.{block-fits, block-run, one-long}
 use Rattle.checking.proofs.Answers.{relay}
@@ -124,8 +125,10 @@ returns c =
     let conf = block-run (z .args .s) (p .starts) _ confPairs _ _ (c5 .block5 .ensures) in
     let lunch = block-run (z .args .s) (p .starts) _ lunchTriples _ _ (c6 .block6 .ensures) in
     let ride = block-run (z .args .s) (p .starts) _ rideCells _ _ (c7 .block7 .ensures) in
-    relay (c .date .result) (day-kept (z .args .s) _ _ (p .laid) _ (p .date) (p .sessions) (p .times))
-    (kept-day (z .args .s) _ _ (p .laid) _ (p .date) (p .sessions) (p .times))
+    let caps = z .args .caps .now in
+    let b = reading (z .args .book .now) in
+    relay (c .date .result) (day-kept (z .args .s) caps b (p .laid) (z .args .d .0) (p .date) (p .sessions) (p .times))
+    (kept-day (z .args .s) caps b (p .laid) (z .args .d .0) (p .date) (p .sessions) (p .times))
     (rw (leave .is, hotel .is, stand .is, attend .is, conf .is, lunch .is, ride .is) at (c .date .ensures))
 
 pub date-at-spec : {M : Type 1} → statement M

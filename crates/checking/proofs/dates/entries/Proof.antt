@@ -1,6 +1,5 @@
 -- The tables say what the words say.
 -- Assumes nothing.
-use Prim.Native.Nat.{ℕ}
 use mathlib.Core.Path.{_≡_, refl, _∙_}
 use native.Mathlib.Omega.{arith}
 use lib.ListN.{length}
@@ -44,7 +43,8 @@ guest-row-requires c κs = search needs
 returns : tie.Need-returns
 returns c =
     let g = c .before .before .guest-row in
-    λ d. said-false (g .result) (not-true _ (c .if1 .taken)) (g .ensures .0) (guests _ _ _ (c .before .before .before .before .before .before .bar-past .ensures .0) _ (d .slept))
+    λ d. said-false (g .result) (not-true _ (c .if1 .taken)) (g .ensures .0)
+    (guests _ _ _ (c .before .before .before .before .before .before .bar-past .ensures .0) _ (d .slept))
 
 slice-aggregate-bound : tie.Need-slice-aggregate-bound
 slice-aggregate-bound c = search needs
@@ -54,8 +54,10 @@ slice-aggregate-bound-2 c = search needs
 
 bound-requires : tie.Need-bound-requires
 bound-requires c κs =
-    let r = c .before .before .before .before .before .before .before .before .before .before .before .before .before .before .before .before .before .before .before .pre .0 in
-    let k : length (c .before .before .before .before .before .before .before .before .bar-past .last .0) ≡ 1024 = c .before .before .before .before .before .before .before .before .bar-past .kept .0 in
+    let c10 = c .before .before .before .before .before .before .before .before .before .before in
+    let r = c10 .before .before .before .before .before .before .before .before .before .pre .0 in
+    let b = c .before .before .before .before .before .before .before .before .bar-past in
+    let k : length (b .last .0) ≡ 1024 = b .kept .0 in
     (r .visitors .1, omega (arith, r .visitors .1, k))
 
 slice-aggregate-sessions : tie.Need-slice-aggregate-sessions
@@ -63,12 +65,14 @@ slice-aggregate-sessions c = search needs
 
 sessions-requires : tie.Need-sessions-requires
 sessions-requires c κs =
-    let z = c .before .before .before .before .before .before .before .before .before .before .before .before .before .before .before .before .before .before .before .before .before .before .before in
+    let c10 = c .before .before .before .before .before .before .before .before .before .before in
+    let c20 = c10 .before .before .before .before .before .before .before .before .before .before in
+    let z = c20 .before .before .before in
     let r = z .pre .0 in
     let l = z .pre .1 .0 in
     let b = c .before .before .before .bound in (
       (r .meetings .0, r .meetings .1, r .rooms .1, r .visitors .1),
-      ((l .stands, l .attends, l .confs), (refl, most-low (c .before .before .before .before .before .before .before .before .before .before .before .before .bar-past .last .0) _ _ (b .last .0) (b .ensures))),
+      ((l .stands, l .attends, l .confs), (refl, most-low (c10 .before .before .bar-past .last .0) _ _ (b .last .0) (b .ensures))),
     )
 
 returns-2 : tie.Need-returns-2
@@ -87,7 +91,9 @@ slice-aggregate-bar-date c = search needs
 
 bar-date-requires : tie.Need-bar-date-requires
 bar-date-requires c κs =
-    let z = c .before .before .before .before .before .before .before .before .before .before .before .before .before .before .before .before .before .before .before .before .before .before .before .before .before .before .before in
+    let c10 = c .before .before .before .before .before .before .before .before .before .before in
+    let c20 = c10 .before .before .before .before .before .before .before .before .before .before in
+    let z = c20 .before .before .before .before .before .before .before in
     let k : length (c .before .before .before .sessions .last .1 .1 .1 .1 .0) ≡ 129 = c .before .before .before .sessions .kept .1 .1 .1 .1 .0 in
     (omega (arith, z .pre .0 .meetings .1), omega (arith, z .pre .1 .0 .stands), omega (arith, k))
 
@@ -96,14 +102,21 @@ slice-aggregate-triples c = search needs
 
 triples-requires : tie.Need-triples-requires
 triples-requires c κs =
-    let z = c .before .before .before .before .before .before .before .before .before .before .before .before .before .before .before .before .before .before .before .before .before .before .before .before .before .before .before .before .before .before in
-    let k : length (c .before .before .before .before .before .before .sessions .last .1 .1 .1 .1 .0) ≡ 129 = c .before .before .before .before .before .before .sessions .kept .1 .1 .1 .1 .0 in
+    let c10 = c .before .before .before .before .before .before .before .before .before .before in
+    let c20 = c10 .before .before .before .before .before .before .before .before .before .before in
+    let c30 = c20 .before .before .before .before .before .before .before .before .before .before in
+    let z = c30 in
+    let s = c .before .before .before .before .before .before .sessions in
+    let k : length (s .last .1 .1 .1 .1 .0) ≡ 129 = s .kept .1 .1 .1 .1 .0 in
     let m = z .pre .0 .meetings .1 in
     ((m, z .pre .0 .dining .1, z .pre .1 .0 .lunches, omega (arith, m, k, c .before .before .bar-date .kept .0)), z .pre .1 .1 .0 .low)
 
 returns-3 : tie.Need-returns-3
 returns-3 c =
-    let z = c .before .before .before .before .before .before .before .before .before .before .before .before .before .before .before .before .before .before .before .before .before .before .before .before .before .before .before .before .before .before .before .before in
+    let c10 = c .before .before .before .before .before .before .before .before .before .before in
+    let c20 = c10 .before .before .before .before .before .before .before .before .before .before in
+    let c30 = c20 .before .before .before .before .before .before .before .before .before .before in
+    let z = c30 .before .before in
     let t = c .before .triples in
     let b = c .before .before .before .before .bar-date in
     let one = triple (z .args .stand .now) (z .args .n) (groups (z .args .s .meetings)) (z .args .s .meetings) (b .last .0) (b .ensures) (omega arith)
@@ -118,9 +131,12 @@ slice-aggregate-guest-rows-2 c = search needs
 
 guest-rows-requires : tie.Need-guest-rows-requires
 guest-rows-requires c κs =
-    let z = c .before .before .before .before .before .before .before .before .before .before .before .before .before .before .before .before .before .before .before .before .before .before .before .before .before .before .before .before .before .before .before .before .before .before in
-    let b = c .before .before .before .before .before .before .before .before .before .before .before .before .before .before .before .before .before .before .before .before .before .before .before .bar-past in
-    let g = c .before .before .before .before .before .before .before .before .before .before .before .before .before .before .before .before .before .before .before .guest-row in (
+    let c10 = c .before .before .before .before .before .before .before .before .before .before in
+    let c20 = c10 .before .before .before .before .before .before .before .before .before .before in
+    let c30 = c20 .before .before .before .before .before .before .before .before .before .before in
+    let z = c30 .before .before .before .before in
+    let b = c20 .before .before .before .bar-past in
+    let g = c10 .before .before .before .before .before .before .before .before .before .guest-row in (
       record {
         few = z .pre .0 .visitors .1;
         size = b .kept .0;

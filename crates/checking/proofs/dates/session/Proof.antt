@@ -24,7 +24,9 @@ returns-2 c =
     session-blank _ _ _ _ _ _ pad (c .before .blanks .ensures (c .if2 .taken))
 
 bar-requires : tie.Need-bar-requires
-bar-requires c κs = let p = c .before .before .before .before .before .before .before .before .before .pre in omega (arith, p .0 .1, p .1 .0 .0, p .1 .1 .0)
+bar-requires c κs =
+    let c5 = c .before .before .before .before .before in
+    let p = c5 .before .before .before .before .pre in omega (arith, p .0 .1, p .1 .0 .0, p .1 .1 .0)
 
 attend-row-requires : tie.Need-attend-row-requires
 attend-row-requires c κs =

@@ -50,14 +50,18 @@ session-requires c κs =
     )
 
 same-length : tie.Need-same-length Inv-loop μ-loop
-same-length c = omega (arith, c .before .before .before .session .kept .1 .1 .1 .1 .0, c .before .before .before .before .before .before .before .before .before .loop .inv .1, c .before .before .before .before .before .before .before .before .before .before .before .before .before .before .pre .1 .1 .0)
+same-length c =
+    let c10 = c .before .before .before .before .before .before .before .before .before .before in
+    let l = c .before .before .before .before .before .before .before .before .before .loop in
+    omega (arith, c .before .before .before .session .kept .1 .1 .1 .1 .0, l .inv .1, c10 .before .before .before .before .pre .1 .1 .0)
 
 returns : tie.Need-returns Inv-loop μ-loop
 returns c =
+    let c5 = c .before .before .before .before .before in
     let s = c .before .before .before .session in
     λ all. said-false (s .result) (not-true _ (c .if1 .taken))
-    (rw (c .before .before .before .before .before .before .before .row-of .ensures .is, c .before .before .before .before .before .before .row-of2 .ensures .is, c .before .before .before .before .before .row-of3 .ensures .is) at (s .ensures))
-    (all (c .before .before .before .before .before .before .before .before .before .loop .p) (omega arith))
+    (rw (c5 .before .before .row-of .ensures .is, c5 .before .row-of2 .ensures .is, c5 .row-of3 .ensures .is) at (s .ensures))
+    (all (c5 .before .before .before .before .loop .p) (omega arith))
 
 add-p : tie.Need-add-p Inv-loop μ-loop
 add-p c = omega arith
@@ -67,12 +71,13 @@ loop-less c = omega arith
 
 loop-again : tie.Need-loop-again Inv-loop μ-loop
 loop-again c =
+    let c5 = c .before .before .before .before .before in
     let s = c .before .before .before .session in
-    let l = c .before .before .before .before .before .before .before .before .before .loop in (
+    let l = c5 .before .before .before .before .loop in (
       omega arith,
       s .kept .1 .1 .1 .1 .0 ∙ l .inv .1,
       below-more _ _ (l .inv .2) (said-true (s .result) (not-false _ (c .if1 .left))
-          (rw (c .before .before .before .before .before .before .before .row-of .ensures .is, c .before .before .before .before .before .before .row-of2 .ensures .is, c .before .before .before .before .before .row-of3 .ensures .is) at (s .ensures))),
+          (rw (c5 .before .before .row-of .ensures .is, c5 .before .row-of2 .ensures .is, c5 .row-of3 .ensures .is) at (s .ensures))),
     )
 
 same-length-2 : tie.Need-same-length-2 Inv-loop μ-loop

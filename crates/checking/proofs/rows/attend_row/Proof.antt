@@ -1,4 +1,4 @@
--- `rows::attend_row` meets its contract.
+-- A blank row keeps every bound, and entry 0 is not barred.
 -- Assumes nothing.
 use Prim.Native.Nat.{ℕ}
 use mathlib.Core.Path.{ap, _∙_}

@@ -37,8 +37,11 @@ loop-less c = omega arith
 
 loop-again : tie.Need-loop-again Inv-loop μ-loop
 loop-again c =
-    let r = c .before .before .before .loop in
-    (omega arith, zeros-more (c .before .before .before .before .before .args .row .now) (r .i) 128 (r .inv .1) (sym (c .before .joined .ensures) ∙ c .if1 .left))
+    let r = c .before .before .before .loop in (
+      omega arith,
+      zeros-more (c .before .before .before .before .before .args .row .now) (r .i) 128 (r .inv .1)
+          (sym (c .before .joined .ensures) ∙ c .if1 .left),
+    )
 
 sub-joined : tie.Need-sub-joined Inv-loop μ-loop
 sub-joined c = omega arith

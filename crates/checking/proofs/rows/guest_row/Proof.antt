@@ -33,23 +33,33 @@ copy-requires c κs =
 
 guests-requires : tie.Need-guests-requires
 guests-requires c κs =
-    let z = c .before .before .before .before .before .before .before .before .before .before .before in
-    let low = low-all (z .args .row .now) (omega (arith, c .before .before .before .before .before .before .before .joined .ensures)) in
-    (λ i h. omega (arith, low i h, c .before .before .before .copy .kept .0, z .pre .same), (omega (arith, c .before .before .before .copy .kept .0, z .pre .same), ap (λ (s : List Bool). getD s 0 false) (c .before .before .before .copy .ensures) ∙ z .pre .none))
+    let c10 = c .before .before .before .before .before .before .before .before .before .before in
+    let z = c10 .before in
+    let low = low-all (z .args .row .now) (omega (arith, c .before .before .before .before .before .before .before .joined .ensures)) in (
+      λ i h. omega (arith, low i h, c .before .before .before .copy .kept .0, z .pre .same),
+      (
+        omega (arith, c .before .before .before .copy .kept .0, z .pre .same),
+        ap (λ (s : List Bool). getD s 0 false)
+            (c .before .before .before .copy .ensures) ∙ z .pre .none,
+      ),
+    )
 
 same-length : tie.Need-same-length
 same-length c = search needs
 
 returns-3 : tie.Need-returns-3
 returns-3 c =
-    let z = c .before .before .before .before .before .before .before .before .before .before .before .before .before .before in
+    let c10 = c .before .before .before .before .before .before .before .before .before .before in
+    let z = c10 .before .before .before .before in
     let row = z .args .row .now in
     let e = c .before .before .before .before .before .before .copy .ensures in
     let g = c .before .before .guests in
-    let low = low-all row (omega (arith, c .before .before .before .before .before .before .before .before .before .before .joined .ensures)) in (
-      relay (g .result) (λ f. free-guests row _ _ (z .pre .past) (λ i h. omega (arith, low i h, z .pre .size)) (subst (λ (s : List Bool). Free row s) e f))
+    let low = low-all row (omega (arith, c10 .joined .ensures)) in (
+      relay (g .result) (λ f. free-guests row _ _ (z .pre .past) (λ i h. omega (arith, low i h, z .pre .size))
+          (subst (λ (s : List Bool). Free row s) e f))
           (λ f. subst (λ (s : List Bool). Free row s) (sym e) (guests-free row _ _ f)) (g .ensures .0),
-      past-marked _ (z .args .table .now) (g .last .1 .0) (g .kept .1 .0 ∙ ap length e) (z .pre .past) (subst (λ (s : List Bool). Marked s (g .last .1 .0)) e (g .ensures .1)),
+      past-marked _ (z .args .table .now) (g .last .1 .0) (g .kept .1 .0 ∙ ap length e) (z .pre .past)
+          (subst (λ (s : List Bool). Marked s (g .last .1 .0)) e (g .ensures .1)),
     )
 
 pub guest-row-spec : {M : Type 1} → statement M

@@ -27,12 +27,17 @@ guest-row-requires : tie.Need-guest-row-requires Inv-loop μ-loop
 guest-row-requires c κs = c .before .before .before .loop .inv .1
 
 same-length : tie.Need-same-length Inv-loop μ-loop
-same-length c = omega (arith, c .before .before .before .guest-row .kept .1 .1 .0, c .before .before .before .before .before .before .before .loop .inv .1 .same, c .before .before .before .before .before .before .before .before .before .before .before .pre .0 .same)
+same-length c =
+    let c10 = c .before .before .before .before .before .before .before .before .before .before in
+    let l = c .before .before .before .before .before .before .before .loop in
+    omega (arith, c .before .before .before .guest-row .kept .1 .1 .0, l .inv .1 .same, c10 .before .pre .0 .same)
 
 returns : tie.Need-returns Inv-loop μ-loop
 returns c =
+    let c5 = c .before .before .before .before .before in
     let g = c .before .before .before .guest-row in
-    λ all. said-false (g .result) (not-true _ (c .if1 .taken)) (rw (c .before .before .before .before .before .row-of .ensures .is) at (g .ensures .0)) (all (c .before .before .before .before .before .before .before .loop .i) (omega arith))
+    λ all. said-false (g .result) (not-true _ (c .if1 .taken)) (rw (c5 .row-of .ensures .is) at (g .ensures .0))
+    (all (c5 .before .before .loop .i) (omega arith))
 
 add-i : tie.Need-add-i Inv-loop μ-loop
 add-i c = omega arith
@@ -42,8 +47,9 @@ loop-less c = omega arith
 
 loop-again : tie.Need-loop-again Inv-loop μ-loop
 loop-again c =
+    let c5 = c .before .before .before .before .before in
     let g = c .before .before .before .guest-row in
-    let l = c .before .before .before .before .before .before .before .loop in
+    let l = c5 .before .before .loop in
     let p = l .inv .1 in (
       omega arith,
       record {
@@ -54,7 +60,7 @@ loop-again c =
         past = p .past;
         kept = g .ensures .1;
       },
-      below-more _ _ (l .inv .2) (said-true (g .result) (not-false _ (c .if1 .left)) (rw (c .before .before .before .before .before .row-of .ensures .is) at (g .ensures .0))),
+      below-more _ _ (l .inv .2) (said-true (g .result) (not-false _ (c .if1 .left)) (rw (c5 .row-of .ensures .is) at (g .ensures .0))),
     )
 
 same-length-2 : tie.Need-same-length-2 Inv-loop μ-loop

@@ -14,7 +14,8 @@ use Rattle.checking.proofs.rows.guests.Tie as tie
 
 abbrev Inv-loop : tie.InvT-loop
 Inv-loop row seen₀ bad₀ i₀ seen bad i =
-    (i ≤ length row) × (length seen ≡ length seen₀) × (getD seen 0 false ≡ false) × (pass (drop i row) seen bad ≡ pass row seen₀ false) × Marked seen₀ seen
+    (i ≤ length row) × (length seen ≡ length seen₀) × (getD seen 0 false ≡ false) ×
+    (pass (drop i row) seen bad ≡ pass row seen₀ false) × Marked seen₀ seen
 
 abbrev μ-loop : tie.MeasureT-loop
 μ-loop row seen₀ bad₀ i₀ seen bad i = length row - i
@@ -38,7 +39,11 @@ slice-write-seen : tie.Need-slice-write-seen Inv-loop μ-loop
 slice-write-seen c = omega (arith, c .before .before .before .before .pre .0 (c .before .before .before .loop .i) (omega arith))
 
 slice-write-seen-2 : tie.Need-slice-write-seen-2 Inv-loop μ-loop
-slice-write-seen-2 c = omega (arith, length-set (c .before .before .before .loop .seen) (getD (c .before .before .before .before .args .row .now) (c .before .before .before .loop .i) 0) true)
+slice-write-seen-2 c = omega (
+  arith,
+  length-set (c .before .before .before .loop .seen)
+      (getD (c .before .before .before .before .args .row .now) (c .before .before .before .loop .i) 0) true,
+)
 
 add-i : tie.Need-add-i Inv-loop μ-loop
 add-i c = omega arith

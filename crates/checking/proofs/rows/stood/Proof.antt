@@ -1,4 +1,4 @@
--- `rows::stood` meets its contract: the flag says whether a meeting passed is barred.
+-- The flag says whether the meetings passed stand.
 -- Assumes nothing.
 use Prim.Native.Nat.{ℕ, _-_, _≤_, _<_}
 use mathlib.Core.Path.{_≡_}
@@ -45,8 +45,11 @@ loop-less c = omega arith
 loop-again : tie.Need-loop-again Inv-loop μ-loop
 loop-again c =
     let r = c .before .before .before .loop in
-    let a = c .before .before .before .before .args in
-    (omega arith, more (λ k. getD (a .stands .now) (getD (a .row .now) k 0) false ≡ false) (r .i) (r .bad) _ (r .inv .1) (bar-said (getD (a .stands .now) (getD (a .row .now) (r .i) 0) false)))
+    let a = c .before .before .before .before .args in (
+      omega arith,
+      more (λ k. getD (a .stands .now) (getD (a .row .now) k 0) false ≡ false) (r .i) (r .bad) _ (r .inv .1)
+          (bar-said (getD (a .stands .now) (getD (a .row .now) (r .i) 0) false)),
+    )
 
 returns : tie.Need-returns Inv-loop μ-loop
 returns c =

@@ -1,4 +1,4 @@
--- `rows::triples` meets its contract.
+-- The triples passed are good, and their seats are added up.
 -- Assumes nothing.
 use Rattle.model.specs.Bounded.{sum}
 use Prim.Native.Nat.{_+_, _*_, _-_, _≤_}
@@ -112,7 +112,8 @@ loop-less c = omega arith
 
 loop-again : tie.Need-loop-again Inv-loop μ-loop
 loop-again c =
-    let c9 = c .before .before .before .before .before .before .before .before .before in
+    let c5 = c .before .before .before .before .before in
+    let c9 = c5 .before .before .before .before in
     let c12 = c9 .before .before .before in
     let r = c9 .loop in
     let a = c12 .args in
@@ -120,7 +121,8 @@ loop-again c =
       omega arith,
       sofar-more (a .row .now) (a .dining) (a .caps .now) (a .table .now) (r .sums) (r .j) (r .inv .1) (omega arith)
           (omega (arith, c12 .pre .1 w))
-          (triple-by (a .dining) (a .caps .now) (getD (a .table .now) (r .j + 1) false) w (getD (a .row .now) (r .j * 3 + 1) 0) (getD (a .row .now) (r .j * 3 + 2) 0) (omega arith) (omega arith) (c .if3 .left)),
+          (triple-by (a .dining) (a .caps .now) (getD (a .table .now) (r .j + 1) false) w (getD (a .row .now) (r .j * 3 + 1) 0)
+          (getD (a .row .now) (r .j * 3 + 2) 0) (omega arith) (omega arith) (c .if3 .left)),
     )
 
 within-requires : tie.Need-within-requires Inv-loop μ-loop
@@ -134,7 +136,11 @@ returns-4 c =
     let a = c6 .args in
     let e : r .j ≡ a .n = omega arith in
     relay (c .within .result)
-    (λ f. record { each = λ j h. r .inv .1 .each j (omega arith); sums = λ g h. omega (arith, f g h, r .inv .1 .sums g h, ap (sum (seatsIn (a .row .now) g)) e) })
+    (λ f. record {
+      each = λ j h. r .inv .1 .each j (omega arith);
+      sums = λ g h. omega
+          (arith, f g h, r .inv .1 .sums g h, ap (sum (seatsIn (a .row .now) g)) e);
+    })
     (λ l g h. omega (arith, l .sums g h, r .inv .1 .sums g h, ap (sum (seatsIn (a .row .now) g)) e))
     (c .within .ensures)
 

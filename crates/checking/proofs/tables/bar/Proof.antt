@@ -68,12 +68,14 @@ loop2-less c = omega arith
 
 loop2-again : tie.Need-loop2-again Inv-loop2 μ-loop2 Inv-loop μ-loop
 loop2-again c =
+    let c5 = c .before .before .before .before .before in
     let r = c .before .before .loop2 in
-    let l = c .before .before .before .before .before .loop in
-    let a = c .before .before .before .before .before .before .before .before .args in (
+    let l = c5 .loop in
+    let a = c5 .before .before .before .args in (
       omega arith,
       length-set (r .table) (l .i * 32 + r .k + 1) _ ∙ r .inv .1,
-      table-bit (a .row .now) (l .i) (r .k) (r .table) _ (omega (arith, length-set (a .table .now) 0 false)) (omega arith) (ap not (c .has .ensures)) (r .inv .2),
+      table-bit (a .row .now) (l .i) (r .k) (r .table) _ (omega (arith, length-set (a .table .now) 0 false)) (omega arith)
+          (ap not (c .has .ensures)) (r .inv .2),
     )
 
 add-i : tie.Need-add-i Inv-loop2 μ-loop2 Inv-loop μ-loop
@@ -84,10 +86,11 @@ loop-less c = omega arith
 
 loop-again : tie.Need-loop-again Inv-loop2 μ-loop2 Inv-loop μ-loop
 loop-again c =
+    let c5 = c .before .before .before .before .before in
     let r = c .before .loop2 in
     let l = c .before .before .before .before .loop in
     let e : l .i * 32 + r .k ≡ (l .i + 1) * 32 = omega arith in
-    (omega arith, r .inv .1 ∙ l .inv .1, subst (λ (n : ℕ). Barred (c .before .before .before .before .before .before .before .args .row .now) n (r .table)) e (r .inv .2))
+    (omega arith, r .inv .1 ∙ l .inv .1, subst (λ (n : ℕ). Barred (c5 .before .before .args .row .now) n (r .table)) e (r .inv .2))
 
 same-length : tie.Need-same-length Inv-loop2 μ-loop2 Inv-loop μ-loop
 same-length c = omega (arith, length-set (c .before .before .before .before .args .table .now) 0 false)

@@ -1,6 +1,6 @@
 -- The entries passed are barred, and the row's own stay.
 -- Assumes nothing.
-use Prim.Native.Nat.{ℕ, _+_, _-_, _*_, _≤_, _<_}
+use Prim.Native.Nat.{ℕ, _-_, _≤_, _<_}
 use mathlib.Core.Path.{_≡_, refl, _∙_}
 use mathlib.Core.Bool.{true, false}
 use native.Mathlib.Omega.{arith}
@@ -12,7 +12,7 @@ use Rattle.checking.proofs.tables.bar_past.Tie as tie
 
 abbrev Inv-loop : tie.InvT-loop
 Inv-loop table₀ row n v₀ table v =
-    (n < v) × (v ≤ length table) × (length table ≡ length table₀) × (Barred row n table × ((u : ℕ) → n < u → u < v → getD table u false ≡ true))
+    (n < v) × (v ≤ length table₀) × (length table ≡ length table₀) × (Barred row n table × ((u : ℕ) → n < u → u < v → getD table u false ≡ true))
 
 abbrev μ-loop : tie.MeasureT-loop
 μ-loop table₀ row n v₀ table v = length table₀ - v
@@ -40,10 +40,14 @@ loop-less c = omega arith
 
 loop-again : tie.Need-loop-again Inv-loop μ-loop
 loop-again c =
+    let c5 = c .before .before .before .before .before in
     let r = c .before .loop in
-    let a = c .before .before .before .before .before .before .before .before .args in
-    let long = length-set (r .table) (r .v) true in
-    (omega arith, omega arith, long ∙ r .inv .2, past-more (a .row .now) (a .n) (r .v) (r .table) (omega arith) (omega arith) (r .inv .3 .0) (r .inv .3 .1))
+    let a = c5 .before .before .before .args in (
+      omega arith,
+      omega arith,
+      length-set (r .table) (r .v) _ ∙ r .inv .2,
+      past-more (a .row .now) (a .n) (r .v) (r .table) (omega arith) (omega arith) (r .inv .3 .0) (r .inv .3 .1),
+    )
 
 same-length : tie.Need-same-length Inv-loop μ-loop
 same-length c = omega (arith, c .before .before .before .before .bar .kept .0)
