@@ -39,11 +39,7 @@ slice-write-seen : tie.Need-slice-write-seen Inv-loop μ-loop
 slice-write-seen c = omega (arith, c .before .before .before .before .pre .0 (c .before .before .before .loop .i) (omega arith))
 
 slice-write-seen-2 : tie.Need-slice-write-seen-2 Inv-loop μ-loop
-slice-write-seen-2 c = omega (
-  arith,
-  length-set (c .before .before .before .loop .seen)
-      (getD (c .before .before .before .before .args .row .now) (c .before .before .before .loop .i) 0) true,
-)
+slice-write-seen-2 c = rw length-set (omega arith)
 
 add-i : tie.Need-add-i Inv-loop μ-loop
 add-i c = omega arith
