@@ -56,7 +56,7 @@ fn session(
         return true;
     }
     tables::bar(stands, stand);
-    if !rows::attend_row(attend, bounds, stands) {
+    if !rows::attends(attend, bounds, stands) {
         return false;
     }
     rows::pairs(conf, rooms, stands, meetings)

@@ -82,7 +82,8 @@ fn guests(row: &[u32], seen: &mut [bool]) -> bool
 }
 
 // Hotel and ride: each cell within the limit and not barred, and no visitor twice in the row. What was seen is kept in a table of its own,
-// which bars what is past the limit at all times.
+// which bars what is past the limit at all times. No limit is asked of a cell: words within it are below 1024, and so are all of them
+// or-ed together; each word below 1024 has its entry.
 pub fn guest_row(row: &[u32], table: &[bool], seen: &mut [bool], limit: u32) -> bool
     requires { ⌜ Ready limit (now table) (now seen) ⌝ }
     ensures { λ r. ⌜ Decides r (Guests (now (row .entry)) limit (now (table .entry))) ⌝ }
@@ -166,7 +167,7 @@ fn stood(row: &[u32], stands: &[bool]) -> bool
 }
 
 // Attend: each cell within its column's bound, and its meeting not barred.
-fn attends(row: &[u32], bounds: &[u32; 512], stands: &[bool]) -> bool
+pub fn attends(row: &[u32], bounds: &[u32; 512], stands: &[bool]) -> bool
     requires { ⌜ length (now row) ≤ 512 ⌝ }
     requires { ⌜ ((j : ℕ) → j < length (now row) → getD (now bounds) j 0 < length (now stands)) ⌝ }
     ensures { λ r. ⌜ Decides r (Attended (now (row .entry)) (now (bounds .entry)) (now (stands .entry))) ⌝ }
@@ -175,18 +176,6 @@ fn attends(row: &[u32], bounds: &[u32; 512], stands: &[bool]) -> bool
         return false;
     }
     stood(row, stands)
-}
-
-pub fn attend_row(row: &[u32], bounds: &[u32; 512], stands: &[bool]) -> bool
-    requires { ⌜ length (now row) ≤ 512 ⌝ }
-    requires { ⌜ ((j : ℕ) → j < length (now row) → getD (now bounds) j 0 < length (now stands)) ⌝ }
-    requires { ⌜ getD (now stands) 0 false ≡ false ⌝ }
-    ensures { λ r. ⌜ Decides r (Attended (now (row .entry)) (now (bounds .entry)) (now (stands .entry))) ⌝ }
-{
-    if blank(row) {
-        return true;
-    }
-    attends(row, bounds, stands)
 }
 
 // Conf: each pair within the limit, its meeting not barred, and a zero beside an empty cell.

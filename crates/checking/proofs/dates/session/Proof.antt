@@ -28,11 +28,11 @@ bar-requires c κs =
     let c5 = c .before .before .before .before .before in
     let p = c5 .before .before .before .before .pre in omega (arith, p .0 .1, p .1 .0 .0, p .1 .1 .0)
 
-attend-row-requires : tie.Need-attend-row-requires
-attend-row-requires c κs =
+attends-requires : tie.Need-attends-requires
+attends-requires c κs =
     let p = c .before .before .before .before .before .before .before .before .before .before .before .before .before .pre in
     let b = c .before .before .before .bar in
-    (p .1 .0 .1, (λ j h. omega (arith, p .1 .1 .1 j h, p .0 .1, p .1 .1 .0, b .kept .0), b .ensures .none))
+    (p .1 .0 .1, λ j h. omega (arith, p .1 .1 .1 j h, p .0 .1, p .1 .1 .0, b .kept .0))
 
 same-length : tie.Need-same-length
 same-length c = c .before .before .before .before .before .bar .kept .0
@@ -42,7 +42,7 @@ returns-3 c =
     let z = c .before .before .before .before .before .before .before .before .before .before .before .before .before .before .before in
     let p = z .pre in
     let b = table-less _ _ (z .args .meetings) _ (omega (arith, p .1 .0 .0)) (c .before .before .before .before .before .bar .ensures) in
-    λ s. said-false (c .before .attend-row .result) (not-true _ (c .if3 .taken)) (c .before .attend-row .ensures)
+    λ s. said-false (c .before .attends .result) (not-true _ (c .if3 .taken)) (c .before .attends .ensures)
     (session-attended _ _ _ _ _ _ _ b (p .1 .1 .1) s)
 
 pairs-requires : tie.Need-pairs-requires
@@ -64,7 +64,7 @@ returns-4 c =
     let b = table-less _ _ (z .args .meetings) _ (omega (arith, p .1 .0 .0)) (c7 .bar .ensures) in
     let low = p .1 .1 .1 in
     let pad = said-true (c12 .padded .result) (not-false _ (c11 .if1 .left)) (c12 .padded .ensures) in
-    let att = said-true (c3 .attend-row .result) (not-false _ (c .before .before .if3 .left)) (c3 .attend-row .ensures) in
+    let att = said-true (c3 .attends .result) (not-false _ (c .before .before .if3 .left)) (c3 .attends .ensures) in
     relay (c .pairs .result) (session-by _ _ _ _ _ _ _ b low pad att) (session-paired _ _ _ _ _ _ _ b low) (c .pairs .ensures)
 
 pub session-spec : {M : Type 1} → statement M
@@ -76,7 +76,7 @@ session-spec =
     blanks-requires
     returns-2
     bar-requires
-    attend-row-requires
+    attends-requires
     same-length
     returns-3
     pairs-requires

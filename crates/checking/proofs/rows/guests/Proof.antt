@@ -3,7 +3,7 @@
 use Prim.Native.Nat.{_+_, _-_, _≤_}
 use mathlib.Core.List.{List}
 use mathlib.Core.Path.{_≡_, refl, sym, _∙_, ap}
-use mathlib.Core.Bool.{Bool, true, false, not, _||_}
+use mathlib.Core.Bool.{Bool, false, not, _||_}
 use native.Mathlib.Omega.{arith}
 use lib.ListN.{length, drop, length-set, getD}
 use Rattle.checking.specs.Rows.{Marked}
