@@ -9,7 +9,7 @@ use native.Mathlib.Nat.{div-eq-of-lt}
 use native.Mathlib.Numerals.{add-one}
 use native.Mathlib.Omega.{arith}
 use lib.Dec.{eqb}
-use lib.ListN.{getD, set, replicate, length-set}
+use lib.ListN.{length, getD, set, length-set}
 use lib.Bits.{bitOr, or-shr, or-mod}
 use lib.Seq.{getD-set-same, getD-set-other}
 use borrow.Author.Tests.{not-false}
@@ -19,43 +19,48 @@ use Rattle.model.specs.Bounded.{bit, any}
 use Rattle.model.proofs.Search.{bool-eq, any-true, true-any}
 use Rattle.checking.specs.Rows.{Barred, Most, ors, Columns}
 use Rattle.pool.specs.Pool.{member}
-use Rattle.checking.proofs.Zeros.{none-zero}
 
 -- the bits of a table
-pub table-more : (row : List ℕ) (v : ℕ) (t : List Bool) (here : Bool) → v < 512 → Barred row v t → here ≡ not (member row v)
+pub table-more : (row : List ℕ) (v : ℕ) (t : List Bool) (here : Bool) → v + 1 < length t → Barred row v t → here ≡ not (member row v)
     → Barred row (v + 1) (set t (v + 1) here)
 table-more row v t here h b e = record {
-  size = length-set t (v + 1) here ∙ b .size;
   none = getD-set-other t (v + 1) 0 here false (λ q. omega (arith, q)) ∙ b .none;
   each = below-more (λ u. getD (set t (v + 1) here) (suc u) false ≡ not (member row u)) v
       (λ u l. getD-set-other t (v + 1) (suc u) here false (λ q. omega (arith, q)) ∙ b .each u l)
-      (ap (λ (k : ℕ). getD (set t (v + 1) here) k false) (sym (add-one v)) ∙ getD-set-same t (v + 1) here false (omega (arith, b .size)) ∙ e);
+      (ap (λ (k : ℕ). getD (set t (v + 1) here) k false) (sym (add-one v)) ∙ getD-set-same t (v + 1) here false h ∙ e);
 }
 
-pub most-more : (t : List Bool) (v limit : ℕ) (m : List ℕ) (here : ℕ) → v < 512 → Most t v limit m → here ≡ cond (getD t (suc v) false) 0 limit
+-- a table that bars what is past n, so far
+pub past-more : (row : List ℕ) (n v : ℕ) (t : List Bool) → n < v → v < length t → Barred row n t → ((u : ℕ) → n < u → u < v → getD t u false ≡ true)
+    → Barred row n (set t v true) × ((u : ℕ) → n < u → u < v + 1 → getD (set t v true) u false ≡ true)
+past-more row n v t h l b p = (
+  record {
+    none = getD-set-other t v 0 true false (λ q. omega (arith, q)) ∙ b .none;
+    each = λ u k. getD-set-other t v (suc u) true false (λ q. omega (arith, q)) ∙ b .each u k;
+  },
+  λ u k m. go u k m (ℕ-discrete u v),
+)
+  where
+    go : (u : ℕ) → n < u → u < v + 1 → Dec (u ≡ v) → getD (set t v true) u false ≡ true
+    go u k m (yes q) = ap (λ (x : ℕ). getD (set t v true) x false) q ∙ getD-set-same t v true false l
+    go u k m (no q) = getD-set-other t v u true false q ∙ p u k (omega (arith, q))
+
+pub most-more : (t : List Bool) (v limit : ℕ) (m : List ℕ) (here : ℕ) → v < length m → Most t v limit m → here ≡ cond (getD t (suc v) false) 0 limit
     → Most t (v + 1) limit (set m v here)
-most-more t v limit m here h b e = record {
-  size = length-set m v here ∙ b .size;
-  low = λ u. go u (ℕ-discrete u v);
-  each = below-more (λ u. getD (set m v here) u 0 ≡ cond (getD t (suc u) false) 0 limit) v
-      (λ u l. getD-set-other m v u here 0 (λ q. omega (arith, q)) ∙ b .each u l)
-      (getD-set-same m v here 0 (omega (arith, b .size)) ∙ e);
-}
+most-more t v limit m here h b e =
+    below-more (λ u. getD (set m v here) u 0 ≡ cond (getD t (suc u) false) 0 limit) v
+    (λ u l. getD-set-other m v u here 0 (λ q. omega (arith, q)) ∙ b u l)
+    (getD-set-same m v here 0 h ∙ e)
+
+pub most-low : (t : List Bool) (n limit : ℕ) (m : List ℕ) → Most t n limit m → (v : ℕ) → v < n → getD m v 0 ≤ limit
+most-low t n limit m b v h = omega (arith, b v h, fits (getD t (suc v) false))
   where
     fits : (b : Bool) → cond b 0 limit ≤ limit
     fits true = omega arith
     fits false = omega arith
 
-    go : (u : ℕ) → Dec (u ≡ v) → getD (set m v here) u 0 ≤ limit
-    go u (yes q) =
-        omega (arith, ap (λ (k : ℕ). getD (set m v here) k 0) q, getD-set-same m v here 0 (omega (arith, b .size)), e, fits (getD t (suc v) false))
-    go u (no n) = omega (arith, getD-set-other m v u here 0 n, b .low u)
-
-pub table-none : (row : List ℕ) → Barred row 0 (replicate 513 false)
-table-none row = record { size = refl; none = refl; each = λ v h. absurd (omega arith) }
-
-pub most-none : (t : List Bool) (limit : ℕ) → Most t 0 limit (replicate 512 0)
-most-none t limit = record { size = refl; low = λ v. omega (arith, none-zero 512 v); each = λ v h. absurd (omega arith) }
+pub table-none : (row : List ℕ) (t : List Bool) → 0 < length t → Barred row 0 (set t 0 false)
+table-none row t e = record { none = getD-set-same t 0 false false e; each = λ v h. absurd (omega arith) }
 
 -- the words or-ed so far
 pub ors-none : (f : ℕ → ℕ) → 0 ≡ ors f 0
@@ -115,9 +120,9 @@ column-more rows n width k r here h b e = record {
 
 -- a table of the first n bits is one of the first m
 pub table-less : (row : List ℕ) (n m : ℕ) (t : List Bool) → m ≤ n → Barred row n t → Barred row m t
-table-less row n m t h b = record { size = b .size; none = b .none; each = λ v l. b .each v (omega arith) }
+table-less row n m t h b = record { none = b .none; each = λ v l. b .each v (omega arith) }
 
-pub table-bit : (row : List ℕ) (i k : ℕ) (t : List Bool) (here : Bool) → i < 16 → k < 32 → here ≡ not (bit (getD row i 0) k)
+pub table-bit : (row : List ℕ) (i k : ℕ) (t : List Bool) (here : Bool) → i * 32 + k + 1 < length t → k < 32 → here ≡ not (bit (getD row i 0) k)
     → Barred row (i * 32 + k) t
     → Barred row (i * 32 + (k + 1)) (set t (i * 32 + k + 1) here)
 table-bit row i k t here h l q b =
@@ -125,7 +130,7 @@ table-bit row i k t here h l q b =
     let f : (i * 32 + k) % 32 ≡ k = omega arith in
     let g : i * 32 + k + 1 ≡ i * 32 + (k + 1) = omega arith in
     subst (λ (n : ℕ). Barred row n (set t (i * 32 + k + 1) here)) g
-    (table-more row (i * 32 + k) t here (omega arith) b (q ∙ ap₂ (λ (x y : ℕ). not (bit (getD row x 0) y)) (sym e) (sym f)))
+    (table-more row (i * 32 + k) t here h b (q ∙ ap₂ (λ (x y : ℕ). not (bit (getD row x 0) y)) (sym e) (sym f)))
 
 -- a table and its bits
 module _ (row : List ℕ) (n : ℕ) (t : List Bool) (b : Barred row n t) where

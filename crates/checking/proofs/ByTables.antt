@@ -12,7 +12,7 @@ use borrow.Author.Tests.{not-false}
 use Rattle.checking.specs.Rows.{Barred, BarredDate, Most, Guests, Session, Triple, Lunches}
 use Rattle.pool.specs.Pool.{member}
 use Rattle.checking.specs.Days.{Guested, Met, Eaten, standsIn}
-use Rattle.checking.proofs.Barring.{cell-member, member-cell}
+use Rattle.checking.proofs.Barring.{cell-member, member-cell, most-low}
 
 module _ (leave : List ℕ) (limit : ℕ) (t : List Bool) (b : Barred leave limit t) where
   pub guested : (row : List ℕ) → Guests row limit t → Guested row leave limit
@@ -26,7 +26,7 @@ module _ (leave : List ℕ) (limit : ℕ) (t : List Bool) (b : Barred leave limi
   -- a column's bound, and leave
   module _ (meetings : ℕ) (bounds : List ℕ) (m : Most t limit meetings bounds) where
     bound : (i : ℕ) → i < limit → getD bounds i 0 ≡ cond (not (member leave i)) 0 meetings
-    bound i h = m .each i h ∙ ap (λ (x : Bool). cond {A = ℕ} x 0 meetings) (b .each i h)
+    bound i h = m i h ∙ ap (λ (x : Bool). cond {A = ℕ} x 0 meetings) (b .each i h)
 
     bound-leave : (i w : ℕ) → i < limit → w ≤ getD bounds i 0 → (w ≡ 0 → ⊥) → member leave i ≡ true
     bound-leave i w h l n = go (member leave i) refl
@@ -46,7 +46,7 @@ module _ (leave : List ℕ) (limit : ℕ) (t : List Bool) (b : Barred leave limi
       pub met : Session stand attend conf bounds rooms meetings → Met stand attend conf leave rooms meetings
       met s = record {
         pad = s .pad;
-        range = λ i h. omega (arith, s .attends i h, m .low i);
+        range = λ i h. omega (arith, s .attends i h, most-low t limit meetings bounds m i (omega arith));
         onLeave = λ i h n. bound-leave i (getD attend i 0) (omega arith) (s .attends i h) n;
         attended = s .attended;
         within = s .within;
@@ -65,9 +65,10 @@ module _ (leave : List ℕ) (limit : ℕ) (t : List Bool) (b : Barred leave limi
       }
 
 -- lunches
-module _ (stand : List ℕ) (n width meetings : ℕ) (t : List Bool) (b : BarredDate stand n width meetings t) (lunch : List ℕ) (dining : ℕ) (caps : List ℕ) where
+module _ (stand : List ℕ) (n width meetings : ℕ) (t : List Bool) (b : BarredDate stand n width t) (all : meetings ≤ width * 32) (lunch : List ℕ)
+    (dining : ℕ) (caps : List ℕ) where
   absent : (j : ℕ) → j < meetings → getD t (j + 1) false ≡ not (standsIn stand n width j)
-  absent j h = ap (λ (k : ℕ). getD t k false) (add-one j) ∙ b .each j h
+  absent j h = ap (λ (k : ℕ). getD t k false) (add-one j) ∙ b j (omega arith)
 
   pub eaten : Lunches lunch meetings dining caps t → (j : ℕ) → j < meetings
       → Eaten dining caps (standsIn stand n width j) (getD lunch (j * 3) 0) (getD lunch (j * 3 + 1) 0) (getD lunch (j * 3 + 2) 0)

@@ -106,12 +106,12 @@ module _ (row : List ℕ) (n : ℕ) (known : (j : ℕ) → getD row j 0 < 2 ^ 32
 
 -- a session
 module _ (stand attend conf bounds : List ℕ) (rooms meetings : ℕ) (t : List Bool) (b : Barred stand meetings t)
-    (low : (j : ℕ) → getD bounds j 0 ≤ meetings) where
+    (low : (j : ℕ) → j < length attend → getD bounds j 0 ≤ meetings) where
   pub session-by : Padded stand meetings → Attended attend bounds t → Paired conf rooms meetings t → Session stand attend conf bounds rooms meetings
   session-by p a c = record {
     pad = p;
     attends = λ i h. a i h .0;
-    attended = λ i m h e. cell-member stand meetings t b (getD attend i 0) (omega (arith, a i h .0, low i)) (a i h .1) m e;
+    attended = λ i m h e. cell-member stand meetings t b (getD attend i 0) (omega (arith, a i h .0, low i h)) (a i h .1) m e;
     within = λ j h. c j h .range;
     stands = λ j m h e. cell-member stand meetings t b (getD conf (j * 2) 0) (c j h .range) (c j h .stands) m e;
     beside = λ j h. c j h .beside;
@@ -119,7 +119,7 @@ module _ (stand attend conf bounds : List ℕ) (rooms meetings : ℕ) (t : List 
 
   pub session-attended : Session stand attend conf bounds rooms meetings → Attended attend bounds t
   session-attended s i h =
-      (s .attends i h, member-cell stand meetings t b (getD attend i 0) (omega (arith, s .attends i h, low i)) (λ m e. s .attended i m h e))
+      (s .attends i h, member-cell stand meetings t b (getD attend i 0) (omega (arith, s .attends i h, low i h)) (λ m e. s .attended i m h e))
 
   pub session-paired : Session stand attend conf bounds rooms meetings → Paired conf rooms meetings t
   session-paired s j h = record {

@@ -24,7 +24,8 @@ use Rattle.book.specs.Units.{OnDates}
 use Rattle.checking.specs.Rows.{rowAt, seatsIn}
 use Rattle.checking.specs.Days.{Met, Day, standsIn}
 use Rattle.checking.specs.Kept.{GuestsAt, SessionAt, seatsAt, Kept}
-use Rattle.checking.proofs.Addresses.{runOf, run-long, day-long, leave-at, hotel-at, lunch-at, stand-word, stand-at, attend-at, ride-at, conf-at}
+use Rattle.checking.proofs.Addresses.{runOf, run-long, day-long}
+use Rattle.checking.proofs.Addresses.{leave-at, hotel-at, lunch-at, stand-word, stand-at, attend-at, ride-at, conf-at}
 use Rattle.checking.proofs.Parts.{row-long-is}
 use Rattle.checking.proofs.Runs.{run-order, run-slot, run-date, run-from, run-inside}
 use Rattle.checking.proofs.Slots.{slot-by, by-slot, bit-is}
@@ -58,7 +59,8 @@ module _ (S : Settings) (caps b : List ℕ) (laid : Laid S b) (d : ℕ) (h : d <
 
   stand-bit : (p m : ℕ) → p < to - from → m < S .meetings → bitAt S b standings (from + p) m ≡ member (rowAt (groups (S .meetings)) p stand) m
   stand-bit p m k l =
-      bit-is S b standings (from + p) m (rowAt (groups (S .meetings)) p stand) (run-slot ss p k) (omega arith) (stand-at S b from to p (m / 32) k (omega arith))
+      bit-is S b standings (from + p) m (rowAt (groups (S .meetings)) p stand) (run-slot ss p k) (omega arith)
+      (stand-at S b from to p (m / 32) k (omega arith))
 
   -- meeting m stands in some session of the date
   stands-same : (m : ℕ) → m < S .meetings → standsOn (readState S b) d m ≡ standsIn stand (to - from) (groups (S .meetings)) m
@@ -95,14 +97,16 @@ module _ (S : Settings) (caps b : List ℕ) (laid : Laid S b) (d : ℕ) (h : d <
   long-hotel = day-long S b laid hotelCells d h
 
   long-attend : (p : ℕ) → p < to - from → length (rowAt (S .visitors) p attend) ≡ S .visitors
-  long-attend p k = row-long-is (S .visitors) p (to - from) attend k (omega (arith, run-long S b laid attendCells from to (run-order ss) (ss .ends .most)))
+  long-attend p k = row-long-is (S .visitors) p (to - from) attend k
+      (omega (arith, run-long S b laid attendCells from to (run-order ss) (ss .ends .most)))
 
   long-stand : (p : ℕ) → p < to - from → length (rowAt (groups (S .meetings)) p stand) ≡ groups (S .meetings)
   long-stand p k =
       row-long-is (groups (S .meetings)) p (to - from) stand k (omega (arith, run-long S b laid standings from to (run-order ss) (ss .ends .most)))
 
   long-ride : (i : ℕ) → i < last - first → length (rowAt (S .transports) i ride) ≡ S .transports
-  long-ride i k = row-long-is (S .transports) i (last - first) ride k (omega (arith, run-long S b laid rideCells first last (run-order ts) (ts .ends .most)))
+  long-ride i k = row-long-is (S .transports) i (last - first) ride k
+      (omega (arith, run-long S b laid rideCells first last (run-order ts) (ts .ends .most)))
 
   -- the first word of a pair and of a triple
   conf-zero : (p j : ℕ) → p < to - from → j < S .rooms → at S b confPairs (from + p) j 0 ≡ getD (rowAt (S .rooms * 2) p conf) (j * 2) 0
@@ -145,7 +149,8 @@ module _ (S : Settings) (caps b : List ℕ) (laid : Laid S b) (d : ℕ) (h : d <
       record {
         pad = λ j l. rw (stand-at S b from to p j k (omega arith)) at (m .pad j (omega arith));
         range = λ j l. rw (attend-at S b from to p j k (omega arith)) at (m .range j (omega arith));
-        onLeave = λ j l n. sym (leave-bit j (omega arith)) ∙ m .onLeave j (omega arith) (λ z. n (sym (attend-at S b from to p j k (omega arith)) ∙ z));
+        onLeave = λ j l n. sym (leave-bit j (omega arith)) ∙ m .onLeave j (omega arith)
+            (λ z. n (sym (attend-at S b from to p j k (omega arith)) ∙ z));
         attended = λ j u l e.
             let w = attend-at S b from to p j k (omega arith) ∙ e in
             sym (stand-bit p u k (omega (arith, w, m .range j (omega arith)))) ∙ m .attended j u (omega arith) w;
@@ -167,7 +172,8 @@ module _ (S : Settings) (caps b : List ℕ) (laid : Laid S b) (d : ℕ) (h : d <
         let i = t - first in
         let k = run-inside ts t l e in
         subst (λ (x : ℕ). GuestsAt S b rideCells (S .visitors) x d) (run-from ts t l e)
-        (slot-by S b rideCells (S .visitors) (first + i) d (rowAt (S .transports) i ride) leave (long-ride i k) (λ j m. ride-at S b first last i j k m)
+        (slot-by S b rideCells (S .visitors) (first + i) d (rowAt (S .transports) i ride) leave (long-ride i k)
+        (λ j m. ride-at S b first last i j k m)
         leave-bit (f .ridden i k));
     session = λ s l e.
         let k = run-inside ss s l e in

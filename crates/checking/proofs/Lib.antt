@@ -1,6 +1,8 @@
 pub mod Answers
 pub mod Zeros
 pub mod Parts
+pub mod Limits
+pub mod Copying
 pub mod Passing
 pub mod Barring
 pub mod Cells

@@ -1,6 +1,6 @@
 -- The facts of a book's words are the model's cell rules and laws.
 -- Assumes nothing.
-use Prim.Native.Nat.{ℕ, zero, suc, _+_, _*_, _/_, _%_, _^_, _-_, _≤_, _<_, min}
+use Prim.Native.Nat.{ℕ, zero, suc, _*_, _^_, _-_, _≤_, _<_, min}
 use mathlib.Core.Path.{_≡_, refl, sym, _∙_, ap, subst}
 use mathlib.Core.Bool.{Bool, true, false, _&&_, cond}
 use mathlib.Core.Option.{none, some}
@@ -20,7 +20,8 @@ use Rattle.model.specs.Questions.{standsOn}
 use Rattle.model.specs.Words.{Region, leaves, hotelCells, standings, attendCells, confPairs, lunchTriples, rideCells, slots, items}
 use Rattle.model.specs.Reading.{at, bitAt, holds, readState}
 use Rattle.model.specs.Laws.{eachCell, cellsWithin, confRule, lunchRule, cellTests, cellRules, laws, law, Law}
-use Rattle.model.specs.Laws.{Law.oneVisitorARoom, Law.oneRoomAVisitor, Law.oneVisitorARide, Law.oneRideAVisitor, Law.oneMeetingAVisitor, Law.oneMeetingARoom, Law.oneRoomALunch}
+use Rattle.model.specs.Laws.{Law.oneVisitorARoom, Law.oneRoomAVisitor, Law.oneVisitorARide, Law.oneRideAVisitor, Law.oneMeetingAVisitor}
+use Rattle.model.specs.Laws.{Law.oneMeetingARoom, Law.oneRoomALunch}
 use Rattle.model.specs.Laws.{Law.attendedStands, Law.confStands, Law.lunchStands, Law.hotelLeave, Law.rideLeave, Law.attendLeave, Law.seatsWithin}
 use Rattle.model.proofs.Search.{Each, conj-is, conj-by, and-left, and-right, and-true, true-all, within-true, true-within}
 use Rattle.model.proofs.ReadBack.{inside-by}
@@ -42,7 +43,8 @@ module _ (S : Settings) (caps b : List ℕ) (r : Ranges S) (cs : Caps S caps) wh
   seats-same d g m h l = rw (inside-by S lunchTriples d m h l) (go (eqb (at S b lunchTriples d m 0) (suc g)))
     where
       go : (t : Bool)
-          → seatsOf (cond t (some (record { seats = at S b lunchTriples d m 1; info = at S b lunchTriples d m 2 })) none) ≡ cond t (at S b lunchTriples d m 1) 0
+          → seatsOf (cond t (some (record { seats = at S b lunchTriples d m 1; info = at S b lunchTriples d m 2 })) none) ≡ cond t
+          (at S b lunchTriples d m 1) 0
       go true = refl
       go false = refl
 
@@ -78,7 +80,8 @@ module _ (S : Settings) (caps b : List ℕ) (r : Ranges S) (cs : Caps S caps) wh
         go (suc w) n i e =
             let q : eqb (suc w) 0 ≡ false = ne-eqb (suc w) 0 (λ z. omega (arith, z)) in
             let z : suc w - 1 ≡ w = omega arith in
-            rw (q, z) (true-within 1 (capacity S w) n (e .some (λ z. omega (arith, z))) (omega (arith, e .fit, cs .each w (omega (arith, e .range, r .dining .1)))))
+            rw (q, z) (true-within 1 (capacity S w) n (e .some (λ z. omega (arith, z)))
+            (omega (arith, e .fit, cs .each w (omega (arith, e .range, r .dining .1)))))
 
     rules-by : cellRules S b ≡ true
     unfolding cellRules
@@ -119,24 +122,30 @@ module _ (S : Settings) (caps b : List ℕ) (r : Ranges S) (cs : Caps S caps) wh
         go : (l : Law) → law (readState S b) l ≡ true
         go oneVisitorARoom = oneB-by (readState S b) hotels (λ i a u v e q. one-a-cell S b hotelCells i a u v e q)
         go oneRoomAVisitor =
-            oneA-by (readState S b) hotels (λ i v j k e q. one-a-row S b hotelCells (S .visitors) i i v j k (f i (held S b hotelCells i j v e .slot) .hotel) e q)
+            oneA-by (readState S b) hotels (λ i v j k e q. one-a-row S b hotelCells (S .visitors) i i v j k
+            (f i (held S b hotelCells i j v e .slot) .hotel) e q)
         go oneVisitorARide = oneB-by (readState S b) rides (λ i a u v e q. one-a-cell S b rideCells i a u v e q)
         go oneRideAVisitor =
-            oneA-by (readState S b) rides (λ i v j k e q. one-a-row S b rideCells (S .visitors) (dateOfTime S i) i v j k (fr i (held S b rideCells i j v e .slot)) e q)
+            oneA-by (readState S b) rides (λ i v j k e q. one-a-row S b rideCells (S .visitors) (dateOfTime S i) i v j k
+            (fr i (held S b rideCells i j v e .slot)) e q)
         go oneMeetingAVisitor = oneA-by (readState S b) attends (λ i v m n e q. one-a-cell S b attendCells i v m n e q)
         go oneMeetingARoom =
-            oneB-by (readState S b) confs (λ i c m n e q. one-a-cell S b confPairs i c m n (held-some (holds S b confPairs i c m) _ e) (held-some (holds S b confPairs i c n) _ q))
+            oneB-by (readState S b) confs (λ i c m n e q. one-a-cell S b confPairs i c m n (held-some (holds S b confPairs i c m) _ e)
+            (held-some (holds S b confPairs i c n) _ q))
         go oneRoomALunch =
-            oneA-by (readState S b) lunches (λ d m g n e q. one-a-cell S b lunchTriples d m g n (held-some (holds S b lunchTriples d m g) _ e) (held-some (holds S b lunchTriples d m n) _ q))
+            oneA-by (readState S b) lunches (λ d m g n e q. one-a-cell S b lunchTriples d m g n (held-some (holds S b lunchTriples d m g) _ e)
+            (held-some (holds S b lunchTriples d m n) _ q))
         go attendedStands =
             each-by (readState S b) attends (λ s m v. bitAt S b standings s m)
             (λ s m v e. let h = held S b attendCells s v m e in fs s (h .slot) .attended v m (h .item) (h .word))
         go confStands =
             each-by (readState S b) confs (λ s c m. bitAt S b standings s m)
-            (λ s c m e. let h = held S b confPairs s c m (held-some (holds S b confPairs s c m) _ e) in fs s (h .slot) .stands c m (h .item) (h .word))
+            (λ s c m e. let h = held S b confPairs s c m (held-some (holds S b confPairs s c m) _ e) in fs s (h .slot) .stands c m (h .item)
+            (h .word))
         go lunchStands =
             each-by (readState S b) lunches (λ d g m. standsOn (readState S b) d m)
-            (λ d g m e. let h = held S b lunchTriples d m g (held-some (holds S b lunchTriples d m g) _ e) in f d (h .slot) .lunch m (h .item) .stood (λ z. omega (arith, z, h .word)))
+            (λ d g m e. let h = held S b lunchTriples d m g (held-some (holds S b lunchTriples d m g) _ e) in f d (h .slot) .lunch m
+            (h .item) .stood (λ z. omega (arith, z, h .word)))
         go hotelLeave =
             each-by (readState S b) hotels (λ i a v. bitAt S b leaves i v)
             (λ i a v e. let h = held S b hotelCells i a v e in f i (h .slot) .hotel .onLeave a v (h .item) (h .word))
@@ -148,7 +157,8 @@ module _ (S : Settings) (caps b : List ℕ) (r : Ranges S) (cs : Caps S caps) wh
             (λ s m v e. let h = held S b attendCells s v m e in fs s (h .slot) .onLeave v (h .item) (λ z. omega (arith, z, h .word)))
         go seatsWithin =
             true-all _ (S .dates) (λ d h. true-all (λ g. leb (reserved (readState S b) d g) (capacity S g)) (S .dining)
-            (λ g l. le-leb (reserved (readState S b) d g) (capacity S g) (omega (arith, reserved-is d g h, f d h .sums (suc g) (omega (arith, r .dining .1)), cs .each g (omega (arith, r .dining .1))))))
+            (λ g l. le-leb (reserved (readState S b) d g) (capacity S g)
+            (omega (arith, reserved-is d g h, f d h .sums (suc g) (omega (arith, r .dining .1)), cs .each g (omega (arith, r .dining .1))))))
 
     pub lawful-by : cellRules S b && laws (readState S b) ≡ true
     lawful-by = and-true rules-by laws-by
@@ -239,10 +249,15 @@ module _ (S : Settings) (caps b : List ℕ) (r : Ranges S) (cs : Caps S caps) wh
 
     sums-is : (d g : ℕ) → d < S .dates → g < 17 → sum (seatsAt S b d g) (S .meetings) ≤ getD caps g 0
     sums-is d zero h l =
-        omega (arith, sum-empty (seatsAt S b d 0) 0 (S .meetings) (λ j _ k. go j (lunch-is d j h (omega arith)) (eqb (at S b lunchTriples d j 0) 0) refl))
+        omega (
+          arith,
+          sum-empty (seatsAt S b d 0) 0 (S .meetings)
+              (λ j _ k. go j (lunch-is d j h (omega arith)) (eqb (at S b lunchTriples d j 0) 0) refl),
+        )
       where
         go : (j : ℕ)
-            → Eaten (S .dining) caps (standsOn (readState S b) d j) (at S b lunchTriples d j 0) (at S b lunchTriples d j 1) (at S b lunchTriples d j 2)
+            → Eaten (S .dining) caps (standsOn (readState S b) d j) (at S b lunchTriples d j 0) (at S b lunchTriples d j 1)
+            (at S b lunchTriples d j 2)
             → (t : Bool) → eqb (at S b lunchTriples d j 0) 0 ≡ t → cond t (at S b lunchTriples d j 1) 0 ≡ 0
         go j e true q =
             let z : at S b lunchTriples d j 0 ≡ 0 = eqb-true (at S b lunchTriples d j 0) 0 q in
@@ -259,7 +274,11 @@ module _ (S : Settings) (caps b : List ℕ) (r : Ranges S) (cs : Caps S caps) wh
             let k : g < S .dining = ltb-true g (S .dining) q in
             omega (arith, reserved-is d g h, room d g h k, cs .each g (omega arith))
         go false q =
-            omega (arith, sum-empty (seatsAt S b d (suc g)) 0 (S .meetings) (λ j _ k. out j (ltb-false g (S .dining) q) (range-is lunchTriples (S .dining) (rules .1 .1 .1 .1 .1 .1 .0) d j h (omega arith))))
+            omega (
+              arith,
+              sum-empty (seatsAt S b d (suc g)) 0 (S .meetings)
+                  (λ j _ k. out j (ltb-false g (S .dining) q) (range-is lunchTriples (S .dining) (rules .1 .1 .1 .1 .1 .1 .0) d j h (omega arith))),
+            )
 
     pub kept-is : (d : ℕ) → d < S .dates → Kept S caps b d
     kept-is d h = record {

@@ -75,7 +75,8 @@ caps-more seats n caps h b = record {
   none = getD-set-other caps (n + 1) 0 (getD seats n 0) 0 (λ q. omega (arith, q)) ∙ b .none;
   each = below-more (λ g. getD (set caps (n + 1) (getD seats n 0)) (suc g) 0 ≡ getD seats g 0) n
       (λ g l. getD-set-other caps (n + 1) (suc g) (getD seats n 0) 0 (λ q. omega (arith, q)) ∙ b .each g l)
-      (ap (λ (k : ℕ). getD (set caps (n + 1) (getD seats n 0)) k 0) (sym (add-one n)) ∙ getD-set-same caps (n + 1) (getD seats n 0) 0 (omega (arith, b .size)));
+      (ap (λ (k : ℕ). getD (set caps (n + 1) (getD seats n 0)) k 0) (sym (add-one n)) ∙ getD-set-same caps (n + 1) (getD seats n 0) 0
+      (omega (arith, b .size)));
   rest = λ g l. getD-set-other caps (n + 1) g (getD seats n 0) 0 (λ q. omega (arith, q)) ∙ b .rest g (omega arith);
 }
 

@@ -32,7 +32,3 @@ module _ (b : List ℕ) where
       go true p true q = record { read = refl; laid = p; lawful = q }
       go true p false q = let h = check-two p q in let z : _≡_ {A = ℕ} 0 1 = cc in absurd (omega arith)
       go false p q r = let h = check-one p in let z : _≡_ {A = ℕ} 0 1 = cc in absurd (omega arith)
-
-  -- and the other way round
-  pub good-done : Good (settingsOf b) b → check b ≡ Done 0
-  good-done g = check-done (g .laid) (g .lawful)

@@ -1,6 +1,6 @@
 -- Rows of zeros.
 -- Assumes nothing.
-use Prim.Native.Nat.{ℕ, zero, suc, _+_, _-_, _<_, _≤_}
+use Prim.Native.Nat.{ℕ, zero, suc, _+_, _-_, _^_, _<_, _≤_}
 use mathlib.Core.Path.{_≡_, refl, _∙_, ap}
 use mathlib.Core.Bool.{Bool, true, false}
 use mathlib.Core.List.{List}
@@ -8,7 +8,8 @@ use native.Mathlib.Decide.{ℕ-discrete}
 use native.Mathlib.Omega.{arith}
 use lib.Dec.{ltb}
 use lib.ListN.{length, getD, replicate, List·getD-eq-default}
-use lib.Bits.{bitOr, or-add-and, and-le-l, and-le-r}
+use lib.Bits.{bitOr, or-add-and, and-le-l, and-le-r, or-lt}
+use lib.Pow.{pow-pos}
 use borrow.Author.Tests.{ltb-true, ltb-false}
 use Rattle.checking.specs.Rows.{Guests, Blank, ors}
 
@@ -29,6 +30,21 @@ ors-zero f (suc n) e k h = go (ors-zero f n (or-zero (ors f n) (f n) e .0) k) (�
     go : (k < n → f k ≡ 0) → Dec (k ≡ n) → f k ≡ 0
     go r (yes q) = ap f q ∙ or-zero (ors f n) (f n) e .1
     go r (no q) = r (omega (arith, q))
+
+-- a word is at most the words or-ed together, which have no more bits than the longest of them
+pub ors-le : (f : ℕ → ℕ) (n k : ℕ) → k < n → f k ≤ ors f n
+unfolding ors
+ors-le f zero k h = absurd (omega arith)
+ors-le f (suc n) k h = go (ors-le f n k) (ℕ-discrete k n)
+  where
+    go : (k < n → f k ≤ ors f n) → Dec (k ≡ n) → f k ≤ bitOr (ors f n) (f n)
+    go r (yes q) = omega (arith, ap f q, or-add-and (ors f n) (f n), and-le-l (ors f n) (f n))
+    go r (no q) = omega (arith, r (omega (arith, q)), or-add-and (ors f n) (f n), and-le-r (ors f n) (f n))
+
+pub ors-lt : (f : ℕ → ℕ) (n m : ℕ) → ((k : ℕ) → k < n → f k < 2 ^ m) → ors f n < 2 ^ m
+unfolding ors
+ors-lt f zero m h = pow-pos m
+ors-lt f (suc n) m h = or-lt m (ors f n) (f n) (ors-lt f n m (λ k l. h k (omega arith))) (h n (omega arith))
 
 -- n words more that are 0
 pub zeros-more : (row : List ℕ) (i n : ℕ) → ((j : ℕ) → j < i → getD row j 0 ≡ 0) → ors (λ k. getD row (i + k) 0) n ≡ 0 → (j : ℕ) → j < i + n

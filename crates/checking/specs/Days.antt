@@ -46,7 +46,8 @@ pub record Day (S : Settings) (n q : ℕ) (caps leave hotel stand attend conf lu
   pub met : (p : ℕ) → p < n
       → Met (rowAt (groups (S .meetings)) p stand) (rowAt (S .visitors) p attend) (rowAt (S .rooms * 2) p conf) leave (S .rooms) (S .meetings)
   pub eaten : (j : ℕ) → j < S .meetings
-      → Eaten (S .dining) caps (standsIn stand n (groups (S .meetings)) j) (getD lunch (j * 3) 0) (getD lunch (j * 3 + 1) 0) (getD lunch (j * 3 + 2) 0)
+      → Eaten (S .dining) caps (standsIn stand n (groups (S .meetings)) j)
+      (getD lunch (j * 3) 0) (getD lunch (j * 3 + 1) 0) (getD lunch (j * 3 + 2) 0)
   pub sums : (g : ℕ) → g < 17 → sum (seatsIn lunch g) (S .meetings) ≤ getD caps g 0
   pub ridden : (i : ℕ) → i < q → Guested (rowAt (S .transports) i ride) leave (S .visitors)
 

@@ -17,16 +17,36 @@ Decides false P = P → ⊥
 
 -- entry 0 is false, entry v + 1 says that bit v of the row is clear
 pub record Barred (row : List ℕ) (n : ℕ) (t : List Bool) : Type 0 where
-  pub size : length t ≡ 513
   pub none : getD t 0 false ≡ false
   pub each : (v : ℕ) → v < n → getD t (suc v) false ≡ not (member row v)
 
--- the most that column v may hold
-pub record Most (t : List Bool) (n limit : ℕ) (m : List ℕ) : Type 0 where
-  pub size : length m ≡ 512
-  pub low : (v : ℕ) → getD m v 0 ≤ limit
-  pub each : (v : ℕ) → v < n → getD m v 0 ≡ cond (getD t (suc v) false) 0 limit
+-- what is past the limit is barred
+abbrev pub Past : ℕ → List Bool → Type 0
+Past limit t = (v : ℕ) → limit < v → v < length t → getD t v false ≡ true
 
+-- what was barred is still barred, but for entry 0
+abbrev pub Marked : List Bool → List Bool → Type 0
+Marked before after = (v : ℕ) → 0 < v → getD before v false ≡ true → getD after v false ≡ true
+
+-- a table of guests, and one for those seen in a row: both bar what is past the limit
+pub record Ready (limit : ℕ) (table seen : List Bool) : Type 0 where
+  pub few : limit ≤ 512
+  pub size : length table ≡ 1024
+  pub same : length seen ≡ 1024
+  pub none : getD table 0 false ≡ false
+  pub past : Past limit table
+  pub kept : Past limit seen
+
+-- the most that column v may hold
+abbrev pub Most : List Bool → ℕ → ℕ → List ℕ → Type 0
+Most t n limit m = (v : ℕ) → v < n → getD m v 0 ≡ cond (getD t (suc v) false) 0 limit
+
+-- no cell of a row is barred, and none is there twice but 0
+pub record Free (row : List ℕ) (t : List Bool) : Type 0 where
+  pub free : (i : ℕ) → i < length row → getD t (getD row i 0) false ≡ false
+  pub once : (i j : ℕ) → i < j → j < length row → getD row i 0 ≡ getD row j 0 → getD row i 0 ≡ 0
+
+-- and each is within the limit
 pub record Guests (row : List ℕ) (limit : ℕ) (t : List Bool) : Type 0 where
   pub range : (i : ℕ) → i < length row → getD row i 0 ≤ limit
   pub free : (i : ℕ) → i < length row → getD t (getD row i 0) false ≡ false
@@ -87,10 +107,9 @@ pub record Columns (rows : List ℕ) (n m width : ℕ) (r : List ℕ) : Type 0 w
   pub each : (k : ℕ) → k < m → getD r k 0 ≡ ors (λ p. getD rows (p * width + k) 0) n
 
 -- entry m + 1 says that bit m is set in no row
-pub record BarredDate (rows : List ℕ) (n width meetings : ℕ) (t : List Bool) : Type 0 where
-  pub size : length t ≡ 513
-  pub none : getD t 0 false ≡ false
-  pub each : (m : ℕ) → m < meetings → getD t (suc m) false ≡ not (any (λ p. bit (getD rows (p * width + m / 32) 0) (m % 32)) n)
+abbrev pub BarredDate : List ℕ → ℕ → ℕ → List Bool → Type 0
+BarredDate rows n width t =
+    (m : ℕ) → m < width * 32 → getD t (suc m) false ≡ not (any (λ p. bit (getD rows (p * width + m / 32) 0) (m % 32)) n)
 
 -- a row of zeros, and two of them
 abbrev pub Blank : List ℕ → Type 0

@@ -38,12 +38,14 @@ fn session(
     attend: &[u32],
     conf: &[u32],
     bounds: &[u32; 512],
+    stands: &mut [bool],
     rooms: usize,
     meetings: u32,
 ) -> bool
     requires { ⌜ (1 ≤ meetings) × (meetings ≤ 128) × (rooms ≤ 64) ⌝ }
     requires { ⌜ (length (now stand) ≡ groups meetings) × (length (now attend) ≤ 512) × (length (now conf) ≡ rooms * 2) ⌝ }
-    requires { ⌜ ((j : ℕ) → getD (now bounds) j 0 ≤ meetings) ⌝ }
+    requires { ⌜ length (now stands) ≡ 129 ⌝ }
+    requires { ⌜ ((j : ℕ) → j < length (now attend) → getD (now bounds) j 0 ≤ meetings) ⌝ }
     ensures { λ r. ⌜ Decides r (Session (now (stand .entry)) (now (attend .entry)) (now (conf .entry)) (now (bounds .entry)) rooms meetings) ⌝ }
 {
     let m = meetings as usize;
@@ -53,11 +55,11 @@ fn session(
     if blanks(attend, conf) {
         return true;
     }
-    let table = tables::barred(stand, m);
-    if !rows::attend_row(attend, bounds, &table) {
+    tables::bar(stands, stand);
+    if !rows::attends(attend, bounds, stands) {
         return false;
     }
-    rows::pairs(conf, rooms, &table, meetings)
+    rows::pairs(conf, rooms, stands, meetings)
 }
 
 // Each session of a date.
@@ -66,6 +68,7 @@ fn sessions(
     attend: &[u32],
     conf: &[u32],
     bounds: &[u32; 512],
+    stands: &mut [bool],
     n: usize,
     visitors: usize,
     rooms: usize,
@@ -73,8 +76,10 @@ fn sessions(
 ) -> bool
     requires { ⌜ (1 ≤ meetings) × (meetings ≤ 128) × (rooms ≤ 64) × (visitors ≤ 512) ⌝ }
     requires { ⌜ (length (now stand) ≡ n * groups meetings) × (length (now attend) ≡ n * visitors) × (length (now conf) ≡ n * (rooms * 2)) ⌝ }
-    requires { ⌜ ((j : ℕ) → getD (now bounds) j 0 ≤ meetings) ⌝ }
-    ensures { λ r. ⌜ Decides r ((p : ℕ) → p < n → Session (rowAt (groups meetings) p (now (stand .entry))) (rowAt visitors p (now (attend .entry))) (rowAt (rooms * 2) p (now (conf .entry))) (now (bounds .entry)) rooms meetings) ⌝ }
+    requires { ⌜ length (now stands) ≡ 129 ⌝ }
+    requires { ⌜ ((j : ℕ) → j < visitors → getD (now bounds) j 0 ≤ meetings) ⌝ }
+    ensures { λ r. ⌜ Decides r ((p : ℕ) → p < n → Session (rowAt (groups meetings) p (now (stand .entry))) (rowAt visitors p (now (attend .entry)))
+        (rowAt (rooms * 2) p (now (conf .entry))) (now (bounds .entry)) rooms meetings) ⌝ }
 {
     let words = (meetings as usize + 31) / 32;
     let wide = rooms * 2;
@@ -83,7 +88,7 @@ fn sessions(
         let s = rows::row_of(stand, p, words, n);
         let a = rows::row_of(attend, p, visitors, n);
         let c = rows::row_of(conf, p, wide, n);
-        if !session(s, a, c, bounds, rooms, meetings) {
+        if !session(s, a, c, bounds, stands, rooms, meetings) {
             return false;
         }
         p += 1;
@@ -121,7 +126,8 @@ fn pads(stand: &[u32], n: usize, meetings: usize) -> bool
     true
 }
 
-// One date of n sessions and q times, by its tables: its leave words, hotel cells, standing words, attend cells, conf pairs, lunch triples and ride cells.
+// One date of n sessions and q times, by its tables: its leave words, hotel cells, standing words, attend cells, conf pairs, lunch
+// triples and ride cells.
 fn entries(
     leave: &[u32],
     hotel: &[u32],
@@ -139,7 +145,8 @@ fn entries(
     requires { ⌜ Long s n q (now leave) (now hotel) (now stand) (now attend) (now conf) (now lunch) (now ride) ⌝ }
     requires { ⌜ Caps s (now caps) ⌝ }
     requires { ⌜ Padded (now leave) (s .visitors) ⌝ }
-    ensures { λ r. ⌜ Decides r (Day s n q (now (caps .entry)) (now (leave .entry)) (now (hotel .entry)) (now (stand .entry)) (now (attend .entry)) (now (conf .entry)) (now (lunch .entry)) (now (ride .entry))) ⌝ }
+    ensures { λ r. ⌜ Decides r (Day s n q (now (caps .entry)) (now (leave .entry)) (now (hotel .entry)) (now (stand .entry)) (now (attend .entry))
+        (now (conf .entry)) (now (lunch .entry)) (now (ride .entry))) ⌝ }
 {
     let visitors = s.visitors;
     let meetings = s.meetings;
@@ -147,20 +154,24 @@ fn entries(
     let m = meetings as usize;
     let c = s.rooms as usize;
     let k = s.transports as usize;
-    let table = tables::barred(leave, v);
-    if !rows::guest_row(hotel, &table, visitors) {
+    let mut guests = [false; 1024];
+    tables::bar_past(&mut guests, leave, v);
+    let mut seen = guests;
+    if !rows::guest_row(hotel, &guests, &mut seen, visitors) {
         return false;
     }
-    let bounds = tables::most(&table, v, meetings);
-    if !sessions(stand, attend, conf, &bounds, n, v, c, meetings) {
+    let mut bounds = [0u32; 512];
+    tables::bound(&mut bounds, &guests, v, meetings);
+    let mut stands = [false; 129];
+    if !sessions(stand, attend, conf, &bounds, &mut stands, n, v, c, meetings) {
         return false;
     }
     let words = (m + 31) / 32;
-    let some = tables::barred_date(stand, n, words, m);
-    if !rows::triples(lunch, m, &some, caps, s.dining) {
+    tables::bar_date(&mut stands, stand, n, words);
+    if !rows::triples(lunch, m, &stands, caps, s.dining) {
         return false;
     }
-    rows::guest_rows(ride, q, k, &table, visitors)
+    rows::guest_rows(ride, q, k, &guests, &mut seen, visitors)
 }
 
 // One date: no tables are made for one without entries.
@@ -180,7 +191,8 @@ fn date(
     requires { ⌜ Ranges s ⌝ }
     requires { ⌜ Long s n q (now leave) (now hotel) (now stand) (now attend) (now conf) (now lunch) (now ride) ⌝ }
     requires { ⌜ Caps s (now caps) ⌝ }
-    ensures { λ r. ⌜ Decides r (Day s n q (now (caps .entry)) (now (leave .entry)) (now (hotel .entry)) (now (stand .entry)) (now (attend .entry)) (now (conf .entry)) (now (lunch .entry)) (now (ride .entry))) ⌝ }
+    ensures { λ r. ⌜ Decides r (Day s n q (now (caps .entry)) (now (leave .entry)) (now (hotel .entry)) (now (stand .entry)) (now (attend .entry))
+        (now (conf .entry)) (now (lunch .entry)) (now (ride .entry))) ⌝ }
 {
     if !rows::padded(leave, s.visitors as usize) {
         return false;

@@ -4,7 +4,7 @@ ghost use mathlib.Core.Bool.{true, false};
 ghost use Prim.Native.Nat.{ℕ, _+_, _*_, _≤_, _<_};
 ghost use lib.ListN.{length, getD};
 ghost use Rattle.model.specs.Words.{groups};
-ghost use Rattle.checking.specs.Rows.{Decides, Blank, Guests, Attended, Paired, Padded, Lunches, rowAt, ors};
+ghost use Rattle.checking.specs.Rows.{Decides, Blank, Ready, Past, Marked, Free, Guests, Attended, Paired, Padded, Lunches, rowAt, ors};
 ghost use Rattle.book.specs.Blocks.{Part};
 
 // Row i of n rows of `width` words.
@@ -17,57 +17,62 @@ pub fn row_of(cells: &[u32], i: usize, width: usize, n: usize) -> &[u32]
     &cells[at..end]
 }
 
-// The 32 words from `at` on, or-ed together.
-fn joined(row: &[u32], at: usize) -> u32
-    requires { ⌜ at + 32 ≤ length (now row) ⌝ }
-    ensures { λ r. ⌜ r ≡ ors (λ k. getD (now (row .entry)) (at + k) 0) 32 ⌝ }
+// The n words from `at` on, or-ed together.
+fn joined(row: &[u32], at: usize, n: usize) -> u32
+    requires { ⌜ at + n ≤ length (now row) ⌝ }
+    ensures { λ r. ⌜ r ≡ ors (λ k. getD (now (row .entry)) (at + k) 0) n ⌝ }
 {
     let mut all: u32 = 0;
     let mut k: usize = 0;
-    while k < 32 {
+    while k < n {
         all = all | row[at + k];
         k += 1;
     }
     all
 }
 
-// Is the row all zeros? 32 words at a time, so that an empty row costs little and a full one next to nothing.
+// Is the row all zeros? 128 words at a time, so that an empty row costs little and a full one next to nothing.
 pub fn blank(row: &[u32]) -> bool
     ensures { λ r. ⌜ (r ≡ true → Blank (now (row .entry))) ⌝ }
 {
+    let n = row.len();
     let mut i: usize = 0;
-    while 32 <= row.len() - i {
-        if joined(row, i) != 0 {
+    while 128 <= n - i {
+        if joined(row, i, 128) != 0 {
             return false;
         }
-        i += 32;
+        i += 128;
     }
-    while i < row.len() {
-        if row[i] != 0 {
-            return false;
-        }
-        i += 1;
-    }
-    true
+    joined(row, i, n - i) == 0
 }
 
-// Hotel and ride: each cell within the limit and not barred, and no visitor twice in the row. A visitor that was seen is barred from
-// then on; an empty cell never is, so that entry 0 is cleared again.
-fn guests(row: &[u32], table: &[bool; 513], limit: u32) -> bool
-    requires { ⌜ limit ≤ 512 ⌝ }
-    requires { ⌜ length (now table) ≡ 513 ⌝ }
-    requires { ⌜ getD (now table) 0 false ≡ false ⌝ }
-    ensures { λ r. ⌜ Decides r (Guests (now (row .entry)) limit (now (table .entry))) ⌝ }
+// Both tables bar what is past the limit, so that the entries up to it make them the same.
+fn copy(seen: &mut [bool], table: &[bool], limit: usize)
+    requires { ⌜ (limit < length (now table)) × (length (now seen) ≡ length (now table)) ⌝ }
+    requires { ⌜ Past limit (now table) ⌝ }
+    requires { ⌜ Past limit (now seen) ⌝ }
+    ensures { λ _. ⌜ now (seen .exit) ≡ now (table .entry) ⌝ }
 {
-    let mut seen = *table;
+    let mut i: usize = 0;
+    while i <= limit {
+        seen[i] = table[i];
+        i += 1;
+    }
+}
+
+// No cell barred, and no visitor twice in the row: a visitor that was seen is barred from then on. An empty cell never is, so that
+// entry 0 is cleared again.
+fn guests(row: &[u32], seen: &mut [bool]) -> bool
+    requires { ⌜ ((i : ℕ) → i < length (now row) → getD (now row) i 0 < length (now seen)) ⌝ }
+    requires { ⌜ 0 < length (now seen) ⌝ }
+    requires { ⌜ getD (now seen) 0 false ≡ false ⌝ }
+    ensures { λ r. ⌜ Decides r (Free (now (row .entry)) (now (seen .entry))) ⌝ }
+    ensures { λ _. ⌜ Marked (now (seen .entry)) (now (seen .exit)) ⌝ }
+{
     let mut bad = false;
     let mut i: usize = 0;
     while i < row.len() {
-        let w = row[i];
-        if limit < w {
-            return false;
-        }
-        let k = w as usize;
+        let k = row[i] as usize;
         bad = bad | seen[k];
         seen[k] = true;
         seen[0] = false;
@@ -76,30 +81,42 @@ fn guests(row: &[u32], table: &[bool; 513], limit: u32) -> bool
     !bad
 }
 
-pub fn guest_row(row: &[u32], table: &[bool; 513], limit: u32) -> bool
-    requires { ⌜ limit ≤ 512 ⌝ }
-    requires { ⌜ length (now table) ≡ 513 ⌝ }
-    requires { ⌜ getD (now table) 0 false ≡ false ⌝ }
+// Hotel and ride: each cell within the limit and not barred, and no visitor twice in the row. What was seen is kept in a table of its own,
+// which bars what is past the limit at all times. No limit is asked of a cell: words within it are below 1024, and so are all of them
+// or-ed together; each word below 1024 has its entry.
+pub fn guest_row(row: &[u32], table: &[bool], seen: &mut [bool], limit: u32) -> bool
+    requires { ⌜ Ready limit (now table) (now seen) ⌝ }
     ensures { λ r. ⌜ Decides r (Guests (now (row .entry)) limit (now (table .entry))) ⌝ }
+    ensures { λ _. ⌜ Past limit (now (seen .exit)) ⌝ }
 {
-    if blank(row) {
+    let all = joined(row, 0, row.len());
+    if all == 0 {
         return true;
     }
-    guests(row, table, limit)
+    if 1023 < all {
+        return false;
+    }
+    copy(seen, table, limit as usize);
+    guests(row, seen)
 }
 
 // Each of n rows of `width` cells.
-pub fn guest_rows(cells: &[u32], n: usize, width: usize, table: &[bool; 513], limit: u32) -> bool
-    requires { ⌜ limit ≤ 512 ⌝ }
-    requires { ⌜ length (now table) ≡ 513 ⌝ }
-    requires { ⌜ getD (now table) 0 false ≡ false ⌝ }
+pub fn guest_rows(
+    cells: &[u32],
+    n: usize,
+    width: usize,
+    table: &[bool],
+    seen: &mut [bool],
+    limit: u32,
+) -> bool
+    requires { ⌜ Ready limit (now table) (now seen) ⌝ }
     requires { ⌜ length (now cells) ≡ n * width ⌝ }
     ensures { λ r. ⌜ Decides r ((i : ℕ) → i < n → Guests (rowAt width i (now (cells .entry))) limit (now (table .entry))) ⌝ }
 {
     let mut i: usize = 0;
     while i < n {
         let row = row_of(cells, i, width, n);
-        if !guest_row(row, table, limit) {
+        if !guest_row(row, table, seen, limit) {
             return false;
         }
         i += 1;
@@ -135,8 +152,8 @@ fn bounded(row: &[u32], bounds: &[u32; 512]) -> bool
 }
 
 // No cell's meeting is barred.
-fn stood(row: &[u32], stands: &[bool; 513]) -> bool
-    requires { ⌜ ((i : ℕ) → i < length (now row) → getD (now row) i 0 ≤ 128) ⌝ }
+fn stood(row: &[u32], stands: &[bool]) -> bool
+    requires { ⌜ ((i : ℕ) → i < length (now row) → getD (now row) i 0 < length (now stands)) ⌝ }
     ensures { λ r. ⌜ Decides r ((i : ℕ) → i < length (now (row .entry)) → getD (now (stands .entry)) (getD (now (row .entry)) i 0) false ≡ false) ⌝ }
 {
     let mut bad = false;
@@ -150,9 +167,9 @@ fn stood(row: &[u32], stands: &[bool; 513]) -> bool
 }
 
 // Attend: each cell within its column's bound, and its meeting not barred.
-fn attends(row: &[u32], bounds: &[u32; 512], stands: &[bool; 513]) -> bool
+pub fn attends(row: &[u32], bounds: &[u32; 512], stands: &[bool]) -> bool
     requires { ⌜ length (now row) ≤ 512 ⌝ }
-    requires { ⌜ ((j : ℕ) → getD (now bounds) j 0 ≤ 128) ⌝ }
+    requires { ⌜ ((j : ℕ) → j < length (now row) → getD (now bounds) j 0 < length (now stands)) ⌝ }
     ensures { λ r. ⌜ Decides r (Attended (now (row .entry)) (now (bounds .entry)) (now (stands .entry))) ⌝ }
 {
     if !bounded(row, bounds) {
@@ -161,21 +178,9 @@ fn attends(row: &[u32], bounds: &[u32; 512], stands: &[bool; 513]) -> bool
     stood(row, stands)
 }
 
-pub fn attend_row(row: &[u32], bounds: &[u32; 512], stands: &[bool; 513]) -> bool
-    requires { ⌜ length (now row) ≤ 512 ⌝ }
-    requires { ⌜ ((j : ℕ) → getD (now bounds) j 0 ≤ 128) ⌝ }
-    requires { ⌜ getD (now stands) 0 false ≡ false ⌝ }
-    ensures { λ r. ⌜ Decides r (Attended (now (row .entry)) (now (bounds .entry)) (now (stands .entry))) ⌝ }
-{
-    if blank(row) {
-        return true;
-    }
-    attends(row, bounds, stands)
-}
-
 // Conf: each pair within the limit, its meeting not barred, and a zero beside an empty cell.
-pub fn pairs(row: &[u32], n: usize, stands: &[bool; 513], limit: u32) -> bool
-    requires { ⌜ limit ≤ 512 ⌝ }
+pub fn pairs(row: &[u32], n: usize, stands: &[bool], limit: u32) -> bool
+    requires { ⌜ limit < length (now stands) ⌝ }
     requires { ⌜ (n ≤ 512) × (length (now row) ≡ n * 2) ⌝ }
     ensures { λ r. ⌜ Decides r (Paired (now (row .entry)) n limit (now (stands .entry))) ⌝ }
 {
@@ -210,8 +215,8 @@ fn within(sums: &[u32; 17], caps: &[u32; 17]) -> bool
 
 // Lunch: each triple within the limits, its meeting not barred, zeros beside an empty cell, and the seats of each room within its
 // capacity. Seats are bounded before they are added.
-pub fn triples(row: &[u32], n: usize, table: &[bool; 513], caps: &[u32; 17], dining: u32) -> bool
-    requires { ⌜ (n ≤ 128) × (dining ≤ 16) × (length (now row) ≡ n * 3) ⌝ }
+pub fn triples(row: &[u32], n: usize, table: &[bool], caps: &[u32; 17], dining: u32) -> bool
+    requires { ⌜ (n ≤ 128) × (dining ≤ 16) × (length (now row) ≡ n * 3) × (n < length (now table)) ⌝ }
     requires { ⌜ ((g : ℕ) → getD (now caps) g 0 ≤ 1000) ⌝ }
     ensures { λ r. ⌜ Decides r (Lunches (now (row .entry)) n dining (now (caps .entry)) (now (table .entry))) ⌝ }
 {

@@ -3,18 +3,16 @@ use model::Settings;
 ghost use mathlib.Core.Path.{_≡_};
 ghost use Prim.Native.Nat.{ℕ, _+_, _*_, _≤_, _<_};
 ghost use lib.ListN.{length, getD};
-ghost use Rattle.model.specs.Words.{groups};
-ghost use Rattle.checking.specs.Rows.{Barred, Most, ors, Columns, BarredDate};
+ghost use Rattle.checking.specs.Rows.{Barred, Past, Most, ors, Columns, BarredDate};
 ghost use Rattle.checking.specs.Days.{Caps};
 
 // A table of a row of bits: entry 0 is false, entry v + 1 says that bit v is clear. A cell holds its member plus 1, or 0 for
 // none, so that a cell is the index of its entry.
-pub fn barred(row: &[u32], n: usize) -> [bool; 513]
-    requires { ⌜ length (now row) ≤ 16 ⌝ }
-    requires { ⌜ n ≤ length (now row) * 32 ⌝ }
-    ensures { λ r. ⌜ Barred (now (row .entry)) n r ⌝ }
+pub fn bar(table: &mut [bool], row: &[u32])
+    requires { ⌜ length (now row) * 32 < length (now table) ⌝ }
+    ensures { λ _. ⌜ Barred (now (row .entry)) (length (now (row .entry)) * 32) (now (table .exit)) ⌝ }
 {
-    let mut table = [false; 513];
+    table[0] = false;
     let mut i: usize = 0;
     while i < row.len() {
         let w = row[i];
@@ -25,21 +23,32 @@ pub fn barred(row: &[u32], n: usize) -> [bool; 513]
         }
         i += 1;
     }
-    table
+}
+
+// The table of a row of n bits that bars what is past n as well: a word past its limit needs no question of its own.
+pub fn bar_past(table: &mut [bool], row: &[u32], n: usize)
+    requires { ⌜ length (now row) * 32 < length (now table) ⌝ }
+    requires { ⌜ n ≤ length (now row) * 32 ⌝ }
+    ensures { λ _. ⌜ Barred (now (row .entry)) n (now (table .exit)) × Past n (now (table .exit)) ⌝ }
+{
+    bar(table, row);
+    let mut v = n + 1;
+    while v < table.len() {
+        table[v] = true;
+        v += 1;
+    }
 }
 
 // For each of n columns the most that its cell may hold: the limit, or 0 where the table bars it.
-pub fn most(table: &[bool; 513], n: usize, limit: u32) -> [u32; 512]
-    requires { ⌜ n ≤ 512 ⌝ }
-    ensures { λ r. ⌜ Most (now (table .entry)) n limit r ⌝ }
+pub fn bound(bounds: &mut [u32], table: &[bool], n: usize, limit: u32)
+    requires { ⌜ (n ≤ length (now bounds)) × (n < length (now table)) ⌝ }
+    ensures { λ _. ⌜ Most (now (table .entry)) n limit (now (bounds .exit)) ⌝ }
 {
-    let mut bounds = [0u32; 512];
     let mut v: usize = 0;
     while v < n {
         bounds[v] = if table[v + 1] { 0 } else { limit };
         v += 1;
     }
-    bounds
 }
 
 // Word k of n rows, or-ed together.
@@ -71,12 +80,12 @@ fn columns(rows: &[u32], n: usize, width: usize) -> [u32; 4]
 }
 
 // The table of the meetings that stand in no session of a date.
-pub fn barred_date(rows: &[u32], n: usize, width: usize, meetings: usize) -> [bool; 513]
-    requires { ⌜ (width ≡ groups meetings) × (meetings ≤ 128) × (n * width ≤ length (now rows)) ⌝ }
-    ensures { λ r. ⌜ BarredDate (now (rows .entry)) n width meetings r ⌝ }
+pub fn bar_date(table: &mut [bool], rows: &[u32], n: usize, width: usize)
+    requires { ⌜ (width ≤ 4) × (n * width ≤ length (now rows)) × (128 < length (now table)) ⌝ }
+    ensures { λ _. ⌜ BarredDate (now (rows .entry)) n width (now (table .exit)) ⌝ }
 {
     let words = columns(rows, n, width);
-    barred(&words, meetings)
+    bar(table, &words);
 }
 
 // 0 for no room, then the capacities.

@@ -1,4 +1,4 @@
--- `check` meets its contract, answer by answer.
+-- Each answer by the two questions.
 -- Assumes nothing.
 use mathlib.Core.Path.{sym, _∙_}
 use borrow.Author.Tests.{not-true, not-false}
@@ -19,12 +19,14 @@ lawful-requires c κs = sym (c .before .well-laid .ensures) ∙ not-false _ (c .
 returns-2 : tie.Need-returns-2
 returns-2 c =
     let c1 = c .before .before in
-    sym (check-two _ (sym (c1 .before .well-laid .ensures) ∙ not-false _ (c1 .if1 .left)) (sym (c .before .lawful .ensures) ∙ not-true _ (c .if2 .taken)))
+    sym (check-two _ (sym (c1 .before .well-laid .ensures) ∙ not-false _ (c1 .if1 .left))
+    (sym (c .before .lawful .ensures) ∙ not-true _ (c .if2 .taken)))
 
 returns-3 : tie.Need-returns-3
 returns-3 c =
     let c1 = c .before .before in
-    sym (check-done _ (sym (c1 .before .well-laid .ensures) ∙ not-false _ (c1 .if1 .left)) (sym (c .before .lawful .ensures) ∙ not-false _ (c .if2 .left)))
+    sym (check-done _ (sym (c1 .before .well-laid .ensures) ∙ not-false _ (c1 .if1 .left))
+    (sym (c .before .lawful .ensures) ∙ not-false _ (c .if2 .left)))
 
 pub check-spec : {M : Type 1} → statement M
 check-spec = tie.close (tie.spec well-laid-requires returns lawful-requires returns-2 returns-3)

@@ -30,7 +30,8 @@ returns c =
     let c2 = c .before .before .before in
     let c1 = c2 .before in
     let p = c1 .before .before .pre in
-    lawful-said _ _ p _ (c1 .settings .ensures) (laid-is _ p _ (c1 .settings .ensures) .ranges) (c2 .caps-of .ensures) (c .dates .result) (c .dates .ensures)
+    lawful-said _ _ p _ (c1 .settings .ensures) (laid-is _ p _ (c1 .settings .ensures) .ranges) (c2 .caps-of .ensures) (c .dates .result)
+    (c .dates .ensures)
 
 pub lawful-spec : {M : Type 1} → statement M
 lawful-spec =

@@ -1,4 +1,4 @@
--- `dates::blanks` meets its contract.
+-- Both rows are blank where both were found so.
 -- Assumes nothing.
 use borrow.Author.Tests.{not-false}
 use mathlib.Core.Bool.{false≢true}

@@ -1,10 +1,12 @@
 -- The seven blocks are the date.
 -- Assumes nothing.
+use Prim.Native.Nat.{_+_}
 use mathlib.Core.Path.{_∙_}
 use native.Mathlib.Omega.{arith}
 use borrow.Author.Needs.{needs}
 use Rattle.model.specs.Words.{leaves, hotelCells, standings, attendCells, confPairs, lunchTriples, rideCells}
 use Rattle.model.specs.Kinds.{sessions, times}
+use Rattle.book.specs.Lent.{reading}
 use Rattle.book.proofs.Regions.{unit-le}
 use Rattle.checking.proofs.Addresses.{block-fits, block-run, one-long}
 use Rattle.checking.proofs.Answers.{relay}
@@ -84,13 +86,17 @@ date-requires c κs =
     let c1 = c2 .before in
     let z = c1 .before .before in
     let p = z .pre .0 in
-    let leave = block-run (z .args .s) (p .starts) _ leaves _ _ (c1 .block .ensures) in
-    let hotel = block-run (z .args .s) (p .starts) _ hotelCells _ _ (c2 .block2 .ensures) in
-    let stand = block-run (z .args .s) (p .starts) _ standings _ _ (c3 .block3 .ensures) in
-    let attend = block-run (z .args .s) (p .starts) _ attendCells _ _ (c4 .block4 .ensures) in
-    let conf = block-run (z .args .s) (p .starts) _ confPairs _ _ (c5 .block5 .ensures) in
-    let lunch = block-run (z .args .s) (p .starts) _ lunchTriples _ _ (c6 .block6 .ensures) in
-    let ride = block-run (z .args .s) (p .starts) _ rideCells _ _ (c .block7 .ensures) in (
+    let b = reading (z .args .book .now) in
+    let d = z .args .d .0 in
+    let s = z .args .sessions in
+    let t = z .args .times in
+    let leave = block-run (z .args .s) (p .starts) b leaves d (d + 1) (c1 .block .ensures) in
+    let hotel = block-run (z .args .s) (p .starts) b hotelCells d (d + 1) (c2 .block2 .ensures) in
+    let stand = block-run (z .args .s) (p .starts) b standings (s .from .0) (s .to .0) (c3 .block3 .ensures) in
+    let attend = block-run (z .args .s) (p .starts) b attendCells (s .from .0) (s .to .0) (c4 .block4 .ensures) in
+    let conf = block-run (z .args .s) (p .starts) b confPairs (s .from .0) (s .to .0) (c5 .block5 .ensures) in
+    let lunch = block-run (z .args .s) (p .starts) b lunchTriples d (d + 1) (c6 .block6 .ensures) in
+    let ride = block-run (z .args .s) (p .starts) b rideCells (t .from .0) (t .to .0) (c .block7 .ensures) in (
       p .laid .ranges,
       (
         record {
@@ -117,15 +123,20 @@ returns c =
     let c1 = c2 .before in
     let z = c1 .before .before in
     let p = z .pre .0 in
-    let leave = block-run (z .args .s) (p .starts) _ leaves _ _ (c1 .block .ensures) in
-    let hotel = block-run (z .args .s) (p .starts) _ hotelCells _ _ (c2 .block2 .ensures) in
-    let stand = block-run (z .args .s) (p .starts) _ standings _ _ (c3 .block3 .ensures) in
-    let attend = block-run (z .args .s) (p .starts) _ attendCells _ _ (c4 .block4 .ensures) in
-    let conf = block-run (z .args .s) (p .starts) _ confPairs _ _ (c5 .block5 .ensures) in
-    let lunch = block-run (z .args .s) (p .starts) _ lunchTriples _ _ (c6 .block6 .ensures) in
-    let ride = block-run (z .args .s) (p .starts) _ rideCells _ _ (c7 .block7 .ensures) in
-    relay (c .date .result) (day-kept (z .args .s) _ _ (p .laid) _ (p .date) (p .sessions) (p .times))
-    (kept-day (z .args .s) _ _ (p .laid) _ (p .date) (p .sessions) (p .times))
+    let b = reading (z .args .book .now) in
+    let d = z .args .d .0 in
+    let s = z .args .sessions in
+    let t = z .args .times in
+    let leave = block-run (z .args .s) (p .starts) b leaves d (d + 1) (c1 .block .ensures) in
+    let hotel = block-run (z .args .s) (p .starts) b hotelCells d (d + 1) (c2 .block2 .ensures) in
+    let stand = block-run (z .args .s) (p .starts) b standings (s .from .0) (s .to .0) (c3 .block3 .ensures) in
+    let attend = block-run (z .args .s) (p .starts) b attendCells (s .from .0) (s .to .0) (c4 .block4 .ensures) in
+    let conf = block-run (z .args .s) (p .starts) b confPairs (s .from .0) (s .to .0) (c5 .block5 .ensures) in
+    let lunch = block-run (z .args .s) (p .starts) b lunchTriples d (d + 1) (c6 .block6 .ensures) in
+    let ride = block-run (z .args .s) (p .starts) b rideCells (t .from .0) (t .to .0) (c7 .block7 .ensures) in
+    let caps = z .args .caps .now in
+    relay (c .date .result) (day-kept (z .args .s) caps b (p .laid) d (p .date) (p .sessions) (p .times))
+    (kept-day (z .args .s) caps b (p .laid) d (p .date) (p .sessions) (p .times))
     (rw (leave .is, hotel .is, stand .is, attend .is, conf .is, lunch .is, ride .is) at (c .date .ensures))
 
 pub date-at-spec : {M : Type 1} → statement M

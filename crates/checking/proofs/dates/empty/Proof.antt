@@ -1,4 +1,4 @@
--- `dates::empty` meets its contract.
+-- Every part is blank where each was found so.
 -- Assumes nothing.
 use borrow.Author.Tests.{not-false}
 use mathlib.Core.Bool.{false≢true}

@@ -1,4 +1,4 @@
--- `dates::pads` meets its contract: the sessions passed are padded.
+-- The sessions passed have no unused bits set.
 -- Assumes nothing.
 use Prim.Native.Nat.{ℕ, _-_, _≤_, _<_}
 use native.Mathlib.Omega.{arith}
@@ -33,7 +33,8 @@ padded-requires c κs =
 
 returns : tie.Need-returns Inv-loop μ-loop
 returns c =
-    λ all. said-false (c .before .padded .result) (not-true _ (c .if1 .taken)) (rw (c .before .before .row-of .ensures .is) at (c .before .padded .ensures)) (all (c .before .before .before .before .loop .p) (omega arith))
+    λ all. said-false (c .before .padded .result) (not-true _ (c .if1 .taken))
+    (rw (c .before .before .row-of .ensures .is) at (c .before .padded .ensures)) (all (c .before .before .before .before .loop .p) (omega arith))
 
 add-p : tie.Need-add-p Inv-loop μ-loop
 add-p c = omega arith
@@ -42,8 +43,12 @@ loop-less : tie.Need-loop-less Inv-loop μ-loop
 loop-less c = omega arith
 
 loop-again : tie.Need-loop-again Inv-loop μ-loop
-loop-again c =
-    (omega arith, below-more _ _ (c .before .before .before .before .loop .inv .1) (said-true (c .before .padded .result) (not-false _ (c .if1 .left)) (rw (c .before .before .row-of .ensures .is) at (c .before .padded .ensures))))
+loop-again c = (
+  omega arith,
+  below-more _ _ (c .before .before .before .before .loop .inv .1)
+      (said-true (c .before .padded .result) (not-false _ (c .if1 .left))
+      (rw (c .before .before .row-of .ensures .is) at (c .before .padded .ensures))),
+)
 
 returns-2 : tie.Need-returns-2 Inv-loop μ-loop
 returns-2 c = λ p h. c .before .loop .inv .1 p (omega arith)

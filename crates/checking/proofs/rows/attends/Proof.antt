@@ -1,4 +1,4 @@
--- `rows::attends` meets its contract.
+-- The bounds are asked first, so that each cell has an entry.
 -- Assumes nothing.
 use native.Mathlib.Omega.{arith}
 use borrow.Author.Tests.{not-true, not-false}
@@ -15,9 +15,9 @@ returns c = λ f. said-false (c .before .bounded .result) (not-true _ (c .if1 .t
 
 stood-requires : tie.Need-stood-requires
 stood-requires c κs =
-    let z = c .before .before .before in
+    let z = c .before .before .before .before in
     let b = said-true (c .before .bounded .result) (not-false _ (c .if1 .left)) (c .before .bounded .ensures) in
-    λ i h. omega (arith, b i h, z .pre .1 i)
+    λ i h. omega (arith, b i h, z .pre .1 i h)
 
 returns-2 : tie.Need-returns-2
 returns-2 c =

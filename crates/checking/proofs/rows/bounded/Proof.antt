@@ -1,4 +1,4 @@
--- `rows::bounded` meets its contract: the flag says whether the cells passed are within bounds.
+-- The flag says whether the cells passed are within bounds.
 -- Assumes nothing.
 use Prim.Native.Nat.{ℕ, _-_, _≤_, _<_}
 use mathlib.Core.Bool.{not}
@@ -40,8 +40,11 @@ loop-less c = omega arith
 loop-again : tie.Need-loop-again Inv-loop μ-loop
 loop-again c =
     let r = c .before .before .before .loop in
-    let a = c .before .before .before .before .args in
-    (omega arith, more (λ k. getD (a .row .now) k 0 ≤ getD (a .bounds .now) k 0) (r .i) (r .bad) _ (r .inv .1) (over-said (getD (a .bounds .now) (r .i) 0) (getD (a .row .now) (r .i) 0)))
+    let a = c .before .before .before .before .args in (
+      omega arith,
+      more (λ k. getD (a .row .now) k 0 ≤ getD (a .bounds .now) k 0) (r .i) (r .bad) _ (r .inv .1)
+          (over-said (getD (a .bounds .now) (r .i) 0) (getD (a .row .now) (r .i) 0)),
+    )
 
 returns : tie.Need-returns Inv-loop μ-loop
 returns c =

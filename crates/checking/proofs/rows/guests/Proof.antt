@@ -1,47 +1,45 @@
--- `rows::guests` meets its contract: the rest of the pass gives the answer.
+-- The rest of the pass gives the answer.
 -- Assumes nothing.
 use Prim.Native.Nat.{_+_, _-_, _≤_}
 use mathlib.Core.List.{List}
 use mathlib.Core.Path.{_≡_, refl, sym, _∙_, ap}
-use mathlib.Core.Bool.{Bool, true, false, not, _||_}
+use mathlib.Core.Bool.{Bool, false, not, _||_}
 use native.Mathlib.Omega.{arith}
-use lib.ListN.{length, drop, set, length-set, getD}
-use lib.Seq.{getD-set-same}
+use lib.ListN.{length, drop, length-set, getD}
+use Rattle.checking.specs.Rows.{Marked}
 use Rattle.checking.proofs.Answers.{decide}
-use Rattle.checking.proofs.Passing.{pass, mark-is, pass-more, pass-end, says, said}
-use borrow.Author.Needs.{needs}
+use Rattle.checking.proofs.Passing.{pass, mark-is, mark-none, mark-more, pass-more, pass-end, says, said}
 use Rattle.checking.proofs.rows.guests.Statement.{statement}
 use Rattle.checking.proofs.rows.guests.Tie as tie
 
 abbrev Inv-loop : tie.InvT-loop
-Inv-loop row table limit seen₀ bad₀ i₀ seen bad i = (i ≤ length row) × (length seen ≡ 513) × (getD seen 0 false ≡ false) × (pass (drop i row) limit seen bad ≡ pass row limit table false)
+Inv-loop row seen₀ bad₀ i₀ seen bad i =
+    (i ≤ length row) × (length seen ≡ length seen₀) × (getD seen 0 false ≡ false) ×
+    (pass (drop i row) seen bad ≡ pass row seen₀ false) × Marked seen₀ seen
 
 abbrev μ-loop : tie.MeasureT-loop
-μ-loop row table limit seen₀ bad₀ i₀ seen bad i = length row - i
+μ-loop row seen₀ bad₀ i₀ seen bad i = length row - i
 
 loop-holds : tie.Need-loop-holds Inv-loop μ-loop
-loop-holds c = (omega arith, c .before .pre .1 .0, c .before .pre .1 .1, refl)
+loop-holds c = (omega arith, refl, c .pre .1 .1, refl, λ v h e. e)
 
-mul-w : tie.Need-mul-w Inv-loop μ-loop
-mul-w c = omega arith
+mul-k : tie.Need-mul-k Inv-loop μ-loop
+mul-k c = omega arith
 
-shared-slice-read-w : tie.Need-shared-slice-read-w Inv-loop μ-loop
-shared-slice-read-w c = omega arith
-
-returns : tie.Need-returns Inv-loop μ-loop
-returns c = λ g. omega (arith, g .range (c .before .before .before .loop .i) (omega arith))
+shared-slice-read-k : tie.Need-shared-slice-read-k Inv-loop μ-loop
+shared-slice-read-k c = omega arith
 
 cast-k : tie.Need-cast-k Inv-loop μ-loop
-cast-k c = omega arith
+cast-k c = omega (arith, c .before .before .before .pre .0 (c .before .before .loop .i) (omega arith))
 
-array-read-bad : tie.Need-array-read-bad Inv-loop μ-loop
-array-read-bad c = omega arith
+slice-read-bad : tie.Need-slice-read-bad Inv-loop μ-loop
+slice-read-bad c = omega (arith, c .before .before .before .before .pre .0 (c .before .before .before .loop .i) (omega arith))
 
-array-write-seen : tie.Need-array-write-seen Inv-loop μ-loop
-array-write-seen c = omega arith
+slice-write-seen : tie.Need-slice-write-seen Inv-loop μ-loop
+slice-write-seen c = omega (arith, c .before .before .before .before .pre .0 (c .before .before .before .loop .i) (omega arith))
 
-array-write-seen-2 : tie.Need-array-write-seen-2 Inv-loop μ-loop
-array-write-seen-2 c = search needs
+slice-write-seen-2 : tie.Need-slice-write-seen-2 Inv-loop μ-loop
+slice-write-seen-2 c = rw length-set (omega arith)
 
 add-i : tie.Need-add-i Inv-loop μ-loop
 add-i c = omega arith
@@ -52,24 +50,30 @@ loop-less c = omega arith
 loop-again : tie.Need-loop-again Inv-loop μ-loop
 loop-again c =
     let r = c .before .before .before .loop in
-    let a = c .before .before .before .before .before .args in
-    let w = getD (a .row .now) (r .i) 0 in
-    let long : length (set (r .seen) w true) ≡ 513 = length-set (r .seen) w true ∙ r .inv .1 in (
+    let z = c .before .before .before .before in
+    let row = z .args .row .now in
+    let w = getD row (r .i) 0 in
+    let l = z .pre .0 (r .i) (omega arith) in
+    let m = mark-is (r .seen) w (r .inv .2) (omega arith) in (
       omega arith,
-      length-set (set (r .seen) w true) 0 false ∙ long,
-      getD-set-same (set (r .seen) w true) 0 false false (omega arith),
-      ap (λ (s : List Bool). pass (drop (r .i + 1) (a .row .now)) (a .limit) s (r .bad || getD (r .seen) w false)) (mark-is (r .seen) w (r .inv .2) (omega arith))
-          ∙ sym (pass-more (a .limit) (a .row .now) (r .seen) (r .bad) (r .i) (omega arith) (omega arith)) ∙ r .inv .3,
+      ap length m ∙ length-set (r .seen) w _ ∙ r .inv .1,
+      ap (λ (s : List Bool). getD s 0 false) m ∙ mark-none (r .seen) w (omega arith) (r .inv .2),
+      ap (λ (s : List Bool). pass (drop (r .i + 1) row) s (r .bad || getD (r .seen) w false)) m
+          ∙ sym (pass-more row (r .seen) (r .bad) (r .i) (omega arith)) ∙ r .inv .3,
+      λ v h e. ap (λ (s : List Bool). getD s v false) m ∙ mark-more (z .args .seen .now) (r .seen) w (omega arith) (r .inv .4) v h e,
     )
 
-returns-2 : tie.Need-returns-2 Inv-loop μ-loop
-returns-2 c =
-    let a = c .before .before .before .args in
+same-length : tie.Need-same-length Inv-loop μ-loop
+same-length c = omega arith
+
+returns : tie.Need-returns Inv-loop μ-loop
+returns c =
+    let z = c .before .before in
+    let row = z .args .row .now in
+    let seen = z .args .seen .now in
     let r = c .before .loop in
-    let e = pass-end (a .limit) (a .row .now) (r .seen) (r .bad) (r .i) (omega arith) ∙ r .inv .3 in
-    decide (not (r .bad))
-    (λ t. says (a .limit) (a .row .now) (a .table .now) (omega arith) (sym e ∙ t))
-    (λ g. e ∙ said (a .limit) (a .row .now) (a .table .now) (omega arith) g)
+    let e = pass-end row (r .seen) (r .bad) (r .i) (omega arith) ∙ r .inv .3 in
+    (decide (not (r .bad)) (λ t. says row seen (z .pre .0) (sym e ∙ t)) (λ g. e ∙ said row seen (z .pre .0) g), r .inv .4)
 
 pub guests-spec : {M : Type 1} → statement M
 guests-spec =
@@ -78,14 +82,14 @@ guests-spec =
     Inv-loop
     μ-loop
     loop-holds
-    mul-w
-    shared-slice-read-w
-    returns
+    mul-k
+    shared-slice-read-k
     cast-k
-    array-read-bad
-    array-write-seen
-    array-write-seen-2
+    slice-read-bad
+    slice-write-seen
+    slice-write-seen-2
     add-i
     loop-less
     loop-again
-    returns-2)
+    same-length
+    returns)

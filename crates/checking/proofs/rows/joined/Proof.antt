@@ -1,4 +1,4 @@
--- `rows::joined` meets its contract.
+-- The words or-ed so far.
 -- Assumes nothing.
 use Prim.Native.Nat.{ℕ, _+_, _-_, _≤_}
 use mathlib.Core.Path.{_≡_, _∙_, ap}
@@ -11,10 +11,10 @@ use Rattle.checking.proofs.rows.joined.Statement.{statement}
 use Rattle.checking.proofs.rows.joined.Tie as tie
 
 abbrev Inv-loop : tie.InvT-loop
-Inv-loop row at all₀ k₀ all k = (k ≤ 32) × (all ≡ ors (λ j. getD row (at + j) 0) k)
+Inv-loop row at n all₀ k₀ all k = (k ≤ n) × (all ≡ ors (λ j. getD row (at + j) 0) k)
 
 abbrev μ-loop : tie.MeasureT-loop
-μ-loop row at all₀ k₀ all k = 32 - k
+μ-loop row at n all₀ k₀ all k = n - k
 
 loop-holds : tie.Need-loop-holds Inv-loop μ-loop
 loop-holds c = (omega arith, ors-none _)
@@ -45,7 +45,7 @@ returns : tie.Need-returns Inv-loop μ-loop
 returns c =
     let r = c .before .loop in
     let a = c .before .before .args in
-    let e : r .k ≡ 32 = omega arith in
+    let e : r .k ≡ a .n = omega arith in
     r .inv .1 ∙ ap (ors (λ j. getD (a .row .now) (a .at + j) 0)) e
 
 pub joined-spec : {M : Type 1} → statement M

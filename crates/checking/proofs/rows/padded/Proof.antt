@@ -1,4 +1,4 @@
--- `rows::padded` meets its contract.
+-- Only the last word can have unused bits.
 -- Assumes nothing.
 use Prim.Native.Nat.{_-_, _/_, _%_, _^_}
 use lib.Dec.{eqb}
@@ -24,7 +24,8 @@ cast-used : tie.Need-cast-used
 cast-used c = search needs
 
 returns : tie.Need-returns
-returns c = pad-none (c .before .before .args .row .now) _ (λ j. c .before .shared-slice-known .given j .fits) (c .before .before .pre .2) (c .if1 .taken)
+returns c = pad-none (c .before .before .args .row .now) _ (λ j. c .before .shared-slice-known .given j .fits) (c .before .before .pre .2)
+    (c .if1 .taken)
 
 shr-result : tie.Need-shr-result
 shr-result c = search needs
@@ -35,7 +36,8 @@ returns-2 c =
     let n = c .before .before .args .n in
     decide {P = Padded row n} (eqb (getD row (length row - 1) 0 / 2 ^ (n % 32)) 0)
     (λ e. pad-by row n (λ j. c .before .shared-slice-known .given j .fits) (c .before .before .pre .2) (c .if1 .left) (eqb-true _ _ e))
-    (λ p. eq-eqb _ _ (pad-is row n (λ j. c .before .shared-slice-known .given j .fits) (c .before .before .pre .2) (c .before .before .pre .0) (c .if1 .left) p))
+    (λ p. eq-eqb _ _ (pad-is row n (λ j. c .before .shared-slice-known .given j .fits) (c .before .before .pre .2) (c .before .before .pre .0)
+    (c .if1 .left) p))
 
 pub padded-spec : {M : Type 1} → statement M
 padded-spec =

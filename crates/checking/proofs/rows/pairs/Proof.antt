@@ -1,4 +1,4 @@
--- `rows::pairs` meets its contract.
+-- The flag says whether the pairs passed are good.
 -- Assumes nothing.
 use Prim.Native.Nat.{ℕ, _+_, _*_, _-_, _≤_, _<_}
 use mathlib.Core.Path.{_≡_, subst}
@@ -13,7 +13,8 @@ use Rattle.checking.proofs.rows.pairs.Statement.{statement}
 use Rattle.checking.proofs.rows.pairs.Tie as tie
 
 abbrev Inv-loop : tie.InvT-loop
-Inv-loop row n stands limit bad₀ j₀ bad j = (j ≤ n) × Decides (not bad) ((k : ℕ) → k < j → Pair limit stands (getD row (k * 2) 0) (getD row (k * 2 + 1) 0))
+Inv-loop row n stands limit bad₀ j₀ bad j = (j ≤ n) × Decides (not bad)
+    ((k : ℕ) → k < j → Pair limit stands (getD row (k * 2) 0) (getD row (k * 2 + 1) 0))
 
 abbrev μ-loop : tie.MeasureT-loop
 μ-loop row n stands limit bad₀ j₀ bad j = n - j
@@ -49,8 +50,8 @@ returns c =
 cast-k : tie.Need-cast-k Inv-loop μ-loop
 cast-k c = omega arith
 
-element-copy-out-bad : tie.Need-element-copy-out-bad Inv-loop μ-loop
-element-copy-out-bad c = omega arith
+shared-slice-read-bad : tie.Need-shared-slice-read-bad Inv-loop μ-loop
+shared-slice-read-bad c = omega arith
 
 add-j : tie.Need-add-j Inv-loop μ-loop
 add-j c = omega arith
@@ -72,7 +73,10 @@ loop-again c =
 returns-2 : tie.Need-returns-2 Inv-loop μ-loop
 returns-2 c =
     let e : c .before .loop .j ≡ c .before .before .args .n = omega arith in
-    subst (λ (m : ℕ). Decides (not (c .before .loop .bad)) ((k : ℕ) → k < m → Pair (c .before .before .args .limit) (c .before .before .args .stands .now) (getD (c .before .before .args .row .now) (k * 2) 0) (getD (c .before .before .args .row .now) (k * 2 + 1) 0))) e (c .before .loop .inv .1)
+    subst (λ (m : ℕ). Decides (not (c .before .loop .bad))
+    ((k : ℕ) → k < m → Pair (c .before .before .args .limit) (c .before .before .args .stands .now)
+    (getD (c .before .before .args .row .now) (k * 2) 0) (getD (c .before .before .args .row .now) (k * 2 + 1) 0))) e
+    (c .before .loop .inv .1)
 
 pub pairs-spec : {M : Type 1} → statement M
 pairs-spec =
@@ -90,7 +94,7 @@ pairs-spec =
     shared-slice-read-info
     returns
     cast-k
-    element-copy-out-bad
+    shared-slice-read-bad
     add-j
     loop-less
     loop-again

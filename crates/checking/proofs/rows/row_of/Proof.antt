@@ -30,7 +30,8 @@ part-result-end c = omega (arith, row-inside (c .args .i) (c .args .n) (c .args 
 returns : tie.Need-returns
 returns c =
     let a = c .before .args in
-    part-by (a .cells .now) (a .i * a .width) (a .i * a .width + a .width) (a .i * a .width) (a .width) refl refl (omega (arith, row-inside (a .i) (a .n) (a .width) (c .before .pre .0)))
+    part-by (a .cells .now) (a .i * a .width) (a .i * a .width + a .width) (a .i * a .width) (a .width) refl refl
+    (omega (arith, row-inside (a .i) (a .n) (a .width) (c .before .pre .0)))
 
 pub row-of-spec : {M : Type 1} → statement M
 row-of-spec =

@@ -1,4 +1,4 @@
--- `rows::stood` meets its contract: the flag says whether a meeting passed is barred.
+-- The flag says whether the meetings passed stand.
 -- Assumes nothing.
 use Prim.Native.Nat.{ℕ, _-_, _≤_, _<_}
 use mathlib.Core.Path.{_≡_}
@@ -31,10 +31,10 @@ cast-k c =
     let z = c .before .before .before in
     omega (arith, z .pre (c .before .before .loop .i) (omega arith))
 
-element-copy-out-bad : tie.Need-element-copy-out-bad Inv-loop μ-loop
-element-copy-out-bad c =
-    let z = c .before .before .before in
-    omega (arith, z .pre (c .before .before .loop .i) (omega arith))
+shared-slice-read-bad : tie.Need-shared-slice-read-bad Inv-loop μ-loop
+shared-slice-read-bad c =
+    let z = c .before .before .before .before in
+    omega (arith, z .pre (c .before .before .before .loop .i) (omega arith))
 
 add-i : tie.Need-add-i Inv-loop μ-loop
 add-i c = omega arith
@@ -45,8 +45,11 @@ loop-less c = omega arith
 loop-again : tie.Need-loop-again Inv-loop μ-loop
 loop-again c =
     let r = c .before .before .before .loop in
-    let a = c .before .before .before .before .args in
-    (omega arith, more (λ k. getD (a .stands .now) (getD (a .row .now) k 0) false ≡ false) (r .i) (r .bad) _ (r .inv .1) (bar-said (getD (a .stands .now) (getD (a .row .now) (r .i) 0) false)))
+    let a = c .before .before .before .before .args in (
+      omega arith,
+      more (λ k. getD (a .stands .now) (getD (a .row .now) k 0) false ≡ false) (r .i) (r .bad) _ (r .inv .1)
+          (bar-said (getD (a .stands .now) (getD (a .row .now) (r .i) 0) false)),
+    )
 
 returns : tie.Need-returns Inv-loop μ-loop
 returns c =
@@ -63,7 +66,7 @@ stood-spec =
     mul-k
     shared-slice-read-k
     cast-k
-    element-copy-out-bad
+    shared-slice-read-bad
     add-i
     loop-less
     loop-again

@@ -1,4 +1,4 @@
--- `rows::triples` meets its contract.
+-- The triples passed are good, and their seats are added up.
 -- Assumes nothing.
 use Rattle.model.specs.Bounded.{sum}
 use Prim.Native.Nat.{_+_, _*_, _-_, _≤_}
@@ -20,7 +20,7 @@ abbrev μ-loop : tie.MeasureT-loop
 μ-loop row n table caps dining sums₀ j₀ sums j = n - j
 
 loop-holds : tie.Need-loop-holds Inv-loop μ-loop
-loop-holds c = (omega arith, sofar-none (c .before .args .row .now) (c .before .args .dining) (c .before .args .caps .now) (c .before .args .table .now))
+loop-holds c = (omega arith, let a = c .before .before .args in sofar-none (a .row .now) (a .dining) (a .caps .now) (a .table .now))
 
 mul-w : tie.Need-mul-w Inv-loop μ-loop
 mul-w c = omega arith
@@ -75,8 +75,8 @@ returns-2 c =
 add-bad : tie.Need-add-bad Inv-loop μ-loop
 add-bad c = omega arith
 
-element-copy-out-bad : tie.Need-element-copy-out-bad Inv-loop μ-loop
-element-copy-out-bad c = omega arith
+shared-slice-read-bad : tie.Need-shared-slice-read-bad Inv-loop μ-loop
+shared-slice-read-bad c = omega arith
 
 returns-3 : tie.Need-returns-3 Inv-loop μ-loop
 returns-3 c =
@@ -93,10 +93,10 @@ array-read-sums c = omega arith
 add-sums : tie.Need-add-sums Inv-loop μ-loop
 add-sums c =
     let c9 = c .before .before .before .before .before .before .before .before .before in
-    let c11 = c9 .before .before in
+    let c12 = c9 .before .before .before in
     let r = c9 .loop in
-    let a = c11 .args in
-    omega (arith, r .inv .1 .low (getD (a .row .now) (r .j * 3) 0), c11 .pre .1 (getD (a .row .now) (r .j * 3) 0))
+    let a = c12 .args in
+    omega (arith, r .inv .1 .low (getD (a .row .now) (r .j * 3) 0), c12 .pre .1 (getD (a .row .now) (r .j * 3) 0))
 
 mul-sums-2 : tie.Need-mul-sums-2 Inv-loop μ-loop
 mul-sums-2 c = omega arith
@@ -112,15 +112,17 @@ loop-less c = omega arith
 
 loop-again : tie.Need-loop-again Inv-loop μ-loop
 loop-again c =
-    let c9 = c .before .before .before .before .before .before .before .before .before in
-    let c11 = c9 .before .before in
+    let c5 = c .before .before .before .before .before in
+    let c9 = c5 .before .before .before .before in
+    let c12 = c9 .before .before .before in
     let r = c9 .loop in
-    let a = c11 .args in
+    let a = c12 .args in
     let w = getD (a .row .now) (r .j * 3) 0 in (
       omega arith,
       sofar-more (a .row .now) (a .dining) (a .caps .now) (a .table .now) (r .sums) (r .j) (r .inv .1) (omega arith)
-          (omega (arith, c11 .pre .1 w))
-          (triple-by (a .dining) (a .caps .now) (getD (a .table .now) (r .j + 1) false) w (getD (a .row .now) (r .j * 3 + 1) 0) (getD (a .row .now) (r .j * 3 + 2) 0) (omega arith) (omega arith) (c .if3 .left)),
+          (omega (arith, c12 .pre .1 w))
+          (triple-by (a .dining) (a .caps .now) (getD (a .table .now) (r .j + 1) false) w (getD (a .row .now) (r .j * 3 + 1) 0)
+          (getD (a .row .now) (r .j * 3 + 2) 0) (omega arith) (omega arith) (c .if3 .left)),
     )
 
 within-requires : tie.Need-within-requires Inv-loop μ-loop
@@ -129,12 +131,16 @@ within-requires c κs = tt
 returns-4 : tie.Need-returns-4 Inv-loop μ-loop
 returns-4 c =
     let c3 = c .before .before .before in
-    let c5 = c3 .before .before in
+    let c6 = c3 .before .before .before in
     let r = c3 .loop in
-    let a = c5 .args in
+    let a = c6 .args in
     let e : r .j ≡ a .n = omega arith in
     relay (c .within .result)
-    (λ f. record { each = λ j h. r .inv .1 .each j (omega arith); sums = λ g h. omega (arith, f g h, r .inv .1 .sums g h, ap (sum (seatsIn (a .row .now) g)) e) })
+    (λ f. record {
+      each = λ j h. r .inv .1 .each j (omega arith);
+      sums = λ g h. omega
+          (arith, f g h, r .inv .1 .sums g h, ap (sum (seatsIn (a .row .now) g)) e);
+    })
     (λ l g h. omega (arith, l .sums g h, r .inv .1 .sums g h, ap (sum (seatsIn (a .row .now) g)) e))
     (c .within .ensures)
 
@@ -162,7 +168,7 @@ triples-spec =
     element-copy-out-if2
     returns-2
     add-bad
-    element-copy-out-bad
+    shared-slice-read-bad
     returns-3
     mul-sums
     array-read-sums

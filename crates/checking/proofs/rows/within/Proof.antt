@@ -1,4 +1,4 @@
--- `rows::within` meets its contract.
+-- The sums passed are within their capacities.
 -- Assumes nothing.
 use Prim.Native.Nat.{ℕ, _-_, _≤_, _<_}
 use native.Mathlib.Omega.{arith}

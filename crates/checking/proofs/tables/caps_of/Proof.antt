@@ -1,4 +1,4 @@
--- `tables::caps_of` meets its contract.
+-- The capacities so far, behind the 0 of no room.
 -- Assumes nothing.
 use Prim.Native.Nat.{ℕ, _-_, _≤_}
 use mathlib.Core.Path.{_≡_, subst}
@@ -38,14 +38,18 @@ loop-less : tie.Need-loop-less Inv-loop μ-loop
 loop-less c = omega arith
 
 loop-again : tie.Need-loop-again Inv-loop μ-loop
-loop-again c =
-    (omega arith, caps-more (c .before .before .before .args .s .capacities) (c .before .loop .g) (c .before .loop .caps) (omega arith) (c .before .loop .inv .1))
+loop-again c = (
+  omega arith,
+  caps-more (c .before .before .before .args .s .capacities) (c .before .loop .g) (c .before .loop .caps) (omega arith)
+      (c .before .loop .inv .1),
+)
 
 returns : tie.Need-returns Inv-loop μ-loop
 returns c =
     let c3 = c .before .before .before in
     let e : c .before .loop .g ≡ 16 = omega arith in
-    caps-by (c3 .args .s) (c .before .loop .caps) (c3 .pre .1) (subst (λ (k : ℕ). CapsTo (c3 .args .s .capacities) k (c .before .loop .caps)) e (c .before .loop .inv .1))
+    caps-by (c3 .args .s) (c .before .loop .caps) (c3 .pre .1)
+    (subst (λ (k : ℕ). CapsTo (c3 .args .s .capacities) k (c .before .loop .caps)) e (c .before .loop .inv .1))
 
 pub caps-of-spec : {M : Type 1} → statement M
 caps-of-spec =

@@ -1,4 +1,4 @@
--- `tables::column` meets its contract.
+-- The words of the column or-ed so far.
 -- Assumes nothing.
 use Prim.Native.Nat.{ℕ, _+_, _-_, _*_, _≤_}
 use mathlib.Core.Path.{_≡_, _∙_, ap}
@@ -21,13 +21,28 @@ loop-holds : tie.Need-loop-holds Inv-loop μ-loop
 loop-holds c = (omega arith, ors-none _)
 
 mul-all : tie.Need-mul-all Inv-loop μ-loop
-mul-all c = omega (arith, row-inside (c .before .loop .p) (c .before .before .args .n) (c .before .before .args .width) (omega arith), c .before .before .good)
+mul-all c = omega (
+  arith,
+  row-inside (c .before .loop .p) (c .before .before .args .n) (c .before .before .args .width)
+      (omega arith),
+  c .before .before .good,
+)
 
 add-all : tie.Need-add-all Inv-loop μ-loop
-add-all c = omega (arith, row-inside (c .before .loop .p) (c .before .before .args .n) (c .before .before .args .width) (omega arith), c .before .before .good)
+add-all c = omega (
+  arith,
+  row-inside (c .before .loop .p) (c .before .before .args .n) (c .before .before .args .width)
+      (omega arith),
+  c .before .before .good,
+)
 
 mul-all-2 : tie.Need-mul-all-2 Inv-loop μ-loop
-mul-all-2 c = omega (arith, row-inside (c .before .loop .p) (c .before .before .args .n) (c .before .before .args .width) (omega arith), c .before .before .good)
+mul-all-2 c = omega (
+  arith,
+  row-inside (c .before .loop .p) (c .before .before .args .n) (c .before .before .args .width)
+      (omega arith),
+  c .before .before .good,
+)
 
 shared-slice-read-all : tie.Need-shared-slice-read-all Inv-loop μ-loop
 shared-slice-read-all c =
@@ -50,7 +65,8 @@ loop-again c =
 returns : tie.Need-returns Inv-loop μ-loop
 returns c =
     let e : c .before .loop .p ≡ c .before .before .args .n = omega arith in
-    c .before .loop .inv .1 ∙ ap (ors (λ p. getD (c .before .before .args .rows .now) (p * c .before .before .args .width + c .before .before .args .k) 0)) e
+    c .before .loop .inv .1 ∙ ap (ors (λ p. getD (c .before .before .args .rows .now)
+    (p * c .before .before .args .width + c .before .before .args .k) 0)) e
 
 pub column-spec : {M : Type 1} → statement M
 column-spec =

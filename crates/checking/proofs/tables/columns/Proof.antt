@@ -1,4 +1,4 @@
--- `tables::columns` meets its contract.
+-- The columns made so far.
 -- Assumes nothing.
 use Prim.Native.Nat.{ℕ, _-_, _≤_}
 use mathlib.Core.Path.{_≡_, refl, subst}
