@@ -1,7 +1,7 @@
 // Rows of one-word cells stand one behind the other: a run of them is a run of words, which the compiler takes several at once.
 use crate::grid::Grid;
-use crate::grid::at;
 use crate::rows::part_count;
+use crate::rows::rows_part;
 ghost use mathlib.Core.Path.{_≡_};
 ghost use mathlib.Core.Bool.{cond};
 ghost use Prim.Native.Nat.{_≤_};
@@ -63,14 +63,15 @@ fn clear_run(book: &mut [u32], w: u32, start: usize, end: usize)
 // Every cell that holds w in the slots from `from` to before `to`, of one-word cells.
 pub fn sweep_run(book: &mut [u32], g: Grid, w: u32, from: u32, to: u32)
     requires { ⌜ Lies g (reading (now book)) ⌝ }
-    requires { ⌜ (g .width ≡ 1) × (1 ≤ g .items) ⌝ }
+    requires { ⌜ g .width ≡ 1 ⌝ }
     requires { ⌜ to ≤ g .slots ⌝ }
     ensures { λ _. ⌜ Wrote (swept g w from to) (reading (now (book .entry))) (reading (now (book .exit))) ⌝ }
 {
     if to <= from {
         return;
     }
-    let start = at(g, from, 0);
-    let end = start + ((to - from) as usize) * (g.items as usize);
+    let part = rows_part(g, from, to);
+    let start = part.start;
+    let end = part.end;
     clear_run(book, w, start, end);
 }

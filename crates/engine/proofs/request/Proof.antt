@@ -1,4 +1,4 @@
--- `request` meets its contract: checked, then one step.
+-- `request`: checked, then one step.
 -- Assumes nothing.
 use mathlib.Core.Path.{sym, _∙_}
 use borrow.Author.Needs.{needs}
@@ -34,7 +34,8 @@ step-requires : tie.Need-step-requires
 unfolding reading
 step-requires c κs =
     let a = c .before .before .before .before .before .before .before .before .args in
-    rw (c .before .settings .ensures) (done-good (a .book .now) _ (sym (c .before .before .before .before .before .check .ensures) ∙ c .before .before .before .enum-told .given .1))
+    rw (c .before .settings .ensures)
+    (done-good (a .book .now) _ (sym (c .before .before .before .before .before .check .ensures) ∙ c .before .before .before .enum-told .given .1))
 
 same-length-2 : tie.Need-same-length-2
 same-length-2 c = search needs
@@ -44,7 +45,10 @@ unfolding reading
 returns-2 c =
     let a = c .before .before .before .before .before .before .before .before .before .before .before .args in
     with-removal (a .book .now) (a .r) _ _
-    (c .before .before .step .ensures ∙ sym (good-call (done-good (a .book .now) _ (sym (c .before .before .before .before .before .before .before .before .check .ensures) ∙ c .before .before .before .before .before .before .enum-told .given .1)) (a .r)))
+    (c .before .before .step .ensures
+    ∙ sym (good-call (done-good (a .book .now) _
+    (sym (c .before .before .before .before .before .before .before .before .check .ensures)
+    ∙ c .before .before .before .before .before .before .enum-told .given .1)) (a .r)))
 
 pub request-spec : {M : Type 1} → statement M
 request-spec =
