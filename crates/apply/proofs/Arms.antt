@@ -17,7 +17,8 @@ use Rattle.model.specs.State.{State}
 use Rattle.model.specs.Kinds.{Kind, kinds, kindOf, row, limit, slotsOf}
 use Rattle.model.specs.Kinds.{Kind.addLeave, Kind.endLeave, Kind.removeVisitor, Kind.addHotel, Kind.eraseHotel, Kind.addRide, Kind.eraseRide}
 use Rattle.model.specs.Kinds.{Kind.addStanding, Kind.endStanding, Kind.addAttend, Kind.eraseAttend, Kind.addConf, Kind.eraseConf}
-use Rattle.model.specs.Kinds.{Kind.addLunch, Kind.eraseLunch, Kind.eraseConfAndLunch, Kind.whichMeeting, Kind.countLeave, Kind.seatsLeft, Kind.freeRoom}
+use Rattle.model.specs.Kinds.{Kind.addLunch, Kind.eraseLunch, Kind.eraseConfAndLunch, Kind.whichMeeting, Kind.countLeave, Kind.seatsLeft}
+use Rattle.model.specs.Kinds.{Kind.freeRoom}
 use Rattle.model.specs.Questions.{Refusal, judge, test, below, always, further, Question.aBelow, Question.bBelow}
 use Rattle.model.specs.Machine.{Outcome, change, finish, stepKind, step}
 use Rattle.model.specs.Words.{Region, slots, items, width, words}
@@ -33,14 +34,15 @@ use Rattle.book.specs.declared.grid.Grids.{Grids}
 use Rattle.book.specs.Grids.{gridOf, gridsOf, Laid}
 use Rattle.book.specs.Lent.{Lies}
 use Rattle.book.specs.Good.{Good}
-use Rattle.book.proofs.Regions.{lies, small, some-item}
+use Rattle.book.proofs.Regions.{lies, small}
 use Rattle.book.proofs.Goods.{good-laid}
 use Rattle.apply.specs.Accepted.{accepted}
 use Rattle.apply.specs.Stores.{Span, Single}
 use Rattle.apply.proofs.Stages.{Carries, carries-all, carries-shown}
 
 -- a grid of a region, in words c that keep the grids of a laid book
-module _ (S : Settings) (b : List ℕ) (l : Laid S b) (g : Region) (h : Grid) (is : h ≡ gridOf S g) (c : List ℕ) (keep : (f : Grid) → Lies f b → Lies f c) where
+module _ (S : Settings) (b : List ℕ) (l : Laid S b) (g : Region) (h : Grid) (is : h ≡ gridOf S g) (c : List ℕ)
+    (keep : (f : Grid) → Lies f b → Lies f c) where
   pub span-of : (last : ℕ) → last < slots S g → Span h c last
   span-of last q =
       subst (λ (h : Grid). Span h c last) (sym is)
@@ -49,7 +51,7 @@ module _ (S : Settings) (b : List ℕ) (l : Laid S b) (g : Region) (h : Grid) (i
   pub single-of : width g ≡ 1 → (to : ℕ) → to ≤ slots S g → Single h c to
   single-of one to q =
       subst (λ (h : Grid). Single h c to) (sym is)
-      (record { lies = keep (gridOf S g) (lies S b l g); cells = (one, some-item S (l .ranges) g); most = q })
+      (record { lies = keep (gridOf S g) (lies S b l g); narrow = one; most = q })
 
 pub item-of : (S : Settings) (g : Region) (h : Grid) → h ≡ gridOf S g → (j : ℕ) → j < items S g → j < h .items
 item-of S g h e j q = subst (λ (h : Grid). j < h .items) (sym e) q
@@ -76,9 +78,6 @@ module _ {S : Settings} {b : List ℕ} {G : Grids} {r : Request} {k : Kind} (w :
   laid = good-laid (w .good)
 
   -- the bounds of its fields and slots
-  pub order-ok : r .first ≤ r .last
-  order-ok = slots-fit (stateOf b) r k (answers .1 .1 .1 .0) .0
-
   pub slots-ok : r .last < slotsOf S (row k .unit)
   unfolding stateOf readState
   slots-ok = subst (λ (S : Settings). r .last < slotsOf S (row k .unit)) (sym (w .good .read)) (slots-fit (stateOf b) r k (answers .1 .1 .1 .0) .1)
@@ -94,7 +93,8 @@ module _ {S : Settings} {b : List ℕ} {G : Grids} {r : Request} {k : Kind} (w :
   unfolding test stateOf readState
   b-ok n q =
       let t : below (limit S (row k .b)) (r .b) ≡ true
-      = subst (λ (S : Settings). below (limit S (row k .b)) (r .b) ≡ true) (sym (w .good .read)) (yes (stateOf b) r k bBelow refl (answers .1 .1 .0)) in
+      = subst (λ (S : Settings). below (limit S (row k .b)) (r .b) ≡ true) (sym (w .good .read))
+      (yes (stateOf b) r k bBelow refl (answers .1 .1 .0)) in
       ltb-true (r .b) n (subst (λ (o : Option ℕ). below o (r .b) ≡ true) q t)
 
   -- one of the grids, and an item of it
@@ -122,8 +122,10 @@ module _ {S : Settings} {b : List ℕ} {G : Grids} {r : Request} {k : Kind} (w :
       ap (W S) (w .grids)
       ∙ ap (λ (S : Settings). W S (gridsOf S)) (w .good .read)
       ∙ carries-all (change (stateOf b) r k) _
-      (subst (λ (T : Settings). Carries T (change (stateOf b) r k) (W (settingsOf b) (gridsOf (settingsOf b)))) (sym (settings-change (stateOf b) r k))
-      (write (stateOf b) (sym (w .good .read)) (book-sound b (w .good .laid) (w .good .lawful)) (carries-shown b (w .good .laid) (w .good .lawful)) answers))
+      (subst (λ (T : Settings). Carries T (change (stateOf b) r k) (W (settingsOf b) (gridsOf (settingsOf b))))
+      (sym (settings-change (stateOf b) r k))
+      (write (stateOf b) (sym (w .good .read)) (book-sound b (w .good .laid) (w .good .lawful))
+      (carries-shown b (w .good .laid) (w .good .lawful)) answers))
       ∙ done-words
 
 -- the kinds by their numbers

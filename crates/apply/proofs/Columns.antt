@@ -74,7 +74,8 @@ module _ (x : State) (s : Sound x) (r : Request) (b : List ℕ) (a : Carries (x 
   S = x .settings
 
   -- b has no a at all in the set
-  alone : (k : Kind) (p : Pairs) → ask x r k (absent p) ≡ none → ask x r k (elsewhere p) ≡ none → (i c : ℕ) → slot r i ≡ true → booked x p i c (r .b) ≡ true → ⊥
+  alone : (k : Kind) (p : Pairs) → ask x r k (absent p) ≡ none → ask x r k (elsewhere p) ≡ none → (i c : ℕ) → slot r i ≡ true
+      → booked x p i c (r .b) ≡ true → ⊥
   unfolding test
   alone k p e f i c h q =
       let z : booked x p i (r .a) (r .b) ≡ false = not-true _ (yes-slot x r k (absent p) refl e i h) in
@@ -145,13 +146,15 @@ module _ (x : State) (s : Sound x) (r : Request) (b : List ℕ) (a : Carries (x 
       put-one addAttend y attendCells refl refl (λ i j m. x .attend i m j) _ (S .meetings) (r .b) (r .a) (change x r addAttend) (attend-frame x _)
       (ltb-true _ _ (yes x r addAttend bBelow refl (y .1 .1 .0))) (λ i j m. refl) (λ i j m. refl)
       (λ i j u. ap (λ (t : Bool). x .attend i u j || t) (swap (slot r i) (eqb u (r .a)) (eqb j (r .b))))
-      (ltb-true _ _ (yes x r addAttend aBelow refl (y .1 .0))) (λ i u h. alone addAttend attends (y .1 .1 .1 .1 .1 .1 .0) (y .1 .1 .1 .1 .1 .1 .1 .0) i u h)
+      (ltb-true _ _ (yes x r addAttend aBelow refl (y .1 .0)))
+      (λ i u h. alone addAttend attends (y .1 .1 .1 .1 .1 .1 .0) (y .1 .1 .1 .1 .1 .1 .1 .0) i u h)
 
   pub write-eraseAttend : Yes x r eraseAttend (always ++ further eraseAttend)
       → Carries S (change x r eraseAttend) (filled (gridOf S attendCells) (r .b) empty (r .first) (r .last + 1) b)
   unfolding change test word
   write-eraseAttend y =
-      take-one eraseAttend y attendCells refl refl (λ i j m. x .attend i m j) _ (S .meetings) (r .b) (r .a) (change x r eraseAttend) (attend-frame x _)
+      take-one eraseAttend y attendCells refl refl (λ i j m. x .attend i m j) _ (S .meetings) (r .b) (r .a) (change x r eraseAttend)
+      (attend-frame x _)
       (ltb-true _ _ (yes x r eraseAttend bBelow refl (y .1 .1 .0))) (λ i j m. refl) (λ i j m. refl)
       (λ i j u. ap (λ (t : Bool). x .attend i u j && not t) (swap (slot r i) (eqb u (r .a)) (eqb j (r .b))))
       (λ i u h e. s .oneA attends refl i (r .b) u (r .a) e (was-present x r eraseAttend attends (y .1 .1 .1 .1 .0) i h))
@@ -161,7 +164,8 @@ module _ (x : State) (s : Sound x) (r : Request) (b : List ℕ) (a : Carries (x 
       → Carries S (change x r addConf) (filled (gridOf S confPairs) (r .a) (full (r .b) (r .info) 0) (r .first) (r .last + 1) b)
   unfolding change test word
   write-addConf y =
-      column a confPairs (slot r) (r .first) (r .last + 1) (last-slot x r addConf y) (λ i _. in-slots r i) (change x r addConf) (conf-frame x _) (r .a) _
+      column a confPairs (slot r) (r .first) (r .last + 1) (last-slot x r addConf y) (λ i _. in-slots r i) (change x r addConf) (conf-frame x _)
+      (r .a) _
       (ltb-true _ _ (yes x r addConf aBelow refl (y .1 .0))) here
     where
       hb : r .b < S .meetings
@@ -182,7 +186,8 @@ module _ (x : State) (s : Sound x) (r : Request) (b : List ℕ) (a : Carries (x 
       here : (i j k : ℕ) → Cell S confPairs i j k
           → word (change x r addConf) confPairs i j k ≡ cond (slot r i && eqb j (r .a)) (wordIn (full (r .b) (r .info) 0) k) (word x confPairs i j k)
       here i j zero c =
-          pair-added r (λ i j m. isSome (x .conf i j m)) (λ i j m. isSome (C i j m)) (S .meetings) (λ i j. suc) (λ i j. suc) (r .a) (r .b) (λ i j _ u. refl)
+          pair-added r (λ i j m. isSome (x .conf i j m)) (λ i j m. isSome (C i j m)) (S .meetings) (λ i j. suc) (λ i j. suc) (r .a) (r .b)
+          (λ i j _ u. refl)
           (λ i j u. some-or _ (r .info) (x .conf i j u)) hb (r .b + 1) (λ i _. one-more (r .b)) free i j
       here i j (suc zero) c =
           pair-added r (λ i j m. isSome (x .conf i j m)) (λ i j m. isSome (C i j m)) (S .meetings) (λ i j m. infoOf (x .conf i j m))
@@ -191,7 +196,8 @@ module _ (x : State) (s : Sound x) (r : Request) (b : List ℕ) (a : Carries (x 
       here i j (suc (suc k)) c = absurd (omega (arith, c .word))
 
   -- kind 14 and 15: a triple, the item b, holding a with its seats and information
-  module _ (k : Kind) (y : Yes x r k (always ++ further k)) (unit : S .dates ≡ slotsOf S (row k .unit)) (hb : r .b < S .meetings) (new : Option Lunch) where
+  module _ (k : Kind) (y : Yes x r k (always ++ further k)) (unit : S .dates ≡ slotsOf S (row k .unit)) (hb : r .b < S .meetings)
+      (new : Option Lunch) where
     abbrev U : ℕ → ℕ → ℕ → Option Lunch
     U d g m = cond (slot r d && eqb g (r .a) && eqb m (r .b)) new (x .lunch d g m)
 
@@ -203,7 +209,8 @@ module _ (x : State) (s : Sound x) (r : Request) (b : List ℕ) (a : Carries (x 
 
     -- the column, if each word of its cells is as c says
     lunch-column : (c : Content)
-        → ((i j : ℕ) → cell (λ g. isSome (U i g j)) (S .dining) ≡ cond (slot r i && eqb j (r .b)) (c .entry) (cell (λ g. isSome (x .lunch i g j)) (S .dining)))
+        → ((i j : ℕ) → cell (λ g. isSome (U i g j)) (S .dining) ≡ cond (slot r i && eqb j (r .b)) (c .entry)
+        (cell (λ g. isSome (x .lunch i g j)) (S .dining)))
         → ((i j : ℕ) → found (lowest (λ g. isSome (U i g j)) 0 (S .dining)) (λ g. seatsOf (U i g j))
         ≡ cond (slot r i && eqb j (r .b)) (c .second) (found (lowest (λ g. isSome (x .lunch i g j)) 0 (S .dining)) (λ g. seatsOf (x .lunch i g j))))
         → ((i j : ℕ) → found (lowest (λ g. isSome (U i g j)) 0 (S .dining)) (λ g. lunchInfo (U i g j))

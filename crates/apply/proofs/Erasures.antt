@@ -14,10 +14,12 @@ use Rattle.model.specs.declared.Request.{Request}
 use Rattle.model.specs.Bounded.{lowest, found, isSome, within}
 use Rattle.model.specs.Site.{dateOfSession, dateOfTime}
 use Rattle.model.specs.State.{State, Lunch, seatsOf, hotels, rides, attends, confs}
-use Rattle.model.specs.Kinds.{sessions, times, Kind.addLeave, Kind.endLeave, Kind.addStanding, Kind.endStanding, Kind.eraseConf, Kind.eraseConfAndLunch}
+use Rattle.model.specs.Kinds.{sessions, times, Kind.addLeave, Kind.endLeave, Kind.addStanding, Kind.endStanding, Kind.eraseConf}
+use Rattle.model.specs.Kinds.{Kind.eraseConfAndLunch}
 use Rattle.model.specs.Questions.{test, always, further, Question.aBelow, Question.bBelow}
 use Rattle.model.specs.Machine.{change, slot, minus, withLeave, withStanding, withHotel, withRide, withAttend, withConf, withLunch}
-use Rattle.model.specs.Words.{Region, leaves, hotelCells, standings, attendCells, confPairs, lunchTriples, rideCells, slots, word, cell, infoOf, lunchInfo}
+use Rattle.model.specs.Words.{Region, leaves, hotelCells, standings, attendCells, confPairs, lunchTriples, rideCells, slots, word, cell, infoOf}
+use Rattle.model.specs.Words.{lunchInfo}
 use Rattle.model.proofs.Laws.{Sound}
 use Rattle.model.proofs.Places.{Cell}
 use Rattle.model.proofs.Keeps.{Yes, yes, slots-fit}
@@ -100,12 +102,14 @@ module _ {S : Settings} (x : State) {b : List ℕ} (a : Carries S x b) (t : ℕ 
       C i c u = cond (t i && eqb u m) none (x .conf i c u)
 
       here : (i j k : ℕ) → Cell S confPairs i j k
-          → word (withConf x C) confPairs i j k ≡ cond (t i) (cond (eqb (word x confPairs i j 0) (m + 1)) 0 (word x confPairs i j k)) (word x confPairs i j k)
+          → word (withConf x C) confPairs i j k
+          ≡ cond (t i) (cond (eqb (word x confPairs i j 0) (m + 1)) 0 (word x confPairs i j k)) (word x confPairs i j k)
       here i j zero c =
           swept-of (λ u. isSome (x .conf i j u)) (λ u. isSome (C i j u)) (x .settings .meetings) suc suc (t i) m
           (λ u. some-less (t i && eqb u m) (x .conf i j u)) (λ u _. refl) (one i j)
       here i j (suc zero) c =
-          swept-of (λ u. isSome (x .conf i j u)) (λ u. isSome (C i j u)) (x .settings .meetings) (λ u. infoOf (x .conf i j u)) (λ u. infoOf (C i j u)) (t i) m
+          swept-of (λ u. isSome (x .conf i j u)) (λ u. isSome (C i j u)) (x .settings .meetings) (λ u. infoOf (x .conf i j u))
+          (λ u. infoOf (C i j u)) (t i) m
           (λ u. some-less (t i && eqb u m) (x .conf i j u)) (λ u e. ap infoOf (less-same (t i && eqb u m) (x .conf i j u) e)) (one i j)
       here i j (suc (suc k)) c = absurd (omega (arith, c .word))
 
@@ -193,7 +197,8 @@ module _ (x : State) (s : Sound x) (r : Request) (b : List ℕ) (a : Carries (x 
       lunch-column (withConf x _)
       (conf-rows x a (slot r) (r .first) (r .last + 1) (r .b) (last-slot x r eraseConfAndLunch y) (λ i _. in-slots r i) (s .oneB confs refl))
       (within (dateOfSession S (r .first)) (dateOfSession S (r .last))) (dateOfSession S (r .first)) (dateOfSession S (r .last) + 1) (r .b)
-      (ltb-true _ _ (yes x r eraseConfAndLunch bBelow refl (y .1 .1 .0))) last-date (λ i _. up-to (dateOfSession S (r .first)) (dateOfSession S (r .last)) i)
+      (ltb-true _ _ (yes x r eraseConfAndLunch bBelow refl (y .1 .1 .0))) last-date
+      (λ i _. up-to (dateOfSession S (r .first)) (dateOfSession S (r .last)) i)
     where
       last-date : dateOfSession S (r .last) + 1 ≤ S .dates
       last-date = omega (arith, date-lt S (ranges-by S (s .valid)) sessions (r .last) (slots-fit x r eraseConfAndLunch (y .1 .1 .1 .0) .1))

@@ -13,7 +13,7 @@ use Rattle.model.specs.declared.Settings.{Settings}
 use Rattle.model.specs.Bounded.{within}
 use Rattle.model.specs.Site.{dateOfSession, dateOfTime}
 use Rattle.model.specs.State.{State}
-use Rattle.model.specs.Machine.{change, slot, minus}
+use Rattle.model.specs.Machine.{change, minus}
 use Rattle.model.specs.Words.{words}
 use Rattle.model.specs.Reading.{settingsOf, stateOf, readState}
 use Rattle.model.proofs.Search.{bool-eq, and-true, or-cases, within-true}

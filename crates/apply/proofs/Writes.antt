@@ -64,10 +64,12 @@ pub record Writes (S : Settings) (g : Region) (d : ℕ → ℕ → Bool) (f : �
   pub long : (b : List ℕ) → length (F b) ≡ length b
   pub head : (b : List ℕ) → take (settingsLength S) (F b) ≡ take (settingsLength S) b
   pub other : (b : List ℕ) (h : Region) (i j k : ℕ) → Cell S h i j k → among g d h i j ≡ false → at S (F b) h i j k ≡ at S b h i j k
-  pub mine : (b : List ℕ) → length b ≡ bookLength S → (i j k : ℕ) → Cell S g i j k → d i j ≡ true → at S (F b) g i j k ≡ f k (at S b g i j 0) (at S b g i j k)
+  pub mine : (b : List ℕ) → length b ≡ bookLength S → (i j k : ℕ) → Cell S g i j k → d i j ≡ true → at S (F b) g i j k
+      ≡ f k (at S b g i j 0) (at S b g i j k)
 
 -- a cell that is not among those of a test is not among those of a narrower one
-among-less : (g : Region) (d e : ℕ → ℕ → Bool) (h : Region) (i j : ℕ) → (d i j ≡ true → e i j ≡ true) → among g e h i j ≡ false → among g d h i j ≡ false
+among-less : (g : Region) (d e : ℕ → ℕ → Bool) (h : Region) (i j : ℕ) → (d i j ≡ true → e i j ≡ true) → among g e h i j ≡ false → among g d h i j
+    ≡ false
 among-less g d e h i j l q = go (eqb (index h) (index g)) (d i j) refl q
   where
     go : (r t : Bool) → d i j ≡ t → r && e i j ≡ false → r && t ≡ false
@@ -207,7 +209,8 @@ module _ (c : Content) (n : ℕ) where
 
   puts-out : (m : ℕ) (b : List ℕ) (p : ℕ) → ((k : ℕ) → k < m → p ≡ n + k → ⊥) → getD (puts c n m b) p 0 ≡ getD b p 0
   puts-out zero b p off = refl
-  puts-out (suc m) b p off = getD-set-other (puts c n m b) (n + m) p (wordIn c m) 0 (off m (omega arith)) ∙ puts-out m b p (λ k h. off k (omega arith))
+  puts-out (suc m) b p off = getD-set-other (puts c n m b) (n + m) p (wordIn c m) 0 (off m (omega arith))
+      ∙ puts-out m b p (λ k h. off k (omega arith))
 
   puts-in : (m : ℕ) (b : List ℕ) (k : ℕ) → k < m → n + m ≤ length b → getD (puts c n m b) (n + k) 0 ≡ wordIn c k
   puts-in zero b k h l = absurd (omega arith)
@@ -254,7 +257,8 @@ module _ (S : Settings) (g : Region) where
         record {
           long = λ b. length-puts c (place (gridOf S g) i j 0) (width g) b;
           head = λ b. puts-head c (place (gridOf S g) i j 0) (settingsLength S) (width g) b (head-lt i j);
-          other = λ b h i' j' k' cell q. puts-out c (place (gridOf S g) i j 0) (width g) b (address S h i' j' k') (apart d here hi hj h i' j' k' cell q);
+          other = λ b h i' j' k' cell q. puts-out c (place (gridOf S g) i j 0) (width g) b (address S h i' j' k')
+              (apart d here hi hj h i' j' k' cell q);
           mine = λ b l i' j' k cell q.
               rw (only i' j' q .0, only i' j' q .1, place-is i j k)
               (puts-in c (place (gridOf S g) i j 0) (width g) b k (cell .word) (room (record { slot = hi; item = hj; word = cell .word }) b l));
@@ -309,7 +313,8 @@ module _ (S : Settings) (g : Region) (one-word : width g ≡ 1) (on : Bool) (v i
         head = λ b. take-set-le (settingsLength S) b n₀ _ (head-lt S g i (v / 32));
         other = λ b h i' j' k' cell q.
             getD-set-other b n₀ (address S h i' j' k') _ 0
-            (λ e. apart S g d here hi hv h i' j' k' cell q 0 (omega (arith, one-word)) (let z : address S h i' j' k' ≡ n₀ + 0 = omega (arith, e) in z));
+            (λ e. apart S g d here hi hv h i' j' k' cell q 0 (omega (arith, one-word))
+            (let z : address S h i' j' k' ≡ n₀ + 0 = omega (arith, e) in z));
         mine = λ b l i' j' k cell q.
             let z : k ≡ 0 = omega (arith, cell .word, one-word) in
             rw (only i' j' q .0, only i' j' q .1, z)

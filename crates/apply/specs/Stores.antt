@@ -42,7 +42,7 @@ pub record Span (g : Grid) (b : List ℕ) (last : ℕ) : Type 0 where
 -- a grid of one-word cells that lies in the words b and has the slots before `to`
 pub record Single (g : Grid) (b : List ℕ) (to : ℕ) : Type 0 where
   pub lies : Lies g b
-  pub cells : (g .width ≡ 1) × (1 ≤ g .items)
+  pub narrow : g .width ≡ 1
   pub most : to ≤ g .slots
 
 -- kind 9: the meeting's standing, and then its entries in the attend rows

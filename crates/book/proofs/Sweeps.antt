@@ -12,9 +12,9 @@ use lib.Seq.{set-getD, getD-drop, getD-take}
 use Rattle.model.proofs.Search.{any-false}
 use Rattle.book.specs.declared.grid.Grid.{Grid}
 use Rattle.book.specs.declared.puts.Content.{Content}
-use Rattle.book.specs.Grids.{Fits, Index, place, cellAt}
+use Rattle.book.specs.Grids.{Fits, place, cellAt}
 use Rattle.book.specs.Rows.{partCount}
-use Rattle.book.specs.Stores.{times, over, wordIn, empty, puts, stored, cleared, sweptRow, swept, zeroed}
+use Rattle.book.specs.Stores.{Stretch, times, over, wordIn, empty, puts, stored, cleared, sweptRow, swept, zeroed}
 use Rattle.book.proofs.Counts.{any-count}
 use Rattle.book.proofs.Turns.{times-none, times-add, times-from, times-long}
 
@@ -110,19 +110,22 @@ module _ (g : Grid) (one-word : g .width ≡ 1) where
       ∙ sym (times-add (zeroed w) (place g from 0 0) (g .items) (n * g .items) b)
       ∙ ap (λ (k : ℕ). times (zeroed w) (place g from 0 0) k b) z
 
-  -- the rows from `from` to before `to`, the first of them at r
-  module _ (from to r : ℕ) (x : Index g from 0 r) where
-    pub run-is : (w : ℕ) (b : List ℕ) → over (zeroed w) r (r + (to - from) * g .items) b ≡ swept g w from to b
-    unfolding swept
-    run-is w b =
-        let n : r + (to - from) * g .items - r ≡ (to - from) * g .items = omega arith in
-        ap (λ (n : ℕ). times (zeroed w) r n b) n
-        ∙ ap (λ (r : ℕ). times (zeroed w) r ((to - from) * g .items) b) (x .at)
-        ∙ sym (rows-run w from (to - from) b)
+  -- the rows from `from` to before `to` are the words from `start` to before `end`
+  pub run-is : (from to start end : ℕ) → Stretch g from to start end → from ≤ to → (w : ℕ) (b : List ℕ) → over (zeroed w) start end b
+      ≡ swept g w from to b
+  unfolding swept
+  run-is from to start end x l w b =
+      let k : from + (to - from) ≡ to = omega arith in
+      let e : from * g .items + (to - from) * g .items ≡ to * g .items = sym (add-mul from (to - from) (g .items)) ∙ ap (λ (n : ℕ). n * g .items) k in
+      let n : end - start ≡ (to - from) * g .items = omega (arith, x .from, x .to, e) in
+      let p : start ≡ place g from 0 0 = omega (arith, x .from, single (from * g .items + 0)) in
+      ap (λ (n : ℕ). times (zeroed w) start n b) n
+      ∙ ap (λ (r : ℕ). times (zeroed w) r ((to - from) * g .items) b) p
+      ∙ sym (rows-run w from (to - from) b)
 
-    pub run-in : from ≤ to → to ≤ g .slots → (n : ℕ) → Fits g n → (r + (to - from) * g .items ≤ n) × (n ≤ 1000000000)
-    run-in l h n f =
-        let k : from + (to - from) ≡ to = omega arith in
-        let e : from * g .items + (to - from) * g .items ≡ to * g .items = sym (add-mul from (to - from) (g .items)) ∙ ap (λ (n : ℕ). n * g .items) k in
-        let a : to * g .items ≤ g .slots * g .items = mul-le-mul-right (g .items) h in
-        (omega (arith, x .at, single (from * g .items + 0), e, a, single (g .slots * g .items), f .ends), f .small)
+pub stretch-is : (g : Grid) (lo hi n : ℕ) → g .width ≡ 1 → lo ≤ hi → hi ≤ g .slots → Fits g n → Stretch g lo hi (g .base + lo * g .items) (g .base + hi * g .items)
+stretch-is g lo hi n e l h f =
+    let a : lo * g .items ≤ hi * g .items = mul-le-mul-right (g .items) l in
+    let b : hi * g .items ≤ g .slots * g .items = mul-le-mul-right (g .items) h in
+    let c : g .slots * g .items * g .width ≡ g .slots * g .items = ap (λ (w : ℕ). g .slots * g .items * w) e ∙ mul-one (g .slots * g .items) in
+    record { from = refl; to = refl; order = omega (arith, a); room = omega (arith, b, c) }

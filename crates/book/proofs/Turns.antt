@@ -42,13 +42,15 @@ over-split F i m n b h k =
     let z : i + (m - i) ≡ m = omega arith in
     ap (λ (k : ℕ). times F i k b) e ∙ times-add F i (m - i) (n - m) b ∙ ap (λ (k : ℕ). times F k (n - m) (over F i m b)) z
 
-pub times-from : (F G : ℕ → List ℕ → List ℕ) (p i n : ℕ) (b : List ℕ) → ((j : ℕ) (b : List ℕ) → F j b ≡ G (p + j) b) → times F i n b ≡ times G (p + i) n b
+pub times-from : (F G : ℕ → List ℕ → List ℕ) (p i n : ℕ) (b : List ℕ) → ((j : ℕ) (b : List ℕ) → F j b ≡ G (p + j) b) → times F i n b
+    ≡ times G (p + i) n b
 times-from F G p i zero b h = refl
 times-from F G p i (suc n) b h =
     let e : p + suc i ≡ suc (p + i) = omega arith in
     ap (times F (suc i) n) (h i b) ∙ times-from F G p (suc i) n (G (p + i) b) h ∙ ap (λ (k : ℕ). times G k n (G (p + i) b)) e
 
-pub times-long : (F : ℕ → List ℕ → List ℕ) → ((i : ℕ) (b : List ℕ) → length (F i b) ≡ length b) → (i n : ℕ) (b : List ℕ) → length (times F i n b) ≡ length b
+pub times-long : (F : ℕ → List ℕ → List ℕ) → ((i : ℕ) (b : List ℕ) → length (F i b) ≡ length b) → (i n : ℕ) (b : List ℕ) → length (times F i n b)
+    ≡ length b
 times-long F h i zero b = refl
 times-long F h i (suc n) b = times-long F h (suc i) n (F i b) ∙ h i b
 

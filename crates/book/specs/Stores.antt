@@ -1,6 +1,6 @@
 -- What the writing leaves do to a list of words: stores, and their repetition over items and slots.
 -- Assumes nothing.
-use Prim.Native.Nat.{ℕ, zero, suc, _+_, _-_}
+use Prim.Native.Nat.{ℕ, zero, suc, _+_, _*_, _-_, _≤_}
 use mathlib.Core.Path.{_≡_}
 use mathlib.Core.Bool.{cond}
 use mathlib.Core.List.{List}
@@ -58,3 +58,10 @@ swept g w from to b = over (λ i. sweptRow g w i) from to b
 -- a word that is w becomes 0
 unfoldable pub zeroed : ℕ → ℕ → List ℕ → List ℕ
 zeroed w n b = set b n (cond (eqb (getD b n 0) w) 0 (getD b n 0))
+
+-- the rows of the slots from lo to before hi, cells of one word one behind the other, are the words from `start` to before `end`
+pub record Stretch (g : Grid) (lo hi start end : ℕ) : Type 0 where
+  pub from : start ≡ g .base + lo * g .items
+  pub to : end ≡ g .base + hi * g .items
+  pub order : start ≤ end
+  pub room : end ≤ g .base + g .slots * g .items * g .width

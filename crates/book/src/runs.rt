@@ -1,6 +1,5 @@
 // Rows of one-word cells stand one behind the other: a run of them is a run of words, which the compiler takes several at once.
 use crate::grid::Grid;
-use crate::grid::at;
 use crate::rows::part_count;
 ghost use mathlib.Core.Path.{_≡_};
 ghost use mathlib.Core.Bool.{cond};
@@ -8,7 +7,8 @@ ghost use Prim.Native.Nat.{_≤_};
 ghost use lib.Dec.{eqb};
 ghost use lib.ListN.{length};
 ghost use Rattle.book.specs.Lent.{reading, Lies};
-ghost use Rattle.book.specs.Stores.{over, zeroed, swept, Wrote};
+ghost use Rattle.book.specs.Grids.{Fits};
+ghost use Rattle.book.specs.Stores.{Stretch, over, zeroed, swept, Wrote};
 
 // How many words are looked at before any of them is written.
 const BLOCK: usize = 64;
@@ -60,17 +60,38 @@ fn clear_run(book: &mut [u32], w: u32, start: usize, end: usize)
     clear_block(book, w, n, end);
 }
 
+// The words from `start` to before `end`.
+pub struct Extent {
+    pub start: usize,
+    pub end: usize,
+}
+
+// Where the rows of the slots from lo to before hi stand, of one-word cells.
+fn rows_extent(g: Grid, lo: u32, hi: u32) -> Extent
+    requires { ⌜ Fits g 1000000000 ⌝ }
+    requires { ⌜ g .width ≡ 1 ⌝ }
+    requires { ⌜ (lo ≤ hi) × (hi ≤ g .slots) ⌝ }
+    ensures { λ r. ⌜ Stretch g lo hi (r .start) (r .end) ⌝ }
+{
+    let items = g.items as usize;
+    Extent {
+        start: g.base + (lo as usize) * items,
+        end: g.base + (hi as usize) * items,
+    }
+}
+
 // Every cell that holds w in the slots from `from` to before `to`, of one-word cells.
 pub fn sweep_run(book: &mut [u32], g: Grid, w: u32, from: u32, to: u32)
     requires { ⌜ Lies g (reading (now book)) ⌝ }
-    requires { ⌜ (g .width ≡ 1) × (1 ≤ g .items) ⌝ }
+    requires { ⌜ g .width ≡ 1 ⌝ }
     requires { ⌜ to ≤ g .slots ⌝ }
     ensures { λ _. ⌜ Wrote (swept g w from to) (reading (now (book .entry))) (reading (now (book .exit))) ⌝ }
 {
     if to <= from {
         return;
     }
-    let start = at(g, from, 0);
-    let end = start + ((to - from) as usize) * (g.items as usize);
+    let run = rows_extent(g, from, to);
+    let start = run.start;
+    let end = run.end;
     clear_run(book, w, start, end);
 }

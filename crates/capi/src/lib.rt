@@ -104,7 +104,10 @@ pub extern "C" fn caviar_requests(
     requests: &[u32],
     answers: &mut [u32],
 ) -> AnswerWords
-    ensures { λ r. ⌜ TellsList (Calls.callList (now (book .entry)) (now (requests .entry)) (now (answers .entry))) r (now (book .exit)) (now (answers .exit)) ⌝ }
+    ensures { λ r. ⌜
+        TellsList (Calls.callList (now (book .entry)) (now (requests .entry)) (now (answers .entry)))
+        r (now (book .exit)) (now (answers .exit))
+        ⌝ }
 {
     told(list::requests(book, requests, answers))
 }
@@ -117,7 +120,10 @@ pub extern "C" fn caviar_serve(
     requests: &[u32],
     answers: &mut [u32],
 ) -> AnswerWords
-    ensures { λ r. ⌜ TellsList (Calls.serveList (now (settings .entry)) (now (book .entry)) (now (requests .entry)) (now (answers .entry))) r (now (book .exit)) (now (answers .exit)) ⌝ }
+    ensures { λ r. ⌜
+        TellsList (Calls.serveList (now (settings .entry)) (now (book .entry)) (now (requests .entry)) (now (answers .entry)))
+        r (now (book .exit)) (now (answers .exit))
+        ⌝ }
 {
     told(list::serve(settings, book, requests, answers))
 }

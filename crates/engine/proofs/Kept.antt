@@ -43,7 +43,11 @@ module _ {S : Settings} {b : List ℕ} (good : Good S b) where
 
   -- the first of a list of requests
   pub good-calls : (r : Request) (cs : List Call) → calls b (request r ∷ cs)
-      ≡ record { answers = step (stateOf b) r .answer ∷ calls (words (step (stateOf b) r .state)) cs .answers; book = calls (words (step (stateOf b) r .state)) cs .book }
+      ≡ record {
+        answers = step (stateOf b) r .answer ∷ calls (words (step (stateOf b) r .state)) cs .answers;
+        book = calls
+            (words (step (stateOf b) r .state)) cs .book;
+      }
   unfolding calls
   good-calls r cs = ap (λ (c : Called). record { answers = c .answer ∷ calls (c .book) cs .answers; book = calls (c .book) cs .book }) (good-call r)
 

@@ -51,7 +51,8 @@ pub record Left (w : List ℕ) (n : ℕ) (b₀ a₀ : List ℕ) (i : ℕ) (b a :
   pub most : i ≤ n
   pub long : length a ≡ length a₀
   pub book : calls b (requestsOf (n - i) (drop (i * 7) w)) .book ≡ calls b₀ (requestsOf n w) .book
-  pub answers : take (i * 3) a ++ answersWords (calls b (requestsOf (n - i) (drop (i * 7) w)) .answers) ≡ answersWords (calls b₀ (requestsOf n w) .answers)
+  pub answers : take (i * 3) a ++ answersWords (calls b (requestsOf (n - i) (drop (i * 7) w)) .answers)
+      ≡ answersWords (calls b₀ (requestsOf n w) .answers)
   pub behind : drop (i * 3) a ≡ drop (i * 3) a₀
 
 pub left-start : (w : List ℕ) (n : ℕ) (b a : List ℕ) → Left w n b a 0 b a
@@ -115,7 +116,8 @@ module _ (S : Settings) (w : List ℕ) (n : ℕ) (b₀ a₀ : List ℕ) (i : ℕ
   left-turn =
       record {
         most = omega arith;
-        long = ap length (one .answers) ∙ spliced-length a (i * 3) fits (answerWords (step (stateOf b) r .answer)) (three (step (stateOf b) r .answer)) ∙ l .long;
+        long = ap length (one .answers)
+            ∙ spliced-length a (i * 3) fits (answerWords (step (stateOf b) r .answer)) (three (step (stateOf b) r .answer)) ∙ l .long;
         book = sym (ap (λ (c : Calls). c .book) taken) ∙ l .book;
         answers =
             ap (λ (v : List ℕ). v ++ answersWords (calls b′ rest .answers)) written
@@ -134,6 +136,7 @@ left-end w n b₀ a₀ i b a h l =
       book = sym (ap (λ (k : ℕ). calls b (requestsOf k (drop (i * 7) w)) .book) e) ∙ l .book;
       answers =
           sym (take-append-drop (i * 3) a)
-          ∙ ap₂ _++_ (sym (append-nil (take (i * 3) a)) ∙ sym (ap (λ (k : ℕ). take (i * 3) a ++ answersWords (calls b (requestsOf k (drop (i * 7) w)) .answers)) e) ∙ l .answers)
+          ∙ ap₂ _++_ (sym (append-nil (take (i * 3) a))
+          ∙ sym (ap (λ (k : ℕ). take (i * 3) a ++ answersWords (calls b (requestsOf k (drop (i * 7) w)) .answers)) e) ∙ l .answers)
           (l .behind ∙ ap (λ (k : ℕ). drop k a₀) q);
     }

@@ -61,7 +61,8 @@ module _ (w a : List ℕ) {n : ℕ} (e : n ≡ answerable w a) {b b′ a′ : Li
       ap₂ (asListed (Done n)) (all .book) (all .answers)
       ∙ ap (λ (k : ℕ). listed k a (calls b (requestsOf k w))) e
 
-pub requests-done : (b w a : List ℕ) {v n : ℕ} {b′ a′ : List ℕ} → check b ≡ Done v → n ≡ answerable w a → All w n b a b′ a′ → asListed (Done n) b′ a′ ≡ callList b w a
+pub requests-done : (b w a : List ℕ) {v n : ℕ} {b′ a′ : List ℕ} → check b ≡ Done v → n ≡ answerable w a → All w n b a b′ a′
+    → asListed (Done n) b′ a′ ≡ callList b w a
 unfolding callList
 requests-done b w a {v} e q all = let g = done-good b v e in rw (g .laid, g .lawful) (all-listed w a q all)
 

@@ -133,14 +133,17 @@ pub fn requests(book: &mut [u32], list: &[u32], answers: &mut [u32]) -> Answer
 
 // Lays the book and answers the list: the answers and every word of the book are the diary machine's.
 pub fn serve(words: &[u32], book: &mut [u32], list: &[u32], answers: &mut [u32]) -> Answer
-    ensures { λ r. ⌜ asListed r (now (book .exit)) (now (answers .exit)) ≡ serveList (now (words .entry)) (now (book .entry)) (now (list .entry)) (now (answers .entry)) ⌝ }
+    ensures { λ r. ⌜
+        asListed r (now (book .exit)) (now (answers .exit))
+        ≡ serveList (now (words .entry)) (now (book .entry)) (now (list .entry)) (now (answers .entry))
+        ⌝ }
 {
     let laid = lay(words, book);
     if let Answer::Refused { number, place } = laid {
         return Answer::Refused { number, place };
     }
     let s = settings(words);
-    let n = answerable_in(list.len(), answers.len());
-    answer_all(book, s, list, answers, n);
-    Answer::Done(n as u32)
+    let count = answerable_in(list.len(), answers.len());
+    answer_all(book, s, list, answers, count);
+    Answer::Done(count as u32)
 }

@@ -61,7 +61,11 @@ add-requires c κs = let s = c .before .before .before in
     let w : Known (a .s) (reading (a .book .now)) (a .g) (a .r) addHotel
     = record { good = s .pre .0; grids = s .pre .1 .0; done = s .pre .1 .1; kind = ap kindOf (c .before .match .keys4) } in (
       span w hotelCells (λ g. g .hotel) refl refl,
-      (item w hotelCells (λ g. g .hotel) refl (a .r .a) (a-ok w (a .s .hotels) refl), omega (arith, laid w .ranges .visitors, b-ok w (a .s .visitors) refl)),
+      (
+        item w hotelCells (λ g. g .hotel) refl (a .r .a) (a-ok w (a .s .hotels) refl),
+        omega
+            (arith, laid w .ranges .visitors, b-ok w (a .s .visitors) refl),
+      ),
     )
 
 take-requires : tie.Need-take-requires
@@ -79,7 +83,11 @@ add-requires-2 c κs = let s = c .before .before .before in
     let w : Known (a .s) (reading (a .book .now)) (a .g) (a .r) addRide
     = record { good = s .pre .0; grids = s .pre .1 .0; done = s .pre .1 .1; kind = ap kindOf (c .before .match .keys6) } in (
       span w rideCells (λ g. g .ride) refl refl,
-      (item w rideCells (λ g. g .ride) refl (a .r .a) (a-ok w (a .s .transports) refl), omega (arith, laid w .ranges .visitors, b-ok w (a .s .visitors) refl)),
+      (
+        item w rideCells (λ g. g .ride) refl (a .r .a) (a-ok w (a .s .transports) refl),
+        omega
+            (arith, laid w .ranges .visitors, b-ok w (a .s .visitors) refl),
+      ),
     )
 
 take-requires-2 : tie.Need-take-requires-2
@@ -125,7 +133,11 @@ add-requires-3 c κs = let s = c .before .before .before in
     let w : Known (a .s) (reading (a .book .now)) (a .g) (a .r) addAttend
     = record { good = s .pre .0; grids = s .pre .1 .0; done = s .pre .1 .1; kind = ap kindOf (c .before .match .keys10) } in (
       span w attendCells (λ g. g .attend) refl refl,
-      (item w attendCells (λ g. g .attend) refl (a .r .b) (b-ok w (a .s .visitors) refl), omega (arith, laid w .ranges .meetings, a-ok w (a .s .meetings) refl)),
+      (
+        item w attendCells (λ g. g .attend) refl (a .r .b) (b-ok w (a .s .visitors) refl),
+        omega
+            (arith, laid w .ranges .meetings, a-ok w (a .s .meetings) refl),
+      ),
     )
 
 take-requires-3 : tie.Need-take-requires-3
@@ -143,7 +155,11 @@ add-requires-4 c κs = let s = c .before .before .before in
     let w : Known (a .s) (reading (a .book .now)) (a .g) (a .r) addConf
     = record { good = s .pre .0; grids = s .pre .1 .0; done = s .pre .1 .1; kind = ap kindOf (c .before .match .keys12) } in (
       span w confPairs (λ g. g .conf) refl refl,
-      (item w confPairs (λ g. g .conf) refl (a .r .a) (a-ok w (a .s .rooms) refl), omega (arith, laid w .ranges .meetings, b-ok w (a .s .meetings) refl)),
+      (
+        item w confPairs (λ g. g .conf) refl (a .r .a) (a-ok w (a .s .rooms) refl),
+        omega
+            (arith, laid w .ranges .meetings, b-ok w (a .s .meetings) refl),
+      ),
     )
 
 drop-requires : tie.Need-drop-requires
@@ -161,7 +177,11 @@ add-requires-5 c κs = let s = c .before .before .before in
     let w : Known (a .s) (reading (a .book .now)) (a .g) (a .r) addLunch
     = record { good = s .pre .0; grids = s .pre .1 .0; done = s .pre .1 .1; kind = ap kindOf (c .before .match .keys14) } in (
       span w lunchTriples (λ g. g .lunch) refl refl,
-      (item w lunchTriples (λ g. g .lunch) refl (a .r .b) (b-ok w (a .s .meetings) refl), omega (arith, laid w .ranges .dining, a-ok w (a .s .dining) refl)),
+      (
+        item w lunchTriples (λ g. g .lunch) refl (a .r .b) (b-ok w (a .s .meetings) refl),
+        omega
+            (arith, laid w .ranges .dining, a-ok w (a .s .dining) refl),
+      ),
     )
 
 take-requires-4 : tie.Need-take-requires-4

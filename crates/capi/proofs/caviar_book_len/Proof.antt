@@ -1,4 +1,4 @@
--- `caviar_book_len` meets its contract, which says in the model's words what `book_len` ensures.
+-- `caviar_book_len`: what `book_len` ensures, in the model's words.
 -- Assumes nothing.
 use Rattle.book.specs.Heads.{neededLength}
 use borrow.Author.Needs.{needs}

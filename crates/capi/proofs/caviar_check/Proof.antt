@@ -1,4 +1,4 @@
--- `caviar_check` meets its contract: checking's own, with the answer in words.
+-- `caviar_check`: checking's own, with the answer in words.
 -- Assumes nothing.
 use mathlib.Core.Path.{_∙_, ap}
 use Rattle.model.specs.Machine.{answerWords}

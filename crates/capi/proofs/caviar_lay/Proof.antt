@@ -1,4 +1,4 @@
--- `caviar_lay` meets its contract: laying's own, with the answer in words.
+-- `caviar_lay`: laying's own, with the answer in words.
 -- Assumes nothing.
 use mathlib.Core.Path.{_∙_, ap}
 use Rattle.model.specs.Machine.{answerWords}

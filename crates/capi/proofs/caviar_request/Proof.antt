@@ -1,4 +1,4 @@
--- `caviar_request` meets its contract: the request's own, with its words and the answer's.
+-- `caviar_request`: the request's own, with its words and the answer's.
 -- Assumes nothing.
 use mathlib.Core.Path.{_∙_, ap}
 use Rattle.model.specs.Machine.{answerWords}

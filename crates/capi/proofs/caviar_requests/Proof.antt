@@ -1,4 +1,4 @@
--- `caviar_requests` meets its contract: the list's own, with the answer in words.
+-- `caviar_requests`: the list's own, with the answer in words.
 -- Assumes nothing.
 use mathlib.Core.Path.{_∙_, ap}
 use Rattle.model.specs.Machine.{answerWords}

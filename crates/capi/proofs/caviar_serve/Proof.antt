@@ -1,4 +1,4 @@
--- `caviar_serve` meets its contract: serving's own, with the answer in words.
+-- `caviar_serve`: serving's own, with the answer in words.
 -- Assumes nothing.
 use mathlib.Core.Path.{_∙_, ap}
 use Rattle.model.specs.Machine.{answerWords}

@@ -1,4 +1,4 @@
--- `told` meets its contract, by the answer's cases.
+-- `told`: by the answer's cases.
 -- Assumes nothing.
 use mathlib.Core.Path.{sym, ap}
 use Rattle.model.specs.Machine.{answerWords}

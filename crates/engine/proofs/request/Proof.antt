@@ -32,7 +32,8 @@ settings-requires c κs = search needs
 answer-one-requires : tie.Need-answer-one-requires
 answer-one-requires c κs =
     let a = c .before .before .before .before .before .before .before .before .args in
-    rw (c .before .settings .ensures) (done-good (a .book .now) _ (sym (c .before .before .before .before .before .check .ensures) ∙ c .before .before .before .enum-told .given .1))
+    rw (c .before .settings .ensures)
+    (done-good (a .book .now) _ (sym (c .before .before .before .before .before .check .ensures) ∙ c .before .before .before .enum-told .given .1))
 
 same-length-2 : tie.Need-same-length-2
 same-length-2 c = search needs
@@ -41,7 +42,10 @@ returns-2 : tie.Need-returns-2
 returns-2 c =
     let a = c .before .before .before .before .before .before .before .before .before .before .before .args in
     with-removal (a .book .now) (a .r) _ _
-    (c .before .before .answer-one .ensures ∙ sym (good-call (done-good (a .book .now) _ (sym (c .before .before .before .before .before .before .before .before .check .ensures) ∙ c .before .before .before .before .before .before .enum-told .given .1)) (a .r)))
+    (c .before .before .answer-one .ensures
+    ∙ sym (good-call (done-good (a .book .now) _
+    (sym (c .before .before .before .before .before .before .before .before .check .ensures)
+    ∙ c .before .before .before .before .before .before .enum-told .given .1)) (a .r)))
 
 pub request-spec : {M : Type 1} → statement M
 request-spec =

@@ -1,4 +1,4 @@
--- `bits::flip` meets its contract: the bit set or cleared.
+-- `bits::flip`: the bit set or cleared.
 -- Assumes nothing.
 use borrow.Author.Needs.{needs}
 use Rattle.apply.proofs.bits.flip.Statement.{statement}

@@ -30,7 +30,8 @@ returns c =
     record {
       is = w .is
           ∙ ap (λ (w : ℕ). replaced (a .g) w (a .slot) (a .v / 32) b) (c .before .before .before .before .flip .ensures)
-          ∙ ap (λ (w : ℕ). replaced (a .g) (flipped (a .on) w (a .v % 32)) (a .slot) (a .v / 32) b) (c .before .before .before .before .before .cell .ensures);
+          ∙ ap (λ (w : ℕ). replaced (a .g) (flipped (a .on) w (a .v % 32)) (a .slot) (a .v / 32) b)
+          (c .before .before .before .before .before .cell .ensures);
       stays = w .stays;
     }
 

@@ -38,7 +38,7 @@ sweep-run-requires c κs =
     let q : Single (a .g .hotel) _ (a .date .0 + 1)
     = single-of (a .s) (reading (a .book .now)) (s .pre .0) hotelCells (a .g .hotel) (ap (λ (g : Grids). g .hotel) (s .pre .1 .0)) _
     (c .before .before .before .before .before .turn .ensures .stays) refl (a .date .0 + 1) (omega (arith, s .pre .1 .1 .1)) in
-    (q .lies, (q .cells, q .most))
+    (q .lies, (q .narrow, q .most))
 
 times-on-requires : tie.Need-times-on-requires
 times-on-requires c κs = search needs
@@ -48,36 +48,48 @@ add-sweep-run-3 c = search needs
 
 sweep-run-requires-2 : tie.Need-sweep-run-requires-2
 sweep-run-requires-2 c κs =
-    let s = c .before .before .before .before .before .before .before .before .before .before .before .before .before .before in
+    let hotel = c .before .before .before .before .before in
+    let leave = hotel .before .before .before .before .before .before in
+    let s = leave .before .before .before in
     let a = s .args in
     let q : Single (a .g .ride) _ _
     = single-of (a .s) (reading (a .book .now)) (s .pre .0) rideCells (a .g .ride) (ap (λ (g : Grids). g .ride) (s .pre .1 .0)) _
-    (wrote-then (c .before .before .before .before .before .before .before .before .before .before .before .turn .ensures) (c .before .before .before .before .before .sweep-run .ensures) .stays) refl _ (c .before .before .times-on .ensures .ends .most) in
-    (q .lies, (q .cells, q .most))
+    (wrote-then (leave .turn .ensures) (hotel .sweep-run .ensures) .stays) refl _ (c .before .before .times-on .ensures .ends .most) in
+    (q .lies, (q .narrow, q .most))
 
 sessions-on-requires : tie.Need-sessions-on-requires
 sessions-on-requires c κs = search needs
 
 fill-requires : tie.Need-fill-requires
 fill-requires c κs =
-    let s = c .before .before .before .before .before .before .before .before .before .before .before .before .before .before .before .before .before .before .before in
+    let ride = c .before .before .before .before in
+    let hotel = ride .before .before .before .before .before .before in
+    let leave = hotel .before .before .before .before .before .before in
+    let s = leave .before .before .before in
     let a = s .args in
     let e = ap (λ (g : Grids). g .attend) (s .pre .1 .0) in
+    let w = wrote-then (leave .turn .ensures) (wrote-then (hotel .sweep-run .ensures) (ride .sweep-run2 .ensures)) in
     let q : Single (a .g .attend) _ _
-    = single-of (a .s) (reading (a .book .now)) (s .pre .0) attendCells (a .g .attend) e _
-    (wrote-then (c .before .before .before .before .before .before .before .before .before .before .before .before .before .before .before .before .turn .ensures) (wrote-then (c .before .before .before .before .before .before .before .before .before .before .sweep-run .ensures) (c .before .before .before .before .sweep-run2 .ensures)) .stays) refl _ (c .before .sessions-on .ensures .ends .most) in
-    (q .lies, (omega (arith, q .cells .0), (q .most, item-of (a .s) attendCells (a .g .attend) e (a .v) (s .pre .1 .1 .0))))
+    = single-of (a .s) (reading (a .book .now)) (s .pre .0) attendCells (a .g .attend) e _ (w .stays) refl _ (c .before .sessions-on .ensures .ends .most) in
+    (q .lies, (omega (arith, q .narrow), (q .most, item-of (a .s) attendCells (a .g .attend) e (a .v) (s .pre .1 .1 .0))))
 
 same-length : tie.Need-same-length
-same-length c = c .before .before .fill .kept .0 ∙ c .before .before .before .before .before .before .before .sweep-run2 .kept .0 ∙ c .before .before .before .before .before .before .before .before .before .before .before .before .before .sweep-run .kept .0 ∙ c .before .before .before .before .before .before .before .before .before .before .before .before .before .before .before .before .before .before .before .turn .kept .0
+same-length c =
+    let ride = c .before .before .before .before .before .before .before in
+    let hotel = ride .before .before .before .before .before .before in
+    let leave = hotel .before .before .before .before .before .before in
+    c .before .before .fill .kept .0 ∙ ride .sweep-run2 .kept .0 ∙ hotel .sweep-run .kept .0 ∙ leave .turn .kept .0
 
 returns : tie.Need-returns
 returns c =
-    let s = c .before .before .before .before .before .before .before .before .before .before .before .before .before .before .before .before .before .before .before .before .before .before in
+    let ride = c .before .before .before .before .before .before .before in
+    let hotel = ride .before .before .before .before .before .before in
+    let leave = hotel .before .before .before .before .before .before in
+    let s = leave .before .before .before in
     let a = s .args in
     let t = c .before .before .before .before .before .before .before .before .before .before .times-on in
     let u = c .before .before .before .before .sessions-on in
-    let w = wrote-then (wrote-then (c .before .before .before .before .before .before .before .before .before .before .before .before .before .before .before .before .before .before .before .turn .ensures) (c .before .before .before .before .before .before .before .before .before .before .before .before .before .sweep-run .ensures)) (wrote-then (c .before .before .before .before .before .before .before .sweep-run2 .ensures) (c .before .before .fill .ensures)) in
+    let w = wrote-then (wrote-then (leave .turn .ensures) (hotel .sweep-run .ensures)) (wrote-then (ride .sweep-run2 .ensures) (c .before .before .fill .ensures)) in
     record {
       lo = t .result .from .0;
       hi = t .result .to .0;

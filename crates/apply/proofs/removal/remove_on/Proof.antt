@@ -26,7 +26,8 @@ same-length-2 : tie.Need-same-length-2
 same-length-2 c = search needs
 
 returns-2 : tie.Need-returns-2
-returns-2 c = let p = c .before .before .before .before .before .before .before .before .pre in erased-is (p .0) (p .1 .1 .0) (p .1 .1 .1) (c .before .before .erase .ensures)
+returns-2 c = let p = c .before .before .before .before .before .before .before .before .pre in
+    erased-is (p .0) (p .1 .1 .0) (p .1 .1 .1) (c .before .before .erase .ensures)
 
 pub remove-on-spec : {M : Type 1} → statement M
 remove-on-spec =

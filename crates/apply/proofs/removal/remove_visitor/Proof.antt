@@ -36,8 +36,12 @@ loop-less c = omega (arith, c .after .ensures, c .before .before .before .before
 
 loop-again : tie.Need-loop-again Inv-loop μ-loop
 loop-again c =
-    let l = c .before .before .before .before .before .before .before .before .loop in
-    (c .before .before .before .remove-on .kept .0 ∙ l .inv .0, rw (c .after .ensures) (removing-next (l .inv .1) (c .before .before .before .before .before .if1 .taken) (c .before .before .before .remove-on .ensures)))
+    let l = c .before .before .before .before .before .before .before .before .loop in (
+      c .before .before .before .remove-on .kept .0
+          ∙ l .inv .0,
+      rw (c .after .ensures)
+          (removing-next (l .inv .1) (c .before .before .before .before .before .if1 .taken) (c .before .before .before .remove-on .ensures)),
+    )
 
 same-length : tie.Need-same-length Inv-loop μ-loop
 same-length c = search needs

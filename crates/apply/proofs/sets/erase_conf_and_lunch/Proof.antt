@@ -46,7 +46,8 @@ take-requires c κs =
     let a = s .args in
     let e = ap (λ (g : Grids). g .lunch) (s .pre .1 .0) in
     let q = last-of (a .s) (a .g .conf) (ap (λ (g : Grids). g .conf) (s .pre .1 .0)) (a .last .0) (s .pre .1 .1 .0) in (
-      span-of (a .s) (reading (a .book .now)) (s .pre .0) lunchTriples (a .g .lunch) e _ (c .before .before .before .before .before .drop .ensures .stays) _
+      span-of (a .s) (reading (a .book .now)) (s .pre .0) lunchTriples (a .g .lunch) e _
+          (c .before .before .before .before .before .drop .ensures .stays) _
           (omega (arith, c .before .date-of-session2 .ensures, date-lt (a .s) (s .pre .0 .ranges) sessions (a .last .0) q)),
       item-of (a .s) lunchTriples (a .g .lunch) e (a .b) (s .pre .1 .1 .1),
     )
@@ -61,8 +62,10 @@ returns c =
     let x = swept (a .g .conf) (a .b + 1) (a .first .0) (a .last .0 + 1) (reading (a .book .now)) in
     record {
       is = w .is
-          ∙ ap (λ (d : ℕ). filled (a .g .lunch) (a .b) empty d (c .before .before .before .before .date-of-session2 .result .0 + 1) x) (c .before .before .before .before .before .date-of-session .ensures)
-          ∙ ap (λ (d : ℕ). filled (a .g .lunch) (a .b) empty (dateOfSession (a .s) (a .first .0)) (d + 1) x) (c .before .before .before .before .date-of-session2 .ensures);
+          ∙ ap (λ (d : ℕ). filled (a .g .lunch) (a .b) empty d (c .before .before .before .before .date-of-session2 .result .0 + 1) x)
+          (c .before .before .before .before .before .date-of-session .ensures)
+          ∙ ap (λ (d : ℕ). filled (a .g .lunch) (a .b) empty (dateOfSession (a .s) (a .first .0)) (d + 1) x)
+          (c .before .before .before .before .date-of-session2 .ensures);
       stays = w .stays;
     }
 

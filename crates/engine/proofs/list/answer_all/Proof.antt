@@ -1,4 +1,4 @@
--- `list::answer_all` meets its contract: what is left of the list gives the rest.
+-- `list::answer_all`: what is left of the list gives the rest.
 -- Assumes nothing.
 use Prim.Native.Nat.{_*_, _-_}
 use mathlib.Core.Path.{sym, _∙_, subst}
@@ -40,7 +40,8 @@ loop-again c =
     let l = c .before .before .before .before .before .before .before .before .loop in
     let e = c .before .before .before .before .answer-at .ensures in (
       subst (Good (a .s)) (sym (e .book)) (good-step (l .inv .0) (requestOf (drop (l .i * 7) (a .list .now)))),
-      left-turn (a .s) (a .list .now) (a .n) _ _ (l .i) _ _ _ _ (l .inv .0) (c .before .before .before .before .before .before .before .loop-test .taken) (s .pre .1 .1) (l .inv .1) e,
+      left-turn (a .s) (a .list .now) (a .n) _ _ (l .i) _ _ _ _ (l .inv .0)
+          (c .before .before .before .before .before .before .before .loop-test .taken) (s .pre .1 .1) (l .inv .1) e,
     )
 
 same-length : tie.Need-same-length Inv-loop μ-loop

@@ -1,4 +1,4 @@
--- `list::answer_at` meets its contract.
+-- `list::answer_at`: one step, and its answer in its place.
 -- Assumes nothing.
 use Prim.Native.Nat.{_*_}
 use mathlib.Core.Path.{_∙_, ap}
@@ -33,10 +33,13 @@ returns : tie.Need-returns
 unfolding reading
 returns c =
     let a = c .before .before .before .before .before .before .before .before .before .before .before .before .args in
-    let e = c .before .before .before .before .before .before .step .ensures ∙ ap (λ (r : Request). called (step (stateOf (a .book .now)) r)) (c .before .before .before .before .before .before .before .before .request-at .ensures) in
+    let e = c .before .before .before .before .before .before .step .ensures
+    ∙ ap (λ (r : Request). called (step (stateOf (a .book .now)) r))
+    (c .before .before .before .before .before .before .before .before .request-at .ensures) in
     record {
       book = ap (λ (c : Called). c .book) e;
-      answers = c .before .before .put-answer .ensures ∙ ap (λ (x : Answer). spliced (a .answers .now) (a .i * 3) (answerWords x)) (ap (λ (c : Called). c .answer) e);
+      answers = c .before .before .put-answer .ensures
+          ∙ ap (λ (x : Answer). spliced (a .answers .now) (a .i * 3) (answerWords x)) (ap (λ (c : Called). c .answer) e);
     }
 
 pub answer-at-spec : {M : Type 1} → statement M

@@ -1,4 +1,4 @@
--- `list::answerable_in` meets its contract.
+-- `list::answerable_in`: the least of the three numbers.
 -- Assumes nothing.
 use Prim.Native.Nat.{_-_}
 use mathlib.Core.Logic.{⊎-elim}

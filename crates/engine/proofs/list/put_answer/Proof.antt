@@ -1,4 +1,4 @@
--- `list::put_answer` meets its contract: the three words of the answer, by its case.
+-- `list::put_answer`: the three words of the answer, by its case.
 -- Assumes nothing.
 use Prim.Native.Nat.{_-_}
 use borrow.Author.Needs.{needs}

@@ -1,4 +1,4 @@
--- `list::put_words` meets its contract.
+-- `list::put_words`: three writes in a row.
 -- Assumes nothing.
 use Prim.Native.Nat.{_*_, _-_}
 use native.Mathlib.Omega.{arith}

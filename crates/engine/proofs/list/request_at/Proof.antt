@@ -1,4 +1,4 @@
--- `list::request_at` meets its contract: seven words from the request's place.
+-- `list::request_at`: seven words from the request's place.
 -- Assumes nothing.
 use Prim.Native.Nat.{ℕ, _+_, _*_, _-_}
 use mathlib.Core.Path.{_≡_, sym, _∙_, ap}

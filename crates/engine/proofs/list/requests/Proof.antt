@@ -1,4 +1,4 @@
--- `list::requests` meets its contract: checked once, then each request in turn.
+-- `list::requests`: checked once, then each request in turn.
 -- Assumes nothing.
 use mathlib.Core.Path.{sym, _∙_}
 use native.Mathlib.Omega.{arith}
@@ -35,7 +35,9 @@ answer-all-requires : tie.Need-answer-all-requires
 answer-all-requires c κs =
     let a = c .before .before .before .before .before .before .before .before .before .before .before .before .args in
     let n = c .before .before .answerable-in .ensures in (
-      rw (c .before .before .before .settings .ensures) (done-good (a .book .now) _ (sym (c .before .before .before .before .before .before .before .check .ensures) ∙ c .before .before .before .before .before .enum-told .given .1)),
+      rw (c .before .before .before .settings .ensures)
+          (done-good (a .book .now) _ (sym (c .before .before .before .before .before .before .before .check .ensures)
+          ∙ c .before .before .before .before .before .enum-told .given .1)),
       (omega (arith, n), omega (arith, n)),
     )
 
@@ -50,8 +52,12 @@ same-length-3 c = search needs
 
 returns-2 : tie.Need-returns-2
 returns-2 c =
-    let a = c .before .before .before .before .before .before .before .before .before .before .before .before .before .before .before .before .before .args in
-    requests-done (a .book .now) (a .list .now) (a .answers .now) (sym (c .before .before .before .before .before .before .before .before .before .before .before .before .check .ensures) ∙ c .before .before .before .before .before .before .before .before .before .before .enum-told .given .1) (c .before .before .before .before .before .before .before .answerable-in .ensures) (c .before .before .before .before .answer-all .ensures)
+    let s = c .before .before .before .before .before .before .before .before in
+    let a = s .before .before .before .before .before .before .before .before .before .args in
+    requests-done (a .book .now) (a .list .now) (a .answers .now)
+    (sym (c .before .before .before .before .before .before .before .before .before .before .before .before .check .ensures)
+    ∙ c .before .before .before .before .before .before .before .before .before .before .enum-told .given .1)
+    (c .before .before .before .before .before .before .before .answerable-in .ensures) (c .before .before .before .before .answer-all .ensures)
 
 pub requests-spec : {M : Type 1} → statement M
 requests-spec =

@@ -1,4 +1,4 @@
--- `list::serve` meets its contract: laid, then each request in turn.
+-- `list::serve`: laid, then each request in turn.
 -- Assumes nothing.
 use mathlib.Core.Path.{refl, sym, _∙_, ap₂}
 use native.Mathlib.Omega.{arith}
@@ -20,7 +20,8 @@ same-length c = search needs
 returns : tie.Need-returns
 returns c =
     let a = c .before .before .before .before .before .before .before .before .before .before .before .args in
-    serve-refused (a .words .now) (a .book .now) (a .list .now) (a .answers .now) (ap₂ answered (sym (c .before .laid .given .1)) refl ∙ c .before .before .before .before .before .lay .ensures)
+    serve-refused (a .words .now) (a .book .now) (a .list .now) (a .answers .now)
+    (ap₂ answered (sym (c .before .laid .given .1)) refl ∙ c .before .before .before .before .before .lay .ensures)
 
 enum-told : tie.Need-enum-told
 enum-told c = search needs
@@ -35,7 +36,10 @@ answer-all-requires : tie.Need-answer-all-requires
 answer-all-requires c κs =
     let a = c .before .before .before .before .before .before .before .before .before .before .before .before .before .before .args in
     let n = c .before .before .answerable-in .ensures in (
-      rw (c .before .before .before .settings .ensures) (serve-laid (a .words .now) (a .book .now) _ _ (ap₂ answered (sym (c .before .before .before .before .enum-told .given .1)) refl ∙ c .before .before .before .before .before .before .before .before .lay .ensures)),
+      rw (c .before .before .before .settings .ensures)
+          (serve-laid (a .words .now) (a .book .now) _ _
+          (ap₂ answered (sym (c .before .before .before .before .enum-told .given .1)) refl
+          ∙ c .before .before .before .before .before .before .before .before .lay .ensures)),
       (omega (arith, n), omega (arith, n)),
     )
 
@@ -50,8 +54,12 @@ same-length-3 c = search needs
 
 returns-2 : tie.Need-returns-2
 returns-2 c =
-    let a = c .before .before .before .before .before .before .before .before .before .before .before .before .before .before .before .before .before .before .before .args in
-    serve-done (a .words .now) (a .book .now) (a .list .now) (a .answers .now) (ap₂ answered (sym (c .before .before .before .before .before .before .before .before .before .enum-told .given .1)) refl ∙ c .before .before .before .before .before .before .before .before .before .before .before .before .before .lay .ensures) (c .before .before .before .before .before .before .before .answerable-in .ensures) (c .before .before .before .before .answer-all .ensures)
+    let s = c .before .before .before .before .before .before .before .before .before .before in
+    let a = s .before .before .before .before .before .before .before .before .before .args in
+    serve-done (a .words .now) (a .book .now) (a .list .now) (a .answers .now)
+    (ap₂ answered (sym (c .before .before .before .before .before .before .before .before .before .enum-told .given .1)) refl
+    ∙ c .before .before .before .before .before .before .before .before .before .before .before .before .before .lay .ensures)
+    (c .before .before .before .before .before .before .before .answerable-in .ensures) (c .before .before .before .before .answer-all .ensures)
 
 pub serve-spec : {M : Type 1} → statement M
 serve-spec =

@@ -1,4 +1,4 @@
--- `step::step` meets its contract: judged, and written where it is done.
+-- `step::step`: judged, and written where it is done.
 -- Assumes nothing.
 use mathlib.Core.Path.{sym, _∙_, ap, ap₂}
 use borrow.Author.Needs.{needs}
@@ -31,8 +31,14 @@ enum-told c = search needs
 
 apply-requires : tie.Need-apply-requires
 apply-requires c κs =
-    let s = c .before .before .before .before .before .before .before in
-    (s .pre, (c .before .before .before .before .before .grids-of .ensures, ap accepted (sym (c .before .before .before .judge .ensures) ∙ c .before .enum-told .given .1)))
+    let s = c .before .before .before .before .before .before .before in (
+      s .pre,
+      (
+        c .before .before .before .before .before .grids-of .ensures,
+        ap accepted
+            (sym (c .before .before .before .judge .ensures) ∙ c .before .enum-told .given .1),
+      ),
+    )
 
 same-length-2 : tie.Need-same-length-2
 same-length-2 c = search needs
