@@ -1,7 +1,7 @@
 -- Rows of one-word cells stand one behind the other: a run of them is one part of the book, and their counts are its count.
 -- Assumes nothing.
 use Prim.Native.Nat.{ℕ, zero, suc, _+_, _*_, _/_, _%_, _-_, _≤_, _<_}
-use mathlib.Core.Path.{_≡_, refl, sym, _∙_, ap, ap₂}
+use mathlib.Core.Path.{_≡_, sym, _∙_, ap, ap₂}
 use mathlib.Core.Bool.{Bool}
 use mathlib.Core.List.{List}
 use native.Mathlib.Nat.{mul-one, mul-assoc, mul-le-mul-right}
@@ -12,6 +12,7 @@ use lib.Seq.{getD-drop, getD-take}
 use Rattle.model.specs.Bounded.{one, bit, sumFrom, count}
 use Rattle.model.proofs.Sums.{sum-agree, sum-split, sum-cut}
 use Rattle.pool.specs.Pool.{member}
+use Rattle.pool.proofs.Counts.{sum-shift}
 use Rattle.book.specs.declared.grid.Grid.{Grid}
 use Rattle.book.specs.Grids.{place, cellAt}
 use Rattle.book.specs.Blocks.{Part, across, blockOf}
@@ -19,11 +20,9 @@ use Rattle.book.specs.Lent.{Lies}
 use Rattle.book.specs.Rows.{partCount, rowCount, rowsCount, rowMembers}
 use Rattle.book.proofs.Counts.{count-same}
 
-sum-shift : (f : ℕ → ℕ) (a i n : ℕ) → sumFrom (λ j. f (a + j)) i n ≡ sumFrom f (a + i) n
-sum-shift f a i zero = refl
-sum-shift f a i (suc n) =
-    let e : a + suc i ≡ suc (a + i) = omega arith in
-    ap (λ (k : ℕ). f (a + i) + k) (sum-shift f a (suc i) n ∙ ap (λ (k : ℕ). sumFrom f k n) e)
+-- the same terms by other numbers
+sum-on : (f : ℕ → ℕ) (a i n : ℕ) → sumFrom (λ j. f (a + j)) i n ≡ sumFrom f (a + i) n
+sum-on f a i n = sum-shift (λ j. f (a + j)) f i (a + i) n (λ t h. ap f (omega arith))
 
 -- blocks of m terms, one behind the other
 sum-blocks : (f : ℕ → ℕ) (m lo n : ℕ) → sumFrom (λ i. sumFrom (λ j. f (i * m + j)) 0 m) lo n ≡ sumFrom f (lo * m) (n * m)
@@ -32,7 +31,7 @@ sum-blocks f m lo (suc n) =
     let z : lo * m + 0 ≡ lo * m = omega arith in
     let s : suc lo * m ≡ lo * m + m = omega arith in
     let t : suc n * m ≡ m + n * m = omega arith in
-    ap₂ _+_ (sum-shift f (lo * m) 0 m ∙ ap (λ (k : ℕ). sumFrom f k m) z) (sum-blocks f m (suc lo) n ∙ ap (λ (k : ℕ). sumFrom f k (n * m)) s)
+    ap₂ _+_ (sum-on f (lo * m) 0 m ∙ ap (λ (k : ℕ). sumFrom f k m) z) (sum-blocks f m (suc lo) n ∙ ap (λ (k : ℕ). sumFrom f k (n * m)) s)
     ∙ sym (sum-split f (lo * m) m (n * m))
     ∙ sym (ap (sumFrom f (lo * m)) t)
 
@@ -67,7 +66,7 @@ module _ (g : Grid) (lo hi : ℕ) (e : g .width ≡ 1) (b row : List ℕ) (p : P
       ap (count (λ j. eqb (getD row j 0) w)) part-long
       ∙ count-same (λ j. eqb (getD row j 0) w) (λ j. eqb (getD b (g .base + (lo * g .items + j)) 0) w) ((hi - lo) * g .items)
       (λ j t. ap (λ (v : ℕ). eqb v w) (part-at j t))
-      ∙ sum-shift f (lo * g .items) 0 ((hi - lo) * g .items)
+      ∙ sum-on f (lo * g .items) 0 ((hi - lo) * g .items)
       ∙ ap (λ (n : ℕ). sumFrom f n ((hi - lo) * g .items)) (let z : lo * g .items + 0 ≡ lo * g .items = omega arith in z)
       ∙ sym (sum-blocks f (g .items) lo (hi - lo))
       ∙ sum-agree (λ i. sumFrom (λ j. f (i * g .items + j)) 0 (g .items)) (λ i. count (λ j. eqb (getD b (place g i j 0) 0) w) (g .items)) lo (hi - lo)
@@ -105,7 +104,7 @@ module _ (row : List ℕ) (w : ℕ) where
       ap (count (λ j. eqb (getD (take n (drop i row)) j 0) w)) m
       ∙ count-same (λ j. eqb (getD (take n (drop i row)) j 0) w) (λ j. here (i + j)) n
       (λ j t. ap (λ (v : ℕ). eqb v w) (getD-take n (drop i row) j 0 t ∙ getD-drop i row j 0))
-      ∙ sum-shift (λ j. one (here j)) i 0 n
+      ∙ sum-on (λ j. one (here j)) i 0 n
       ∙ ap (λ (k : ℕ). sumFrom (λ j. one (here j)) k n) (let z : i + 0 ≡ i = omega arith in z)
 
   pub part-next : (i n : ℕ) → i + n ≤ length row → count here (i + n) ≡ count here i + partCount (take n (drop i row)) w

@@ -9,7 +9,7 @@ use lib.Dec.{eqb}
 use borrow.Author.Needs.{needs}
 use Rattle.model.specs.Bounded.{one, sumFrom}
 use Rattle.book.specs.Grids.{cellAt}
-use Rattle.book.proofs.Counts.{one-le}
+use Rattle.model.proofs.ReadBack.{one-le}
 use Rattle.queries.specs.Shown.{columnCount}
 use Rattle.queries.proofs.Runs.{sum-start, sum-next}
 use Rattle.queries.proofs.bookings.column_count.Statement.{statement}
