@@ -1,3 +1,2 @@
-pub mod Grounds
 pub mod Meanings
 pub mod Whole

@@ -53,6 +53,7 @@ attendAdds S b g m v first last =
     (asked 11 (firstWith g b v (m + 1) first last)
     (asked 13 (firstWithout g b v 0 first last) (Done 0))))
 
+-- kind 12
 unfoldable pub confAdds : Settings → List ℕ → Grid → ℕ → ℕ → ℕ → ℕ → Answer
 confAdds S b g c m first last =
     asked 10 (slotsFail S b Stands m 0 first last)
@@ -67,19 +68,23 @@ lunchAdds S b g d m n first last =
     (asked 13 (firstWithout g b m 0 first last)
     (asked 14 (slotsFail S b RoomLeft d n first last) (Done 0))))
 
+-- kind 14
 unfoldable pub lunchFits : Settings → List ℕ → Grid → ℕ → ℕ → ℕ → ℕ → ℕ → Answer
 lunchFits S b g d m n first last = tested 8 (within 1 (capacity S d) n) (lunchAdds S b g d m n first last)
 
+-- kind 9
 unfoldable pub standingEnds : Settings → List ℕ → ℕ → ℕ → ℕ → Answer
 standingEnds S b m first last =
     asked 19 (slotsFail S b NotHeld m 0 first last)
     (asked 20 (slotsFail S b Attended m 0 first last) (Done 0))
 
+-- kind 16: a conference room in each session, and a lunch on each date from first's to last's
 unfoldable pub eraseAll : Settings → List ℕ → ℕ → ℕ → ℕ → Answer
 eraseAll S b m first last =
     asked 16 (slotsFail S b HasConf m 0 first last)
     (asked 17 (slotsFail S b HasLunch m 0 (dateOfSession S first) (dateOfSession S last)) (Done 0))
 
+-- kinds 5, 7, 11 and 15: the cell of item j holds w in each slot
 unfoldable pub erasePair : List ℕ → Grid → ℕ → ℕ → ℕ → ℕ → Answer
 erasePair b g j w first last = asked 15 (firstWithout g b j w first last) (Done 0)
 

@@ -1,4 +1,5 @@
 pub mod Passed
 pub mod Seats
+pub mod Grounds
 pub mod Shown
 pub mod Pairs

@@ -1,8 +1,8 @@
 -- Searches over the cells of one grid find what the state shows: questions 9, 10, 16, 17 and 20.
 -- Assumes nothing.
-use Prim.Native.Nat.{ℕ, _+_, _/_, _%_, _<_}
+use Prim.Native.Nat.{ℕ, _+_, _/_, _%_, _≤_, _<_}
 use mathlib.Core.Path.{_≡_, sym, _∙_, ap, ap₂}
-use mathlib.Core.Bool.{not}
+use mathlib.Core.Bool.{Bool, not}
 use mathlib.Core.List.{List}
 use native.Mathlib.Omega.{arith}
 use lib.Dec.{eqb}
@@ -13,23 +13,30 @@ use Rattle.book.specs.Founds.{foundOf}
 use Rattle.book.specs.Grids.{cellAt, gridOf, gridsOf}
 use Rattle.book.specs.Rows.{rowHas}
 use Rattle.book.specs.Good.{Good}
+use Rattle.book.proofs.Goods.{good-laid}
+use Rattle.book.proofs.Regions.{date-lt}
 use Rattle.questions.specs.Asked.{firstWith, firstRowWithout, firstNotMember, slotsFail, holdsIn}
 use Rattle.questions.specs.Asked.{OnLeave, Stands, HasConf, HasLunch, Attended}
 use Rattle.model.specs.declared.Settings.{Settings}
 use Rattle.model.specs.Bounded.{bit}
-use Rattle.model.specs.Kinds.{Unit as SlotUnit, dates, dateOf}
+use Rattle.model.specs.Kinds.{Unit as SlotUnit, dates, slotsOf, dateOf}
 use Rattle.model.specs.Reading.{stateOf}
 use Rattle.model.specs.Site.{allSessions}
 use Rattle.model.specs.Words.{leaves}
 use Rattle.queries.proofs.Shows.{leave-is, standing-is, conf-held-is, attended-is, lunch-held-is}
 
 module _ {S : Settings} {b : List ℕ} (good : Good S b) where
-  -- the bit of a visitor on the date of a slot
-  pub leave-at : {g : Grid} (u : SlotUnit) (i : ℕ) {d v : ℕ} → g ≡ gridOf S leaves → d ≡ dateOf S u i → dateOf S u i < S .dates → v < S .visitors
-      → bit (cellAt g b d (v / 32)) (v % 32) ≡ holdsIn S (stateOf b) (OnLeave u) v 0 i
+  -- the date of a slot of first..last, and the bit of a visitor on it
+  pub slot-date : (u : SlotUnit) {i last : ℕ} → i ≤ last → last < slotsOf S u → dateOf S u i < S .dates
+  slot-date u {i} {last} l h = date-lt S (good-laid good .ranges) u i (omega (arith, l, h))
+
+  pub leave-at : {g : Grid} (u : SlotUnit) (i : ℕ) {last d v : ℕ} {r : Bool} → g ≡ gridOf S leaves → i ≤ last → last < slotsOf S u → v < S .visitors
+      → d ≡ dateOf S u i → r ≡ bit (cellAt g b d (v / 32)) (v % 32) → r ≡ holdsIn S (stateOf b) (OnLeave u) v 0 i
   unfolding holdsIn
-  leave-at {g} u i {d} {v} e f h k =
-      ap₂ (λ (g : Grid) (d : ℕ). bit (cellAt g b d (v / 32)) (v % 32)) e f ∙ sym (leave-is S b good (dateOf S u i) v h k)
+  leave-at {g} u i {last} {d} {v} e l h k f is =
+      is
+      ∙ ap₂ (λ (g : Grid) (d : ℕ). bit (cellAt g b d (v / 32)) (v % 32)) e f
+      ∙ sym (leave-is S b good (dateOf S u i) v (slot-date u l h) k)
 
   module _ {g : Grids} (e : g ≡ gridsOf S) (first last : ℕ) where
     pub leave-fail : (v : ℕ) → v < S .visitors → last < S .dates

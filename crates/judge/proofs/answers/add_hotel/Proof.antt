@@ -7,7 +7,7 @@ use Rattle.book.proofs.Goods.{good-laid}
 use Rattle.model.specs.Words.{leaves, hotelCells}
 use Rattle.book.proofs.Regions.{group-lt}
 use Rattle.questions.proofs.Shown.{leave-fail}
-use Rattle.judge.proofs.Grounds.{ground, row-ground}
+use Rattle.questions.proofs.Grounds.{ground, row-ground}
 use Rattle.judge.specs.Chains.{addStay}
 use borrow.Author.Needs.{needs}
 use Rattle.judge.proofs.answers.add_hotel.Statement.{statement}

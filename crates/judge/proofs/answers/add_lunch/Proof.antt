@@ -6,7 +6,7 @@ use Rattle.book.specs.declared.grid.Grids.{Grids}
 use Rattle.book.proofs.Goods.{good-laid}
 use Rattle.questions.specs.Asked.{holdsIn}
 use Rattle.model.specs.Words.{lunchTriples}
-use Rattle.judge.proofs.Grounds.{ground}
+use Rattle.questions.proofs.Grounds.{ground}
 use Rattle.judge.specs.Chains.{lunchAdds}
 use borrow.Author.Needs.{needs}
 use Rattle.judge.proofs.answers.add_lunch.Statement.{statement}

@@ -5,7 +5,7 @@ use native.Mathlib.Omega.{arith}
 use Rattle.book.specs.declared.grid.Grids.{Grids}
 use Rattle.book.proofs.Goods.{good-laid}
 use Rattle.model.specs.Words.{rideCells}
-use Rattle.judge.proofs.Grounds.{ground, row-ground}
+use Rattle.questions.proofs.Grounds.{ground, row-ground}
 use Rattle.judge.specs.Chains.{addStay}
 use borrow.Author.Needs.{needs}
 use Rattle.judge.proofs.answers.add_ride.Statement.{statement}

@@ -13,7 +13,7 @@ use Rattle.model.specs.Words.{attendCells, confPairs, lunchTriples}
 use Rattle.kinds.proofs.Numbers.{last-kind}
 use Rattle.questions.proofs.Shown.{conf-fail}
 use Rattle.judge.specs.Chains.{asked, foundOr, inWords}
-use Rattle.judge.proofs.Grounds.{ground, row-ground}
+use Rattle.questions.proofs.Grounds.{ground, row-ground}
 use Rattle.judge.proofs.Meanings.{answer-is, ready-at}
 use borrow.Author.Needs.{needs}
 use Rattle.judge.proofs.answers.answer.Statement.{statement}

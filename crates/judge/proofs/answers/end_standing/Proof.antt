@@ -6,7 +6,7 @@ use Rattle.book.specs.declared.grid.Grids.{Grids}
 use Rattle.book.proofs.Goods.{good-laid}
 use Rattle.model.specs.Words.{attendCells}
 use Rattle.questions.proofs.Shown.{attended-fail}
-use Rattle.judge.proofs.Grounds.{row-ground}
+use Rattle.questions.proofs.Grounds.{row-ground}
 use Rattle.judge.specs.Chains.{standingEnds}
 use borrow.Author.Needs.{needs}
 use Rattle.judge.proofs.answers.end_standing.Statement.{statement}

@@ -9,7 +9,7 @@ use Rattle.model.specs.Kinds.{sessions}
 use Rattle.model.specs.Words.{confPairs, lunchTriples}
 use Rattle.book.proofs.Regions.{date-lt}
 use Rattle.questions.proofs.Shown.{conf-fail, lunch-fail}
-use Rattle.judge.proofs.Grounds.{ground, row-ground}
+use Rattle.questions.proofs.Grounds.{ground, row-ground}
 use Rattle.judge.specs.Chains.{eraseAll}
 use borrow.Author.Needs.{needs}
 use Rattle.judge.proofs.answers.erase_all.Statement.{statement}

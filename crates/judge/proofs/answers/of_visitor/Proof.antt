@@ -10,7 +10,7 @@ use Rattle.model.specs.Kinds.{Kind.addLeave, Kind.endLeave, Kind.removeVisitor,
 use Rattle.model.specs.Words.{hotelCells, rideCells}
 use Rattle.kinds.proofs.Numbers.{last-kind}
 use Rattle.judge.specs.Chains.{asked, inWords}
-use Rattle.judge.proofs.Grounds.{ground}
+use Rattle.questions.proofs.Grounds.{ground}
 use Rattle.judge.proofs.Meanings.{answer-is, ready-at}
 use borrow.Author.Needs.{needs}
 use Rattle.judge.proofs.answers.of_visitor.Statement.{statement}
