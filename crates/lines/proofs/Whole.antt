@@ -1,4 +1,4 @@
--- However the input is cut into chunks, what the stream writes is `frames` of the whole.
+-- What the stream writes for a whole input is `frames` of it; a run over two parts of an input is a run over both.
 -- Assumes nothing.
 use Prim.Native.Nat.{ℕ, _+_, _-_, _%_, _≤_, _<_}
 use native.Mathlib.Omega.{arith}
@@ -25,7 +25,7 @@ use Rattle.model.specs.Lines.{digitValue, wholeWords, lineWords, linesOf, answe
 use Rattle.lines.proofs.Framing.{words-length, not-so, frame-parts, no-frame}
 use Rattle.lines.proofs.Keeping.{kept-append}
 use Rattle.lines.specs.Post.{Free}
-use Rattle.lines.specs.Stream.{kept, Point, opening, later, over, Turn, silent, behind, opened, told, ended, longer, byte, run, closed, fed, joined}
+use Rattle.lines.specs.Stream.{kept, Point, opening, later, over, Turn, silent, behind, opened, told, ended, longer, byte, run, closed}
 
 free-snoc : (l : List ℕ) (b : ℕ) → Free l → (b ≡ 10 → ⊥) → Free (l ++ (b ∷ []))
 unfolding Free
@@ -102,18 +102,12 @@ whole-none : (p : Point) → closed p ≡ whole p []
 unfolding whole run
 whole-none p = refl
 
-whole-append : (p : Point) (a b : List ℕ) → whole p (a ++ b) ≡ behind (run p a .out) (whole (run p a .point) b)
+pub whole-append : (p : Point) (a b : List ℕ) → whole p (a ++ b) ≡ behind (run p a .out) (whole (run p a .point) b)
 unfolding whole
 whole-append p a b =
     ap (λ (t : Turn). behind (t .out) (closed (t .point))) (run-append p a b)
     ∙ ap (λ (o : List ℕ). record { out = o; point = closed (run (run p a .point) b .point) .point })
     (append-assoc (run p a .out) (run (run p a .point) b .out) (closed (run (run p a .point) b .point) .out))
-
--- the chunks' cuts do not matter
-pub any-cuts : (p : Point) (cs : List (List ℕ)) → fed p cs ≡ whole p (joined cs)
-unfolding fed joined
-any-cuts p [] = whole-none p
-any-cuts p (c ∷ cs) = ap (behind (run p c .out)) (any-cuts (run p c .point) cs) ∙ sym (whole-append p c (joined cs))
 
 whole-cons : (p : Point) (b : ℕ) (bs : List ℕ) → whole p (b ∷ bs) ≡ behind (byte p b .out) (whole (byte p b .point) bs)
 unfolding whole run
@@ -164,7 +158,7 @@ unfolding Free
 free-none = tt
 
 -- nothing is read after a refused settings line
-whole-over : (bs : List ℕ) → whole over bs .out ≡ []
+pub whole-over : (bs : List ℕ) → whole over bs .out ≡ []
 unfolding whole run closed ended longer
 whole-over [] = refl
 whole-over (b ∷ bs) = over-by (eqb b 10) refl (whole-over bs)
@@ -260,7 +254,7 @@ opening-whole (b ∷ bs) l f = by (eqb b 10) refl (opening-whole bs)
         ∙ more (l ++ (b ∷ [])) (free-snoc l b f n)
         ∙ ap (λ (k : List ℕ). output (linesOf k)) (append-assoc l (b ∷ []) bs)
 
--- "The program `frames` reads standard input": for every cutting of the input into chunks
-pub any-cutting : (cs : List (List ℕ)) → fed (opening []) cs .out ≡ frames (joined cs)
+-- the whole input
+pub whole-frames : (i : List ℕ) → whole (opening []) i .out ≡ frames i
 unfolding frames
-any-cutting cs = ap (λ (t : Turn). t .out) (any-cuts (opening []) cs) ∙ opening-whole (joined cs) [] free-none
+whole-frames i = opening-whole i [] free-none

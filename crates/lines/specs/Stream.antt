@@ -75,12 +75,3 @@ closed (opening l) = opened l
 closed (later x []) = silent (later x [])
 closed (later x (b ∷ l)) = told (lineOutcome x (b ∷ l))
 closed over = silent over
-
--- the input in chunks, and its end
-unfoldable pub fed : Point → List (List ℕ) → Turn
-fed p [] = closed p
-fed p (c ∷ cs) = behind (run p c .out) (fed (run p c .point) cs)
-
-unfoldable pub joined : List (List ℕ) → List ℕ
-joined [] = []
-joined (c ∷ cs) = c ++ joined cs
