@@ -1,7 +1,7 @@
 -- The program's turns, one after the other.
 -- Assumes nothing.
 use Prim.Native.Nat.{ℕ, _*_}
-use mathlib.Core.Path.{_≡_, sym, ap}
+use mathlib.Core.Path.{_≡_, sym, _∙_, ap}
 use mathlib.Core.Bool.{Bool}
 use mathlib.Core.List.{List, [], _++_}
 use lib.ListN.{take}
@@ -14,9 +14,9 @@ use Rattle.frames.specs.declared.End.{End}
 use Rattle.frames.specs.declared.Sign.{Sign}
 use Rattle.frames.specs.Run.{Turned, Finished, Driven}
 
--- the room for answers, by the number of bytes that were read
-pub room-as : {t : Written} {s : Stream} {b out : List ℕ} {wrote n m : ℕ} → n ≡ m → Moved t s b out wrote (25 * m) → Moved t s b out wrote (25 * n)
-room-as {t} {s} {b} {out} {wrote} e v = rw (← e) at v
+-- the same by the number of bytes that were handed to write, and of those that were read
+pub moved-as : {t : Written} {s : Stream} {b out : List ℕ} {wrote k n m : ℕ} → k ≡ wrote → n ≡ m → Moved t s b out wrote (25 * m) → Moved t s b out k (25 * n)
+moved-as {t} {s} {b} {out} f e v = rw (← e, ← f) at v
 
 -- what was read and handed to write since the program began
 pub record Since (s : Stream) (b : List ℕ) : Type 0 where
@@ -36,12 +36,12 @@ since-more {chunk = chunk} {out = out} {t = t} v k =
     }
 
 -- and the end
-pub driven : {g : Sign} {s : Stream} {b b′ out : List ℕ} {wrote : ℕ} {w : Bool} → Since s b → Finished g s b wrote b′ out
-    → Driven (record { sign = g; wrote = wrote; «is_written» = w }) out
-driven v f =
+pub driven : {g : Sign} {s : Stream} {b b′ out : List ℕ} {wrote k : ℕ} {w : Bool} → Since s b → Finished g s b wrote b′ out → k ≡ wrote
+    → Driven (record { sign = g; wrote = k; «is_written» = w }) out
+driven {out = out} v f e =
     record {
       input = v .input;
       output = v .output;
-      whole = λ h. ran-ends (v .ran) (f .last h);
-      lines = λ h. (f .none h .0, sym (ap (λ (t : Written). t .out) (v .ran .same)));
+      whole = λ h. ran-ends (v .ran) (ap (λ (n : ℕ). take n out) e ∙ f .last h);
+      lines = λ h. (e ∙ f .none h .0, sym (ap (λ (t : Written). t .out) (v .ran .same)));
     }

@@ -61,7 +61,9 @@ same-length-3 : tie.Need-same-length-3 Inv-loop μ-loop
 same-length-3 c = search needs
 
 returns : tie.Need-returns Inv-loop μ-loop
-returns c = driven (c .before .before .before .before .before .before .before .before .before .before .before .loop .inv .3) (c .before .before .before .before .before .before .finish .ensures)
+returns c =
+    let d = c .before .before .before .before .before .before in
+    driven (d .before .before .before .before .before .loop .inv .3) (d .finish .ensures) (c .send .ensures ∙ sym (slice-aggregate-send (c .before)))
 
 pub drive-spec : {M : Type 1} → statement M
 drive-spec =

@@ -10,10 +10,10 @@ use Rattle.frames.proofs.send.Statement.{statement}
 use Rattle.frames.proofs.send.Tie as tie
 
 abbrev Inv-loop : tie.InvT-loop
-Inv-loop bytes sent₀ tries₀ sent tries = sent ≤ length bytes
+Inv-loop bytes handed sent₀ tries₀ sent tries = sent ≤ length bytes
 
 abbrev μ-loop : tie.MeasureT-loop
-μ-loop bytes sent₀ tries₀ sent tries = tries
+μ-loop bytes handed sent₀ tries₀ sent tries = tries
 
 loop-holds : tie.Need-loop-holds Inv-loop μ-loop
 loop-holds c = omega arith

@@ -5,7 +5,7 @@ use native.Mathlib.Omega.{arith}
 use lib.Seq.{length-take-le}
 use Rattle.frames.specs.declared.Sign.{Sign}
 use Rattle.frames.specs.Run.{signed}
-use Rattle.frames.proofs.Turns.{room-as}
+use Rattle.frames.proofs.Turns.{moved-as}
 use borrow.Author.Needs.{needs}
 use Rattle.frames.proofs.take_turn.Statement.{statement}
 use Rattle.frames.proofs.take_turn.Tie as tie
@@ -53,10 +53,11 @@ returns : tie.Need-returns
 returns c =
     let d = c .before .before .before .before .before .before .before .before .before in
     let n = d .before .before .before .before .count .ensures in
-    let w = c .before .before .send .result in
+    let k = c .before .before .send in
+    let w = k .result .«is_written» in
     record {
       count = n .1;
-      moved = room-as (n .0 .1) (d .feed .ensures);
+      moved = moved-as (k .ensures ∙ sym (slice-aggregate-send (c .before .before .before))) (n .0 .1) (d .feed .ensures);
       written = w;
       sign = c .sign-of-turn .ensures ∙ ap (λ (g : Sign). signed g (d .feed .result .stream .phase) w) (c .before .sign-of-read .ensures);
     }

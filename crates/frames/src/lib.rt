@@ -35,6 +35,12 @@ pub struct Turn {
     pub sign: Sign,
 }
 
+// How many bytes were handed to `write`, and whether it took them all.
+pub struct Sent {
+    pub handed: usize,
+    pub is_written: bool,
+}
+
 // How the last turn went, how many bytes were handed to `write` behind it, and whether that took them.
 pub struct End {
     pub sign: Sign,
@@ -113,23 +119,32 @@ fn receive(chunk: &mut [u8]) -> isize {
     got
 }
 
-// Writes all the bytes, a part in each call, and says whether that went well.
-fn send(bytes: &[u8]) -> bool {
+// Hands all the bytes to `write`, the rest again where it took a part.
+fn send(bytes: &[u8]) -> Sent
+    ensures { λ r. ⌜ r .handed ≡ length (now (bytes .entry)) ⌝ }
+{
+    let handed = bytes.len();
     let mut sent = 0;
     let mut tries = u64::MAX;
-    while tries > 0 && sent < bytes.len() {
+    while tries > 0 && sent < handed {
         let rest = &bytes[sent..];
         let put = libc::write(STDOUT_FILENO, rest);
         let n = io::count(put, rest);
         if n == 0 {
             if !is_interrupted(put) {
-                return false;
+                return Sent {
+                    handed,
+                    is_written: false,
+                };
             }
         }
         sent += n;
         tries -= 1;
     }
-    sent == bytes.len()
+    Sent {
+        handed,
+        is_written: sent == handed,
+    }
 }
 
 // Reads once, and answers what came before it waits again.
@@ -145,13 +160,13 @@ fn take_turn(book: &mut [u32], stream: Stream, chunk: &mut [u8], out: &mut [u8])
     let wrote = fed.wrote;
     let next = fed.stream;
     let phase = next.phase;
-    let is_written = send(&out[..wrote]);
+    let sent = send(&out[..wrote]);
     Turn {
         got,
         read: n,
         stream: next,
-        wrote,
-        sign: sign_of_turn(sign_of_read(got), phase, is_written),
+        wrote: sent.handed,
+        sign: sign_of_turn(sign_of_read(got), phase, sent.is_written),
     }
 }
 
@@ -200,26 +215,29 @@ fn drive(book: &mut [u32], chunk: &mut [u8], out: &mut [u8]) -> End
     let sign = turn.sign;
     let stream = turn.stream;
     let wrote = finish(book, sign, stream, out);
+    let sent = send(&out[..wrote]);
     End {
         sign,
-        wrote,
-        is_written: send(&out[..wrote]),
+        wrote: sent.handed,
+        is_written: sent.is_written,
     }
 }
 
-// Says on standard error what failed, if something did.
-fn report(end: End) {
+// The program's exit status: 0, or 1 behind a line on standard error that says what failed.
+fn status(end: End) -> i32 {
     let sign = end.sign;
     match sign {
         Sign::Ended => {
-            if !end.is_written {
-                os::fail(b"frames: standard output");
+            if end.is_written {
+                return 0;
             }
+            os::fail(b"frames: standard output");
         }
         Sign::Unread => os::fail(b"frames: standard input"),
         Sign::Unwritten => os::fail(b"frames: standard output"),
         Sign::More => {}
     }
+    1
 }
 
 // Room for an answer to each byte of a chunk.
@@ -229,9 +247,11 @@ fn answers() -> [u8; 1638400]
     [0; 1638400]
 }
 
-fn main() {
+// The whole program, for the entry in main.c: a program of the kit has no exit status of its own.
+#[no_mangle]
+pub extern "C" fn caviar_frames() -> i32 {
     let mut book = [0u32; 16384];
     let mut chunk = io::large_buffer();
     let mut out = answers();
-    report(drive(&mut book, &mut chunk, &mut out));
+    status(drive(&mut book, &mut chunk, &mut out))
 }
