@@ -15,8 +15,9 @@ use Rattle.frames.specs.declared.Sign.{Sign}
 use Rattle.frames.specs.Run.{Turned, Finished, Driven}
 
 -- the same by the number of bytes that were handed to write, and of those that were read
-pub moved-as : {t : Written} {s : Stream} {b out : List ℕ} {wrote k n m : ℕ} → k ≡ wrote → n ≡ m → Moved t s b out wrote (25 * m) → Moved t s b out k (25 * n)
-moved-as {t} {s} {b} {out} f e v = rw (← e, ← f) at v
+pub moved-as : {t : Written} {s : Stream} {b₀ b out₀ out : List ℕ} {wrote k n m : ℕ} → k ≡ wrote → n ≡ m
+    → Moved t s b₀ b out₀ out 0 wrote (25 * m) → Moved t s b₀ b out₀ out 0 k (25 * n)
+moved-as {t} {s} {b₀} {b} {out₀} {out} f e v = rw (← e, ← f) at v
 
 -- what was read and handed to write since the program began
 pub record Since (s : Stream) (b : List ℕ) : Type 0 where
@@ -27,7 +28,7 @@ pub record Since (s : Stream) (b : List ℕ) : Type 0 where
 pub since-none : {s : Stream} (b : List ℕ) → Begun s → Since s b
 since-none b g = record { input = []; output = []; ran = ran-none b g }
 
-pub since-more : {s : Stream} {b b′ chunk out : List ℕ} {t : Turn} → Since s b → Turned s b chunk t b′ out → Since (t .stream) b′
+pub since-more : {s : Stream} {b b′ chunk out₀ out : List ℕ} {t : Turn} → Since s b → Turned s b out₀ chunk t b′ out → Since (t .stream) b′
 since-more {chunk = chunk} {out = out} {t = t} v k =
     record {
       input = v .input ++ take (t .read) chunk;

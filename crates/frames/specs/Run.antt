@@ -42,9 +42,9 @@ isEnd Unwritten = false
 
 -- A turn from the stream s and the book b₀: `read` left the first bytes of chunk, as many as it answered, and the first bytes of out, which
 -- were handed to `write`, are what the model writes for them.
-pub record Turned (s : Stream) (b₀ chunk : List ℕ) (t : Turn) (b out : List ℕ) : Type 0 where
+pub record Turned (s : Stream) (b₀ out₀ chunk : List ℕ) (t : Turn) (b out : List ℕ) : Type 0 where
   pub count : t .read ≡ clamped (t .got) (length chunk)
-  pub moved : Moved (run (pointOf s b₀) (take (t .read) chunk)) (t .stream) b out (t .wrote) (25 * t .read)
+  pub moved : Moved (run (pointOf s b₀) (take (t .read) chunk)) (t .stream) b₀ b out₀ out 0 (t .wrote) (25 * t .read)
   pub written : Bool
   pub sign : t .sign ≡ signed (heard (t .got)) (t .stream .phase) written
 

@@ -152,7 +152,7 @@ fn take_turn(book: &mut [u32], stream: Stream, chunk: &mut [u8], out: &mut [u8])
     requires { ⌜ 16384 ≤ length (now book) ⌝ }
     requires { ⌜ Going stream (now book) ⌝ }
     requires { ⌜ 25 * length (now chunk) ≤ length (now out) ⌝ }
-    ensures { λ r. ⌜ Turned stream (now (book .entry)) (now (chunk .exit)) r (now (book .exit)) (now (out .exit)) ⌝ }
+    ensures { λ r. ⌜ Turned stream (now (book .entry)) (now (out .entry)) (now (chunk .exit)) r (now (book .exit)) (now (out .exit)) ⌝ }
 {
     let got = receive(chunk);
     let n = io::count(got, chunk);

@@ -33,8 +33,8 @@ pub ran-none : {s : Stream} (b : List ℕ) → Begun s → Ran [] [] s b
 ran-none b g = let k = begun b g in record { going = k .0; same = run-none (opening []) ∙ ap silent (sym (k .1)) }
 
 -- one turn more, by what `feed` says of it: however the input is cut, it is joined again
-pub ran-more : {i w b b′ out : List ℕ} {s s′ : Stream} {wrote room : ℕ} (c : List ℕ) → Ran i w s b
-    → Moved (run (pointOf s b) c) s′ b′ out wrote room → Ran (i ++ c) (w ++ take wrote out) s′ b′
+pub ran-more : {i w b b₀ b′ out₀ out : List ℕ} {s s′ : Stream} {from wrote room : ℕ} (c : List ℕ) → Ran i w s b
+    → Moved (run (pointOf s b) c) s′ b₀ b′ out₀ out from wrote room → Ran (i ++ c) (w ++ take wrote out) s′ b′
 ran-more {i} {w} c r m =
     record {
       going = m .going;

@@ -8,7 +8,7 @@ use mathlib.Core.List.{List, [], _∷_, _++_, append-nil}
 use lib.Dec.{eqb}
 use lib.ListN.{length, take, drop, length-append, length-drop}
 use borrow.Author.Tests.{eqb-true, eqb-false}
-use lib.Seq.{take-at, take-all, length-take-le}
+use lib.Seq.{take-at, drop-at, take-all, length-take-le}
 use Rattle.model.specs.declared.Settings.{Settings}
 use Rattle.model.specs.declared.Answer.{Answer}
 use Rattle.model.specs.State.{State}
@@ -28,30 +28,36 @@ use Rattle.lines.specs.declared.stream.Ended.{Ended}
 use Rattle.lines.proofs.Looking.{all-free, end-leads}
 use Rattle.lines.proofs.Whole.{byte-end, byte-in}
 use Rattle.lines.proofs.Books.{after-line}
-use Rattle.lines.proofs.Turns.{grown, Kept, later-kept, run-free, run-leads, tail-is, put-wrote}
+use Rattle.lines.proofs.Turns.{grown, Kept, later-kept, run-free, run-leads, tail-is, put-wrote, put-past}
+use Rattle.lines.proofs.Puts.{drop-behind}
 
 -- a good book by its own settings
 own : {S : Settings} {b : List ℕ} → Good S b → Good (settingsOf b) b
 own g = record { read = refl; laid = g .laid; lawful = g .lawful }
 
 -- the front of a book was replaced by as many words
-front : (size : ℕ) (b last : List ℕ) → size ≤ length b → length last ≡ length (take size b) → (take size (last ++ drop size b) ≡ last) × (size ≤ length (last ++ drop size b))
+front : (size : ℕ) (b last : List ℕ) → size ≤ length b → length last ≡ length (take size b)
+    → (take size (last ++ drop size b) ≡ last) × (size ≤ length (last ++ drop size b)) × (drop size (last ++ drop size b) ≡ drop size b)
 front size b last h e =
     let n = length-take-le size b h in
-    (take-at last (drop size b) size (e ∙ n), omega (arith, length-append last (drop size b)))
+    (take-at last (drop size b) size (e ∙ n), omega (arith, length-append last (drop size b)), drop-at last (drop size b) size (e ∙ n))
 
 -- a later line is over
 pub responded : {last out out′ : List ℕ} {a : Answer} {at : ℕ} (b l : List ℕ) (size : ℕ) → size ≤ length b → Good (settingsOf (take size b)) (take size b)
     → answered a last ≡ called (lineOutcome (stateOf (take size b)) l) → length last ≡ length (take size b) → Put out out′ at (answerLine a)
-    → EndedOf (behind (take at out) (told (lineOutcome (stateOf (take size b)) l))) (record { more = true; size = size; wrote = at + 25 }) (last ++ drop size b) out′ (at + 25)
+    → EndedOf (behind (take at out) (told (lineOutcome (stateOf (take size b)) l))) (record { more = true; size = size; wrote = at + 25 })
+    b (last ++ drop size b) out out′ at (at + 25)
 responded {last} {out} {out′} {a} {at} b l size h g e k p =
     let o = lineOutcome (stateOf (take size b)) l in
     let f = front size b last h k in
     let s = after-line l g e in
     let q : a ≡ o .answer = ap (λ (c : Called). c .answer) e in
     record {
+      more = omega arith;
       short = omega arith;
-      sized = record { fits = f .1; good = λ z. rw (f .0) (own (s .good)) };
+      book-past = f .2;
+      out-past = put-past a p;
+      sized = record { fits = f .1; none = λ z. both refl z; good = λ z. rw (f .0) (own (s .good)) };
       same =
           ap (λ (d : List ℕ). record { out = take (at + 25) out′; point = later (stateOf d) [] }) (f .0)
           ∙ ap (λ (x : State). record { out = take (at + 25) out′; point = later x [] }) (s .shows)
@@ -71,8 +77,10 @@ ended-over : ended over ≡ silent over
 unfolding ended
 ended-over = refl
 
-pub ended-as : {t u : Turn} {e : Ended} {b out : List ℕ} {room : ℕ} → t ≡ u → EndedOf t e b out room → EndedOf u e b out room
-ended-as q v = record { short = v .short; sized = v .sized; same = v .same ∙ q }
+pub ended-as : {t u : Turn} {e : Ended} {b₀ b out₀ out : List ℕ} {from room : ℕ} → t ≡ u → EndedOf t e b₀ b out₀ out from room
+    → EndedOf u e b₀ b out₀ out from room
+ended-as q v =
+    record { more = v .more; short = v .short; sized = v .sized; same = v .same ∙ q; book-past = v .book-past; out-past = v .out-past }
 
 module _ {p : Phase} (x : State) (l out : List ℕ) (at : ℕ) where
   pub turn-opening : p ≡ Opening → behind (take at out) (opened l) ≡ behind (take at out) (ended (pointAt p x l))
@@ -81,11 +89,15 @@ module _ {p : Phase} (x : State) (l out : List ℕ) (at : ℕ) where
   pub turn-later : p ≡ Later → behind (take at out) (told (lineOutcome x l)) ≡ behind (take at out) (ended (pointAt p x l))
   turn-later h = ap (behind (take at out)) (sym (ap (λ (q : Phase). ended (pointAt q x l)) h ∙ ended-later x l))
 
-  pub turn-over : {b : List ℕ} → p ≡ Over → EndedOf (behind (take at out) (ended (pointAt p x l))) (record { more = false; size = 0; wrote = at }) b out (at + 25)
+  pub turn-over : {b : List ℕ} → p ≡ Over → EndedOf (behind (take at out) (ended (pointAt p x l))) (record { more = false; size = 0; wrote = at })
+      b b out out at (at + 25)
   turn-over h =
       record {
+        more = omega arith;
         short = omega arith;
-        sized = record { fits = omega arith; good = λ z. both z refl };
+        book-past = refl;
+        out-past = refl;
+        sized = record { fits = omega arith; none = λ z. refl; good = λ z. both z refl };
         same =
             ap (λ (o : List ℕ). record { out = o; point = over }) (sym (append-nil (take at out)))
             ∙ ap (behind (take at out)) (sym (ap (λ (q : Phase). ended (pointAt q x l)) h ∙ ended-over));
@@ -107,11 +119,19 @@ run-over (b ∷ c) = over-by b c _ refl (run-over c)
 
 -- the rest of a chunk
 pub rest-over : {b out : List ℕ} {h : Held} (e : Ended) (c : List ℕ) → e .more ≡ false → Holds h []
-    → Moved (behind (take (e .wrote) out) (run (endPoint e b) c)) (record { held = h; phase = Over; size = 0 }) b out (e .wrote) (e .wrote + 25 * length c)
+    → Moved (behind (take (e .wrote) out) (run (endPoint e b) c)) (record { held = h; phase = Over; size = 0 })
+    b b out out (e .wrote) (e .wrote) (e .wrote + 25 * length c)
 rest-over {b} {out} {h} e c m k =
     record {
+      more = omega arith;
       short = omega arith;
-      going = record { holds = record { long = k .long; few = k .few; same = refl }; sized = record { fits = omega arith; good = λ z. absurd (not-later z) } };
+      book-past = refl;
+      out-past = refl;
+      going =
+          record {
+            holds = record { long = k .long; few = k .few; same = refl };
+            sized = record { fits = omega arith; none = λ z. refl; good = λ z. absurd (not-later z) };
+          };
       same =
           ap (λ (o : List ℕ). record { out = o; point = over }) (sym (append-nil (take (e .wrote) out)))
           ∙ ap (behind (take (e .wrote) out)) (sym (ap (λ (t : Bool). run (cond t (later (stateOf (take (e .size) b)) []) over) c) m ∙ run-over c));
@@ -128,7 +148,8 @@ pub rest-later : {last out out′ : List ℕ} {h : Held} {used wrote : ℕ} (b :
     → Told (settingsOf (take (e .size) b)) (take (e .size) b) c out (e .wrote) last out′ used wrote
     → length last ≡ length (take (e .size) b)
     → Holds h (kept (take (length c - used) (drop used c)))
-    → Moved (behind (take (e .wrote) out) (run (endPoint e b) c)) (record { held = h; phase = Later; size = e .size }) (last ++ drop (e .size) b) out′ wrote (e .wrote + 25 * length c)
+    → Moved (behind (take (e .wrote) out) (run (endPoint e b) c)) (record { held = h; phase = Later; size = e .size })
+    b (last ++ drop (e .size) b) out out′ (e .wrote) wrote (e .wrote + 25 * length c)
 rest-later {last} {out} {out′} {h} {used} {wrote} b e c m f v k q =
     let x = stateOf last in
     let r = drop used c in
@@ -137,8 +158,15 @@ rest-later {last} {out} {out′} {h} {used} {wrote} b e c m f v k q =
     let s = v .short in
     let held : heldOf h ≡ kept r = q .same ∙ ap kept (tail-is c used) in
     record {
+      more = v .more;
       short = omega arith;
-      going = record { holds = record { long = q .long; few = q .few; same = refl }; sized = record { fits = n .1; good = λ z. rw (n .0) (own (v .good)) } };
+      book-past = n .2;
+      out-past = v .past;
+      going =
+          record {
+            holds = record { long = q .long; few = q .few; same = refl };
+            sized = record { fits = n .1; none = λ z. both refl z; good = λ z. rw (n .0) (own (v .good)) };
+          };
       same =
           ap (λ (d : List ℕ). record { out = take wrote out′; point = later (stateOf d) (heldOf h) }) (n .0)
           ∙ ap (λ (l : List ℕ). record { out = take wrote out′; point = later x l }) held
@@ -177,10 +205,14 @@ module _ (s : Stream) (b c : List ℕ) (g : Going s b) {h : Held} {n : ℕ} (e :
   holds-on = record { long = k .long; few = k .few; same = refl }
 
   -- no line ends in it
-  pub all-held : {out : List ℕ} → n ≡ length c → Moved (run (pointOf s b) c) (record { held = h; phase = s .phase; size = s .size }) b out 0 (25 * length c)
+  pub all-held : {out : List ℕ} → n ≡ length c → Moved (run (pointOf s b) c) (record { held = h; phase = s .phase; size = s .size })
+      b b out out 0 0 (25 * length c)
   all-held {out} l =
       record {
+        more = omega arith;
         short = omega arith;
+        book-past = refl;
+        out-past = refl;
         going = record { holds = holds-on; sized = g .sized };
         same =
             ap silent (held-point ∙ ap (grown (pointOf s b)) (take-all n c (omega arith)))
@@ -188,16 +220,20 @@ module _ (s : Stream) (b c : List ℕ) (g : Going s b) {h : Held} {n : ℕ} (e :
       }
 
   -- a line ends in it
-  pub line-held : {b₁ b₂ out₁ out₂ : List ℕ} {t : Stream} {wrote : ℕ} (d : Ended) → (n ≡ length c → ⊥)
-      → EndedOf (ended (pointAt (s .phase) x (heldOf h))) d b₁ out₁ 25
-      → Moved (behind (take (d .wrote) out₁) (run (endPoint d b₁) (take (length c - (n + 1)) (drop (n + 1) c)))) t b₂ out₂ wrote (d .wrote + 25 * length (take (length c - (n + 1)) (drop (n + 1) c)))
-      → Moved (run (pointOf s b) c) t b₂ out₂ wrote (25 * length c)
-  line-held {b₁} {b₂} {out₁} {out₂} {t} {wrote} d l v m =
+  pub line-held : {b₁ b₂ out out₁ out₂ : List ℕ} {t : Stream} {wrote : ℕ} (d : Ended) → (n ≡ length c → ⊥)
+      → EndedOf (ended (pointAt (s .phase) x (heldOf h))) d b b₁ out out₁ 0 25
+      → Moved (behind (take (d .wrote) out₁) (run (endPoint d b₁) (take (length c - (n + 1)) (drop (n + 1) c))))
+      t b₁ b₂ out₁ out₂ (d .wrote) wrote (d .wrote + 25 * length (take (length c - (n + 1)) (drop (n + 1) c)))
+      → t .size ≡ d .size → Moved (run (pointOf s b) c) t b b₂ out out₂ 0 wrote (25 * length c)
+  line-held {b₁} {b₂} {out} {out₁} {out₂} {t} {wrote} d l v m q =
       let r = drop (n + 1) c in
       let y = end-leads c n e l in
       let z = ap length (tail-is c (n + 1)) in
       record {
+        more = omega arith;
         short = omega (arith, m .short, v .short, length-drop (n + 1) c, y .inside);
+        book-past = m .book-past ∙ ap (λ (k : ℕ). drop k b₁) q ∙ v .book-past ∙ ap (λ (k : ℕ). drop k b) (sym q);
+        out-past = m .out-past ∙ drop-behind out₁ out (m .more) (v .out-past);
         going = m .going;
         same =
             m .same
@@ -236,14 +272,17 @@ later-is Over h = both h refl
 
 -- no later line has begun
 pub closed-silent : {out : List ℕ} (s : Stream) (b : List ℕ) → Going s b → isLater (s .phase) ≡ true → s .held .len ≡ 0
-    → EndedOf (closed (pointOf s b)) (record { more = true; size = s .size; wrote = 0 }) b out 25
+    → EndedOf (closed (pointOf s b)) (record { more = true; size = s .size; wrote = 0 }) b b out out 0 25
 closed-silent s b g h z =
     let l = later-is (s .phase) h in
     let x = stateOf (take (s .size) b) in
     let n : heldOf (s .held) ≡ [] = ap (λ (k : ℕ). take k (s .held .bytes)) z in
     record {
+      more = omega arith;
       short = omega arith;
-      sized = record { fits = g .sized .fits; good = λ q. g .sized .good l };
+      book-past = refl;
+      out-past = refl;
+      sized = record { fits = g .sized .fits; none = λ z. both refl z; good = λ q. g .sized .good l };
       same = closed-none x ∙ sym (ap (λ (p : Phase). closed (pointAt p x (heldOf (s .held)))) l ∙ ap (λ (k : List ℕ). closed (later x k)) n);
     }
 
@@ -256,7 +295,7 @@ begun {s} b g =
     let h = g .holds in (
       record {
         holds = record { long = h .long; few = h .few; same = refl };
-        sized = record { fits = rw (g .size) (omega arith); good = λ z. absurd (not-later (sym (g .phase) ∙ z)) };
+        sized = record { fits = rw (g .size) (omega arith); none = λ z. g .size; good = λ z. absurd (not-later (sym (g .phase) ∙ z)) };
       },
       ap (λ (p : Phase). pointAt p (stateOf (take (s .size) b)) (heldOf (s .held))) (g .phase) ∙ ap opening (h .same),
     )

@@ -19,6 +19,7 @@ use Rattle.lines.specs.Stream.{kept, Point, opening, later, over, Turn, 
 use Rattle.lines.specs.Digits.{Put}
 use Rattle.lines.specs.Post.{Free, Leads, TakenOf, Told}
 use Rattle.lines.specs.declared.stream.Taken.{Taken}
+use Rattle.lines.proofs.Puts.{drop-further}
 use Rattle.lines.proofs.Keeping.{kept-append}
 use Rattle.lines.proofs.Whole.{byte-end, byte-in, run-append, ended-later}
 use Rattle.lines.proofs.Books.{after-line}
@@ -113,6 +114,12 @@ answer-length (Refused n p) = refl
 pub put-wrote : {out out′ : List ℕ} {at : ℕ} (a : Answer) → Put out out′ at (answerLine a) → take (at + 25) out′ ≡ take at out ++ answerLine a
 put-wrote {out} {out′} {at} a p = ap (λ (m : ℕ). take (at + m) out′) (sym (answer-length a)) ∙ p .wrote
 
+-- and no more than it
+pub put-past : {out out′ : List ℕ} {at : ℕ} (a : Answer) → Put out out′ at (answerLine a) → drop (at + 25) out′ ≡ drop (at + 25) out
+put-past {out} {out′} {at} a p =
+    let e = answer-length a in
+    ap (λ (m : ℕ). drop (at + m) out′) (sym e) ∙ p .past ∙ ap (λ (m : ℕ). drop (at + m) out) e
+
 -- the part `&c[i..]`
 pub tail-is : (c : List ℕ) (i : ℕ) → take (length c - i) (drop i c) ≡ drop i c
 tail-is c i = take-all (length c - i) (drop i c) (omega (arith, length-drop i c))
@@ -150,14 +157,16 @@ module _ {S : Settings} {b b′ : List ℕ} (c : List ℕ) (i : ℕ) (t : Taken)
 -- of the chunk c, the first i bytes are lines that are answered
 pub record So (S : Settings) (b₀ c out₀ : List ℕ) (from : ℕ) (b out : List ℕ) (at i : ℕ) : Type 0 where
   pub within : i ≤ length c
+  pub more : from ≤ at
   pub short : at ≤ from + 25 * i
   pub good : Good S b
+  pub past : drop at out ≡ drop at out₀
   pub book-kept : length b ≡ length b₀
   pub out-kept : length out ≡ length out₀
   pub same : behind (take at out) (run (later (stateOf b) []) (drop i c)) ≡ behind (take from out₀) (run (later (stateOf b₀) []) c)
 
 pub start : {S : Settings} (b c out : List ℕ) (from : ℕ) → Good S b → So S b c out from b out from 0
-start b c out from g = record { within = omega arith; short = omega arith; good = g; book-kept = refl; out-kept = refl; same = refl }
+start b c out from g = record { within = omega arith; more = omega arith; short = omega arith; good = g; past = refl; book-kept = refl; out-kept = refl; same = refl }
 
 module _ {S : Settings} {b₀ c out₀ b out : List ℕ} {from at i : ℕ} where
   pub more-so : {b′ out′ : List ℕ} (t : Taken) (v : So S b₀ c out₀ from b out at i) → TakenOf (take (length c - i) (drop i c)) b t b′ → 0 < t .used
@@ -165,7 +174,9 @@ module _ {S : Settings} {b₀ c out₀ b out : List ℕ} {from at i : ℕ} where
   more-so t v k s e p =
       record {
         within = in-reach c i t (v .within) (v .good) k s;
+        more = let h = v .more in omega arith;
         short = let h = v .short in omega arith;
+        past = put-past (t .answer) p ∙ drop-further out out₀ at 25 (v .past);
         good = more-good c i t (v .within) (v .good) k s;
         book-kept = e ∙ v .book-kept;
         out-kept = p .kept ∙ v .out-kept;
@@ -176,10 +187,10 @@ module _ {S : Settings} {b₀ c out₀ b out : List ℕ} {from at i : ℕ} where
   pub all-told : {b′ : List ℕ} → So S b₀ c out₀ from b out at i → Free (take (length c - i) (drop i c)) × (b′ ≡ b) → Told S b₀ c out₀ from b′ out i at
   all-told v f =
       rw (f .1)
-      (record { within = v .within; short = v .short; good = v .good; free = rw (tail-is c i) at (f .0); same = v .same })
+      (record { within = v .within; more = v .more; short = v .short; good = v .good; past = v .past; free = rw (tail-is c i) at (f .0); same = v .same })
 
   -- there is no rest
   pub end-told : So S b₀ c out₀ from b out at i → length c ≤ i → Told S b₀ c out₀ from b out i at
   unfolding Free
   end-told v h =
-      record { within = v .within; short = v .short; good = v .good; free = rw (drop-of-length-le c {i = i} h) tt; same = v .same }
+      record { within = v .within; more = v .more; short = v .short; good = v .good; past = v .past; free = rw (drop-of-length-le c {i = i} h) tt; same = v .same }

@@ -4,7 +4,7 @@ use Prim.Native.Nat.{ℕ, _+_, _*_, _%_, _≤_, _<_}
 use mathlib.Core.Path.{_≡_}
 use mathlib.Core.Bool.{Bool}
 use mathlib.Core.List.{List, _++_}
-use lib.ListN.{length, take, getD}
+use lib.ListN.{length, take, drop, getD}
 use Rattle.model.specs.Bounded.{isSome, found, every}
 use Rattle.model.specs.Lines.{digitValue}
 
@@ -30,10 +30,11 @@ halfOf d k = getD d k 0 * 4096 + getD d (k + 1) 0 * 256 + getD d (k + 2) 0 * 16 
 unfoldable pub wordOf : List ℕ → ℕ → ℕ
 wordOf d k = halfOf d k % 65536 * 65536 + halfOf d (k + 4) % 65536
 
--- `bytes` were written at `at`, behind what stood there
+-- `bytes` were written at `at`, behind what stood there, and what stands behind them is as it was
 pub record Put (before after : List ℕ) (at : ℕ) (bytes : List ℕ) : Type 0 where
   pub kept : length after ≡ length before
   pub wrote : take (at + length bytes) after ≡ take at before ++ bytes
+  pub past : drop (at + length bytes) after ≡ drop (at + length bytes) before
 
 -- r is the index of the first byte 10 of l, or l's length
 pub record LineEnd (l : List ℕ) (r : ℕ) : Type 0 where

@@ -32,6 +32,11 @@ pub record Holds (h : Held) (l : List ℕ) : Type 0 where
   pub few : h .len ≤ 201
   pub same : heldOf h ≡ l
 
+abbrev pub isLater : Phase → Bool
+isLater Opening = false
+isLater Later = true
+isLater Over = false
+
 -- where the stream is, by its fields and the book's words
 abbrev pub pointAt : Phase → State → List ℕ → Point
 pointAt Opening x l = opening l
@@ -41,9 +46,10 @@ pointAt Over x l = over
 abbrev pub pointOf : Stream → List ℕ → Point
 pointOf s b = pointAt (s .phase) (stateOf (take (s .size) b)) (heldOf (s .held))
 
--- behind a good settings line the book is a good one
+-- behind a good settings line the book is a good one; before it and behind a bad one there is none
 pub record Sized (p : Phase) (size : ℕ) (b : List ℕ) : Type 0 where
   pub fits : size ≤ length b
+  pub none : isLater p ≡ false → size ≡ 0
   pub good : p ≡ Later → Good (settingsOf (take size b)) (take size b)
 
 -- what a stream keeps
@@ -51,11 +57,15 @@ pub record Going (s : Stream) (b : List ℕ) : Type 0 where
   pub holds : Holds (s .held) (heldOf (s .held))
   pub sized : Sized (s .phase) (s .size) b
 
--- the turn t was taken, and at most `room` bytes are written
-pub record Moved (t : Turn) (s : Stream) (b out : List ℕ) (wrote room : ℕ) : Type 0 where
+-- The turn t was taken, from the book's words b₀ and the answers out₀, of which `from` bytes stood there before: `wrote` bytes stand there
+-- now, at most `room`. What stands behind the book's size and behind the answers is as it was.
+pub record Moved (t : Turn) (s : Stream) (b₀ b out₀ out : List ℕ) (from wrote room : ℕ) : Type 0 where
+  pub more : from ≤ wrote
   pub short : wrote ≤ room
   pub going : Going s b
   pub same : record { out = take wrote out; point = pointOf s b } ≡ t
+  pub book-past : drop (s .size) b ≡ drop (s .size) b₀
+  pub out-past : drop wrote out ≡ drop wrote out₀
 
 -- the stream before the first byte
 pub record Begun (s : Stream) : Type 0 where
@@ -69,17 +79,17 @@ endPoint e b = cond (e .more) (later (stateOf (take (e .size) b)) []) over
 
 pub record EndSized (e : Ended) (b : List ℕ) : Type 0 where
   pub fits : e .size ≤ length b
+  pub none : e .more ≡ false → e .size ≡ 0
   pub good : e .more ≡ true → Good (settingsOf (take (e .size) b)) (take (e .size) b)
 
-pub record EndedOf (t : Turn) (e : Ended) (b out : List ℕ) (room : ℕ) : Type 0 where
+-- the same of the end of a line
+pub record EndedOf (t : Turn) (e : Ended) (b₀ b out₀ out : List ℕ) (from room : ℕ) : Type 0 where
+  pub more : from ≤ e .wrote
   pub short : e .wrote ≤ room
   pub sized : EndSized e b
   pub same : record { out = take (e .wrote) out; point = endPoint e b } ≡ t
-
-abbrev pub isLater : Phase → Bool
-isLater Opening = false
-isLater Later = true
-isLater Over = false
+  pub book-past : drop (e .size) b ≡ drop (e .size) b₀
+  pub out-past : drop (e .wrote) out ≡ drop (e .wrote) out₀
 
 -- no byte 10
 unfoldable pub Free : List ℕ → Type 0
@@ -106,7 +116,9 @@ pub record TakenOf (l b₀ : List ℕ) (t : Taken) (b : List ℕ) : Type 0 where
 -- of the chunk c, `used` bytes were lines that are answered now, and no line ends in the rest
 pub record Told (s : Settings) (b₀ c out₀ : List ℕ) (at : ℕ) (b out : List ℕ) (used wrote : ℕ) : Type 0 where
   pub within : used ≤ length c
+  pub more : at ≤ wrote
   pub short : wrote ≤ at + 25 * used
   pub good : Good s b
+  pub past : drop wrote out ≡ drop wrote out₀
   pub free : Free (drop used c)
   pub same : behind (take wrote out) (run (later (stateOf b) []) (drop used c)) ≡ behind (take at out₀) (run (later (stateOf b₀) []) c)

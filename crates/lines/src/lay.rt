@@ -21,7 +21,7 @@ pub enum Laid {
 
 pub fn lay_words(book: &mut [u32], words: &[u32]) -> Laid
     requires { ⌜ 16384 ≤ length (now book) ⌝ }
-    ensures { λ r. ⌜ LaidOf (now (words .entry)) r (now (book .exit)) ⌝ }
+    ensures { λ r. ⌜ LaidOf (now (words .entry)) (now (book .entry)) r (now (book .exit)) ⌝ }
 {
     let size = book_len(words);
     if size == 0 {
@@ -36,7 +36,7 @@ pub fn lay_words(book: &mut [u32], words: &[u32]) -> Laid
 
 pub fn lay_line(book: &mut [u32], line: &[u8]) -> Laid
     requires { ⌜ 16384 ≤ length (now book) ⌝ }
-    ensures { λ r. ⌜ LaidBy (now (line .entry)) r (now (book .exit)) ⌝ }
+    ensures { λ r. ⌜ LaidBy (now (line .entry)) (now (book .entry)) r (now (book .exit)) ⌝ }
 {
     if !whole_words(line) {
         return Laid::Refused(24);

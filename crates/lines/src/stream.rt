@@ -174,7 +174,7 @@ fn respond(book: &mut [u32], size: usize, line: &[u8], out: &mut [u8], at: usize
     requires { ⌜ size ≤ length (now book) ⌝ }
     requires { ⌜ Good (settingsOf (take size (now book))) (take size (now book)) ⌝ }
     requires { ⌜ at + 25 ≤ length (now out) ⌝ }
-    ensures { λ r. ⌜ EndedOf (behind (take at (now (out .entry))) (told (lineOutcome (stateOf (take size (now (book .entry)))) (now (line .entry))))) r (now (book .exit)) (now (out .exit)) (at + 25) ⌝ }
+    ensures { λ r. ⌜ EndedOf (behind (take at (now (out .entry))) (told (lineOutcome (stateOf (take size (now (book .entry)))) (now (line .entry))))) r (now (book .entry)) (now (book .exit)) (now (out .entry)) (now (out .exit)) at (at + 25) ⌝ }
 {
     let a = answer_line(&mut book[..size], line);
     put_answer(out, at, a);
@@ -189,7 +189,7 @@ fn respond(book: &mut [u32], size: usize, line: &[u8], out: &mut [u8], at: usize
 fn settle(book: &mut [u32], line: &[u8], out: &mut [u8], at: usize) -> Ended
     requires { ⌜ 16384 ≤ length (now book) ⌝ }
     requires { ⌜ at + 25 ≤ length (now out) ⌝ }
-    ensures { λ r. ⌜ EndedOf (behind (take at (now (out .entry))) (opened (now (line .entry)))) r (now (book .exit)) (now (out .exit)) (at + 25) ⌝ }
+    ensures { λ r. ⌜ EndedOf (behind (take at (now (out .entry))) (opened (now (line .entry)))) r (now (book .entry)) (now (book .exit)) (now (out .entry)) (now (out .exit)) at (at + 25) ⌝ }
 {
     match lay_line(book, line) {
         Laid::Book(size) => Ended {
@@ -221,7 +221,7 @@ fn end_line(
     requires { ⌜ 16384 ≤ length (now book) ⌝ }
     requires { ⌜ Sized phase size (now book) ⌝ }
     requires { ⌜ at + 25 ≤ length (now out) ⌝ }
-    ensures { λ r. ⌜ EndedOf (behind (take at (now (out .entry))) (ended (pointAt phase (stateOf (take size (now (book .entry)))) (now (line .entry))))) r (now (book .exit)) (now (out .exit)) (at + 25) ⌝ }
+    ensures { λ r. ⌜ EndedOf (behind (take at (now (out .entry))) (ended (pointAt phase (stateOf (take size (now (book .entry)))) (now (line .entry))))) r (now (book .entry)) (now (book .exit)) (now (out .entry)) (now (out .exit)) at (at + 25) ⌝ }
 {
     match phase {
         Phase::Opening => settle(book, line, out, at),
@@ -247,7 +247,7 @@ fn nothing() -> Held
 fn go_on(book: &mut [u32], e: Ended, chunk: &[u8], out: &mut [u8]) -> Fed
     requires { ⌜ EndSized e (now book) ⌝ }
     requires { ⌜ e .wrote + 25 * length (now chunk) ≤ length (now out) ⌝ }
-    ensures { λ r. ⌜ Moved (behind (take (e .wrote) (now (out .entry))) (run (endPoint e (now (book .entry))) (now (chunk .entry)))) (r .stream) (now (book .exit)) (now (out .exit)) (r .wrote) (e .wrote + 25 * length (now (chunk .entry))) ⌝ }
+    ensures { λ r. ⌜ Moved (behind (take (e .wrote) (now (out .entry))) (run (endPoint e (now (book .entry))) (now (chunk .entry)))) (r .stream) (now (book .entry)) (now (book .exit)) (now (out .entry)) (now (out .exit)) (e .wrote) (r .wrote) (e .wrote + 25 * length (now (chunk .entry))) × (r .stream .size ≡ e .size) ⌝ }
 {
     let wrote = e.wrote;
     if !e.more {
@@ -278,7 +278,7 @@ pub fn feed(book: &mut [u32], stream: Stream, chunk: &[u8], out: &mut [u8]) -> F
     requires { ⌜ 16384 ≤ length (now book) ⌝ }
     requires { ⌜ Going stream (now book) ⌝ }
     requires { ⌜ 25 * length (now chunk) ≤ length (now out) ⌝ }
-    ensures { λ r. ⌜ Moved (run (pointOf stream (now (book .entry))) (now (chunk .entry))) (r .stream) (now (book .exit)) (now (out .exit)) (r .wrote) (25 * length (now (chunk .entry))) ⌝ }
+    ensures { λ r. ⌜ Moved (run (pointOf stream (now (book .entry))) (now (chunk .entry))) (r .stream) (now (book .entry)) (now (book .exit)) (now (out .entry)) (now (out .exit)) 0 (r .wrote) (25 * length (now (chunk .entry))) ⌝ }
 {
     let before = stream.held;
     let phase = stream.phase;
@@ -302,7 +302,7 @@ fn end_held(book: &mut [u32], phase: Phase, size: usize, held: Held, out: &mut [
     requires { ⌜ Sized phase size (now book) ⌝ }
     requires { ⌜ Holds held (heldOf held) ⌝ }
     requires { ⌜ 25 ≤ length (now out) ⌝ }
-    ensures { λ r. ⌜ EndedOf (ended (pointAt phase (stateOf (take size (now (book .entry)))) (heldOf held))) r (now (book .exit)) (now (out .exit)) 25 ⌝ }
+    ensures { λ r. ⌜ EndedOf (ended (pointAt phase (stateOf (take size (now (book .entry)))) (heldOf held))) r (now (book .entry)) (now (book .exit)) (now (out .entry)) (now (out .exit)) 0 25 ⌝ }
 {
     let bytes = held.bytes;
     let len = held.len;
@@ -335,7 +335,7 @@ pub fn close(book: &mut [u32], stream: Stream, out: &mut [u8]) -> Ended
     requires { ⌜ 16384 ≤ length (now book) ⌝ }
     requires { ⌜ Going stream (now book) ⌝ }
     requires { ⌜ 25 ≤ length (now out) ⌝ }
-    ensures { λ r. ⌜ EndedOf (closed (pointOf stream (now (book .entry)))) r (now (book .exit)) (now (out .exit)) 25 ⌝ }
+    ensures { λ r. ⌜ EndedOf (closed (pointOf stream (now (book .entry)))) r (now (book .entry)) (now (book .exit)) (now (out .entry)) (now (out .exit)) 0 25 ⌝ }
 {
     let held = stream.held;
     let phase = stream.phase;

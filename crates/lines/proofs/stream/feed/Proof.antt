@@ -53,7 +53,7 @@ returns-2 : tie.Need-returns-2
 returns-2 c =
     let d = c .before .before .before .before .before .before .before .before .before .before .before .before .before .before .before .before .before .before .before .before .before .before .before in
     line-held (d .args .stream) (d .args .book .now) (d .args .chunk .now) (d .pre .1 .0) (c .before .before .before .before .before .before .before .before .before .before .before .before .before .before .before .before .before .before .line-end .ensures) (c .before .before .before .before .before .before .before .before .before .before .before .before .before .before .before .before .hold .ensures)
-    (c .before .before .before .before .before .before .before .before .before .before .before .before .end-held .result) (c .before .before .before .before .before .before .before .before .before .before .before .before .before .before .before .if1 .left) (c .before .before .before .before .before .before .before .before .before .before .before .before .end-held .ensures) (c .before .before .before .before .go-on .ensures)
+    (c .before .before .before .before .before .before .before .before .before .before .before .before .end-held .result) (c .before .before .before .before .before .before .before .before .before .before .before .before .before .before .before .if1 .left) (c .before .before .before .before .before .before .before .before .before .before .before .before .end-held .ensures) (c .before .before .before .before .go-on .ensures .0) (c .before .before .before .before .go-on .ensures .1)
 
 pub feed-spec : {M : Type 1} → statement M
 feed-spec =

@@ -1,6 +1,6 @@
 -- `stream::go_on` meets its contract: whole lines are answered, and the rest is held.
 -- Assumes nothing.
-use mathlib.Core.Path.{sym}
+use mathlib.Core.Path.{refl, sym}
 use borrow.Author.Tests.{not-true, not-false}
 use lib.Seq.{length-take-le}
 use Rattle.lines.proofs.Streams.{rest-over, rest-later}
@@ -12,7 +12,10 @@ nothing-requires : tie.Need-nothing-requires
 nothing-requires c κs = search needs
 
 returns : tie.Need-returns
-returns c = rest-over (c .before .before .before .before .before .before .args .e) (c .before .before .before .before .before .before .args .chunk .now) (not-true _ (c .before .if1 .taken)) (c .nothing .ensures)
+returns c =
+    let d = c .before .before .before .before .before .before in
+    let m = not-true _ (c .before .if1 .taken) in
+    (rest-over (d .args .e) (d .args .chunk .now) m (c .nothing .ensures), sym (d .pre .0 .none m))
 
 slice-relend-prefix-answer-lines : tie.Need-slice-relend-prefix-answer-lines
 slice-relend-prefix-answer-lines c = search needs
@@ -45,7 +48,13 @@ same-length-2 : tie.Need-same-length-2
 same-length-2 c = search needs
 
 returns-2 : tie.Need-returns-2
-returns-2 c = rest-later (c .before .before .before .before .before .before .before .before .before .before .before .before .before .before .before .args .book .now) (c .before .before .before .before .before .before .before .before .before .before .before .before .before .before .before .args .e) (c .before .before .before .before .before .before .before .before .before .before .before .before .before .before .before .args .chunk .now) (not-false _ (c .before .before .before .before .before .before .before .before .before .before .if1 .left)) (c .before .before .before .before .before .before .before .before .before .before .before .before .before .before .before .pre .0 .fits) (c .before .before .before .before .before .before .before .answer-lines .ensures) (c .before .before .before .before .before .before .before .answer-lines .kept .0) (rw (c .before .before .nothing2 .ensures .same) at (c .hold .ensures))
+returns-2 c =
+    let a = c .before .before .before .before .before .before .before in
+    let d = a .before .before .before .before .before .before .before .before in (
+      rest-later (d .args .book .now) (d .args .e) (d .args .chunk .now) (not-false _ (a .before .before .before .if1 .left)) (d .pre .0 .fits)
+          (a .answer-lines .ensures) (a .answer-lines .kept .0) (rw (c .before .before .nothing2 .ensures .same) at (c .hold .ensures)),
+      refl,
+    )
 
 pub go-on-spec : {M : Type 1} → statement M
 go-on-spec =
