@@ -4,7 +4,7 @@ use Prim.Native.Nat.{ℕ, _+_, _/_, _≤_, _<_}
 use native.Mathlib.Omega.{arith}
 use mathlib.Core.Path.{_≡_, refl, sym, _∙_, ap}
 use mathlib.Core.Bool.{Bool, true, false, _&&_, cond}
-use mathlib.Core.List.{List, [], _++_, append-nil}
+use mathlib.Core.List.{List, [], _++_}
 use lib.Dec.{leb}
 use lib.ListN.{length, take, drop, length-append}
 use lib.Seq.{take-at, drop-at, length-take-le}
@@ -23,13 +23,14 @@ use Rattle.model.proofs.Shows.{good-valid}
 use Rattle.book.specs.Good.{answered}
 use Rattle.book.specs.Heads.{neededLength}
 use Rattle.lines.specs.Digits.{Put}
-use Rattle.lines.specs.Stream.{later, over, silent, behind, opened}
+use Rattle.lines.specs.Stream.{settingsMost, later, over, silent, opened}
 use Rattle.lines.specs.Laying.{layable, LaidOf, LaidBy}
 use Rattle.lines.specs.Post.{EndedOf}
 use Rattle.lines.specs.declared.lay.Laid.{Laid}
 use Rattle.lines.specs.declared.lay.Laid.the-variants.{Book, Refused}
 use Rattle.lines.proofs.Whole.{settings-short}
-use Rattle.lines.proofs.Books.{fresh-good}
+use Rattle.engine.proofs.Kept.{fresh-good}
+use Rattle.lines.proofs.Books.{fresh-shows}
 use Rattle.lines.proofs.Turns.{put-wrote, put-past}
 
 -- a refusal lays no book
@@ -103,7 +104,7 @@ module _ (l : List ℕ) {b : List ℕ} where
   pub by-not-whole : wholeWords l ≡ false → LaidBy l b (Refused 24) b
   by-not-whole h = refused-24 (rw h)
 
-  pub by-long : 25 < length l / 8 → LaidBy l b (Refused 24) b
+  pub by-long : settingsMost < length l / 8 → LaidBy l b (Refused 24) b
   by-long h = refused-24 (never (wholeWords l && settingsGood (lineWords l)) (λ e. omega (arith, settings-short l e)))
 
   pub by-words : {b₀ : List ℕ} {r : Laid} → wholeWords l ≡ true → LaidOf (lineWords l) b₀ r b → LaidBy l b₀ r b
@@ -146,37 +147,33 @@ module _ (l : List ℕ) where
   number-by {n} true false h k e = let q : 25 ≡ n = cc in opened-25 h k ∙ ap (λ (m : ℕ). record { out = answerLine (A.Refused m 0); point = over }) q
   number-by {n} false u h k e = let q : 24 ≡ n = cc in opened-24 h ∙ ap (λ (m : ℕ). record { out = answerLine (A.Refused m 0); point = over }) q
 
-  pub settled-book : {b₀ b out : List ℕ} (n at : ℕ) → LaidBy l b₀ (Book n) b
-      → EndedOf (behind (take at out) (opened l)) (record { more = true; size = n; wrote = at }) b₀ b out out at (at + 25)
+  pub settled-book : {b₀ b out : List ℕ} (n : ℕ) → LaidBy l b₀ (Book n) b → EndedOf (opened l) (record { more = true; size = n; wrote = 0 }) b₀ b out out 25
   unfolding layable
-  settled-book {b₀} {b} {out} n at k =
+  settled-book {b₀} {b} {out} n k =
       let f = k .fresh n refl in
       let o = book-by _ _ refl refl (k .is) in
       let g = fresh-good S (o .0) in
       record {
-        more = omega arith;
         short = omega arith;
         book-past = f .2;
         out-past = refl;
-        sized = record { fits = f .0; none = λ z. both refl z; good = λ z. rw (f .1) (record { read = refl; laid = g .0 .laid; lawful = g .0 .lawful }) };
+        sized = record { fits = f .0; none = λ z. both refl z; good = λ z. rw (f .1) (record { read = refl; laid = g .laid; lawful = g .lawful }) };
         same =
-            ap (λ (b : List ℕ). record { out = take at out; point = later (stateOf b) [] }) (f .1)
-            ∙ ap (λ (x : State). record { out = take at out; point = later x [] }) (g .1)
-            ∙ ap (λ (o : List ℕ). record { out = o; point = later (emptyState S) [] }) (sym (append-nil (take at out)))
-            ∙ ap (behind (take at out)) (sym (o .1));
+            ap (λ (b : List ℕ). silent (later (stateOf b) [])) (f .1)
+            ∙ ap (λ (x : State). silent (later x [])) (fresh-shows S (o .0))
+            ∙ sym (o .1);
       }
 
-  pub settled-refused : {b₀ b out out′ : List ℕ} (n : ℕ) {at : ℕ} → LaidBy l b₀ (Refused n) b → Put out out′ at (answerLine (A.Refused n 0))
-      → EndedOf (behind (take at out) (opened l)) (record { more = false; size = 0; wrote = at + 25 }) b₀ b out out′ at (at + 25)
+  pub settled-refused : {b₀ b out out′ : List ℕ} (n : ℕ) → LaidBy l b₀ (Refused n) b → Put out out′ 0 (answerLine (A.Refused n 0))
+      → EndedOf (opened l) (record { more = false; size = 0; wrote = 25 }) b₀ b out out′ 25
   unfolding layable
-  settled-refused {b₀} {b} {out} {out′} n {at} k p =
+  settled-refused {b₀} {b} {out} {out′} n k p =
       record {
-        more = omega arith;
         short = omega arith;
         book-past = k .refused n refl;
         out-past = put-past (A.Refused n 0) p;
         sized = record { fits = omega arith; none = λ z. refl; good = λ z. both z refl };
         same =
             ap (λ (o : List ℕ). record { out = o; point = over }) (put-wrote (A.Refused n 0) p)
-            ∙ ap (behind (take at out)) (sym (number-by _ _ refl refl (k .is)));
+            ∙ sym (number-by _ _ refl refl (k .is));
       }

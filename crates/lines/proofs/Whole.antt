@@ -25,7 +25,7 @@ use Rattle.model.specs.Lines.{digitValue, wholeWords, lineWords, linesOf, answe
 use Rattle.lines.proofs.Framing.{words-length, not-so, frame-parts, no-frame}
 use Rattle.lines.proofs.Keeping.{kept-append}
 use Rattle.lines.specs.Post.{Free}
-use Rattle.lines.specs.Stream.{kept, Point, opening, later, over, Turn, silent, behind, opened, told, ended, longer, byte, run, closed}
+use Rattle.lines.specs.Stream.{heldMost, kept, Point, opening, later, over, Turn, silent, behind, opened, told, ended, longer, byte, run, closed}
 
 free-snoc : (l : List ℕ) (b : ℕ) → Free l → (b ≡ 10 → ⊥) → Free (l ++ (b ∷ []))
 unfolding Free
@@ -49,7 +49,7 @@ lines-last b (c ∷ l) f = rw (ne-eqb b 10 (f .0), lines-last c l (f .1))
 
 -- Long lines
 
-pub settings-short : (l : List ℕ) → wholeWords l && settingsGood (lineWords l) ≡ true → length l ≤ 200
+pub settings-short : (l : List ℕ) → wholeWords l && settingsGood (lineWords l) ≡ true → length l < heldMost
 unfolding settingsGood
 settings-short l h =
     let w = lineWords l in
@@ -59,14 +59,14 @@ settings-short l h =
     let long = eqb-true (length w) (settingsLength (settingsOf w)) (and-right (leb 9 (length w)) _ (and-left _ (validSettings (settingsOf w)) good)) in
     omega (arith, words-length l, valid .few)
 
--- what a line gives is what its first 201 bytes give
+-- what a line gives is what is kept of it gives
 module _ (l : List ℕ) where
-  same-or-long : (kept l ≡ l) ⊎ ((201 < length l) × (length (kept l) ≡ 201))
-  same-or-long = go (decLt 201 (length l))
+  same-or-long : (kept l ≡ l) ⊎ ((heldMost < length l) × (length (kept l) ≡ heldMost))
+  same-or-long = go (decLt heldMost (length l))
     where
-      go : Dec (201 < length l) → (kept l ≡ l) ⊎ ((201 < length l) × (length (kept l) ≡ 201))
-      go (yes h) = inr (h, length-take-le 201 l (omega arith))
-      go (no h) = inl (take-all 201 l (omega arith))
+      go : Dec (heldMost < length l) → (kept l ≡ l) ⊎ ((heldMost < length l) × (length (kept l) ≡ heldMost))
+      go (yes h) = inr (h, length-take-le heldMost l (omega arith))
+      go (no h) = inl (take-all heldMost l (omega arith))
 
   pub outcome-kept : (x : State) → lineOutcome x (kept l) ≡ lineOutcome x l
   unfolding lineOutcome
@@ -153,7 +153,7 @@ longer-later : (x : State) (l : List ℕ) (b : ℕ) → longer (later x (kept l)
 unfolding longer
 longer-later x l b = ap (later x) (kept-append l (b ∷ []))
 
-free-none : Free []
+pub free-none : Free []
 unfolding Free
 free-none = tt
 

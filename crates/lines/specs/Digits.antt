@@ -8,6 +8,10 @@ use lib.ListN.{length, take, drop, getD}
 use Rattle.model.specs.Bounded.{isSome, found, every}
 use Rattle.model.specs.Lines.{digitValue}
 
+-- the digits of a frame line: seven words of eight
+abbrev pub frameDigits : ℕ
+frameDigits = 56
+
 -- a byte is one of the sixteen digits; its value, 0 for any other byte
 abbrev pub isDigit : ℕ → Bool
 isDigit b = isSome (digitValue b)
@@ -20,8 +24,8 @@ digitsOnly l = every isDigit l
 
 -- d are the values of the digits s
 pub record Values (s d : List ℕ) : Type 0 where
-  pub long : length d ≡ 56
-  pub at : (k : ℕ) → k < 56 → getD d k 0 ≡ valueOf (getD s k 0)
+  pub long : length d ≡ frameDigits
+  pub at : (k : ℕ) → k < frameDigits → getD d k 0 ≡ valueOf (getD s k 0)
 
 -- the number of four values, and the word of eight
 abbrev pub halfOf : List ℕ → ℕ → ℕ

@@ -11,7 +11,7 @@ ghost use Rattle.lines.specs.Laying.{LaidOf, LaidBy};
 const PROGRAM_WORDS: usize = 16384;
 
 // The most words that settings are: nine limits and sixteen capacities.
-const SETTINGS_WORDS: usize = 25;
+pub const SETTINGS_WORDS: usize = 25;
 
 // What a settings line gives: the length of the book that is laid, or the number of a refusal.
 pub enum Laid {
@@ -45,7 +45,7 @@ pub fn lay_line(book: &mut [u32], line: &[u8]) -> Laid
     if SETTINGS_WORDS < n {
         return Laid::Refused(24);
     }
-    let mut words = [0u32; 25];
+    let mut words = [0u32; SETTINGS_WORDS];
     line_words(line, &mut words);
     lay_words(book, &words[..n])
 }

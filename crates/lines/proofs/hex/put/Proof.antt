@@ -1,4 +1,4 @@
--- `hex::put` meets its contract: the bytes before i are put.
+-- `hex::put`: the bytes before i are put.
 -- Assumes nothing.
 use native.Mathlib.Omega.{arith}
 use borrow.Author.Needs.{needs}

@@ -1,4 +1,4 @@
--- `hex::word` meets its contract: the digits before i make the number so far.
+-- `hex::word`: the digits before i make the number so far.
 -- Assumes nothing.
 use native.Mathlib.Nat.{pow-suc, pow-le-pow-right, add-zero}
 use native.Mathlib.Numerals.{add-one}

@@ -1,4 +1,4 @@
--- `hex::word_digits` meets its contract: eight digits, the highest first.
+-- `hex::word_digits`: eight digits, the highest first.
 -- Assumes nothing.
 use mathlib.Core.Path.{refl, sym, ap, ap₂, _∙_}
 use mathlib.Core.List.{_∷_}

@@ -1,4 +1,4 @@
--- `lay::lay_line` meets its contract: the settings' words are read, and the book is laid or refused.
+-- `lay::lay_line`: the settings' words are read, and the book is laid or refused.
 -- Assumes nothing.
 use Rattle.model.proofs.Search.{and-left}
 use mathlib.Core.Path.{sym, _∙_}

@@ -1,4 +1,4 @@
--- `lay::lay_words` meets its contract: question 24, then 25, then a fresh book.
+-- `lay::lay_words`: question 24, then 25, then a fresh book.
 -- Assumes nothing.
 use mathlib.Core.Path.{sym}
 use native.Mathlib.Omega.{arith}

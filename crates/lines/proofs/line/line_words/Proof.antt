@@ -1,4 +1,4 @@
--- `line::line_words` meets its contract: the words before k are read.
+-- `line::line_words`: the words before k are read.
 -- Assumes nothing.
 use native.Mathlib.Omega.{arith}
 use lib.Seq.{take-all}

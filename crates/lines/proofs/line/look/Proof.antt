@@ -1,4 +1,4 @@
--- `line::look` meets its contract: a frame in front, or else the line's end is searched for.
+-- `line::look`: a frame in front, or else the line's end is searched for.
 -- Assumes nothing.
 use mathlib.Core.Path.{_≡_, sym, _∙_}
 use mathlib.Core.Bool.{true}

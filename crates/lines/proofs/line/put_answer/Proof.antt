@@ -1,4 +1,4 @@
--- `line::put_answer` meets its contract: three words and byte 10.
+-- `line::put_answer`: three words and byte 10.
 -- Assumes nothing.
 use Rattle.lines.proofs.Puts.{join-at}
 use Rattle.lines.proofs.Framing.{words-line}

@@ -1,4 +1,4 @@
--- `line::put_words` meets its contract: by the two cases of an answer.
+-- `line::put_words`: by the two cases of an answer.
 -- Assumes nothing.
 use Rattle.lines.proofs.Puts.{join, put-as}
 use Rattle.lines.proofs.Framing.{done-line, refused-line}

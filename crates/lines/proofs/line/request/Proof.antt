@@ -1,4 +1,4 @@
--- `line::request` meets its contract: the seven words of the line.
+-- `line::request`: the seven words of the line.
 -- Assumes nothing.
 use mathlib.Core.Path.{_∙_}
 use native.Mathlib.Omega.{arith}

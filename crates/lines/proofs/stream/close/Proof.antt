@@ -1,4 +1,4 @@
--- `stream::close` meets its contract: a line that is not over ends with the input.
+-- `stream::close`: a line that is not over ends with the input.
 -- Assumes nothing.
 use Rattle.model.proofs.Search.{both}
 use Prim.Native.Nat.{_<_}

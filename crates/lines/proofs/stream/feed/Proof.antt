@@ -1,11 +1,13 @@
--- `stream::feed` meets its contract: the held line first, then whole lines, and the rest is held.
+-- `stream::feed`: the held line first, then whole lines, and the rest is held.
 -- Assumes nothing.
 use Prim.Native.Nat.{_≤_}
 use lib.ListN.{length}
 use mathlib.Core.Path.{sym}
 use native.Mathlib.Omega.{arith}
 use lib.Seq.{length-take-le}
-use Rattle.lines.proofs.Streams.{holds-on, all-held, line-held}
+use Rattle.lines.proofs.Streams.{all-held, line-held}
+use Rattle.lines.proofs.Keeping.{holds-own}
+use Rattle.lines.proofs.Looking.{line-free}
 use borrow.Author.Needs.{needs}
 use Rattle.lines.proofs.stream.feed.Statement.{statement}
 use Rattle.lines.proofs.stream.feed.Tie as tie
@@ -17,7 +19,9 @@ slice-aggregate-hold : tie.Need-slice-aggregate-hold
 slice-aggregate-hold c = sym (length-take-le (c .before .line-end .result) (c .before .before .before .before .before .before .args .chunk .now) (c .before .line-end .ensures .within))
 
 hold-requires : tie.Need-hold-requires
-hold-requires c κs = search needs
+hold-requires c κs =
+    let d = c .before .before .before .before .before .before in
+    (d .pre .1 .0 .holds, line-free (d .args .chunk .now) (c .before .line-end .result) (c .before .line-end .ensures))
 
 returns : tie.Need-returns
 returns c = all-held (c .before .before .before .before .before .before .before .before .args .stream) (c .before .before .before .before .before .before .before .before .args .book .now) (c .before .before .before .before .before .before .before .before .args .chunk .now) (c .before .before .before .before .before .before .before .before .pre .1 .0) (c .before .before .before .line-end .ensures) (c .before .hold .ensures) (c .if1 .taken)
@@ -26,7 +30,7 @@ room : (c : tie.After-end-held-arg2) → 25 ≤ length (c .before .before .befor
 room c = let w = c .before .before .before .before .before .line-end .ensures .within in let n = c .before .before .if1 .left in omega (arith, c .before .before .before .before .before .before .before .before .before .before .pre .1 .1)
 
 end-held-requires : tie.Need-end-held-requires
-end-held-requires c κs = (c .before .before .before .before .before .before .before .before .before .before .pre .0, (c .before .before .before .before .before .before .before .before .before .before .pre .1 .0 .sized, (holds-on (c .before .before .before .before .before .before .before .before .before .before .args .stream) (c .before .before .before .before .before .before .before .before .before .before .args .book .now) (c .before .before .before .before .before .before .before .before .before .before .args .chunk .now) (c .before .before .before .before .before .before .before .before .before .before .pre .1 .0) (c .before .before .before .before .before .line-end .ensures) (c .before .before .before .hold .ensures), room c)))
+end-held-requires c κs = (c .before .before .before .before .before .before .before .before .before .before .pre .0, (c .before .before .before .before .before .before .before .before .before .before .pre .1 .0 .sized, (holds-own (c .before .before .before .hold .ensures), room c)))
 
 add-next : tie.Need-add-next
 add-next c = search needs

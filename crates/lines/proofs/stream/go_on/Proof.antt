@@ -1,8 +1,11 @@
--- `stream::go_on` meets its contract: whole lines are answered, and the rest is held.
+-- `stream::go_on`: whole lines are answered, and the rest is held.
 -- Assumes nothing.
 use mathlib.Core.Path.{refl, sym}
 use borrow.Author.Tests.{not-true, not-false}
 use lib.Seq.{length-take-le}
+use native.Mathlib.Omega.{arith}
+use Rattle.lines.proofs.Keeping.{holds-own}
+use Rattle.lines.proofs.Turns.{ends-le, tail-is}
 use Rattle.lines.proofs.Streams.{rest-over, rest-later}
 use borrow.Author.Needs.{needs}
 use Rattle.lines.proofs.stream.go_on.Statement.{statement}
@@ -24,7 +27,9 @@ slice-aggregate-answer-lines : tie.Need-slice-aggregate-answer-lines
 slice-aggregate-answer-lines c = sym (length-take-le (c .before .before .before .before .before .before .args .e .size) (c .before .before .before .before .before .before .args .book .now) (c .before .before .before .before .before .before .pre .0 .fits))
 
 answer-lines-requires : tie.Need-answer-lines-requires
-answer-lines-requires c κs = (c .before .before .before .before .before .before .before .pre .0 .good (not-false _ (c .before .before .if1 .left)), c .before .before .before .before .before .before .before .pre .1)
+answer-lines-requires c κs =
+    let d = c .before .before .before .before .before .before .before in
+    (d .pre .0 .good (not-false _ (c .before .before .if1 .left)), omega (arith, d .pre .1, ends-le (d .args .chunk .now)))
 
 nothing-requires-2 : tie.Need-nothing-requires-2
 nothing-requires-2 c κs = search needs
@@ -39,7 +44,9 @@ part-hold-end : tie.Need-part-hold-end
 part-hold-end c = search needs
 
 hold-requires : tie.Need-hold-requires
-hold-requires c κs = search needs
+hold-requires c κs =
+    let a = c .before .before .before .before .before .before .answer-lines in
+    (holds-own (c .before .nothing2 .ensures), rw (tail-is (c .before .before .before .before .before .before .before .before .before .before .before .before .before .before .args .chunk .now) (a .result .used)) (a .ensures .free))
 
 same-length : tie.Need-same-length
 same-length c = search needs
