@@ -10,7 +10,6 @@ use Rattle.lines.specs.Post.{Begun, Moved}
 use Rattle.lines.specs.declared.stream.Stream.{Stream}
 use Rattle.lines.proofs.Program.{Ran, ran-none, ran-more, ran-ends}
 use Rattle.frames.specs.declared.Turn.{Turn}
-use Rattle.frames.specs.declared.End.{End}
 use Rattle.frames.specs.declared.Sign.{Sign}
 use Rattle.frames.specs.Run.{Turned, Finished, Driven}
 

@@ -39,7 +39,8 @@ pub outcome-no : (x : State) (l : List ℕ) → isFrame l ≡ false → lineOutc
 unfolding lineOutcome
 outcome-no x l h = simp h
 
-line-sound : (x : State) (l : List ℕ) (t : Bool) → isFrame l ≡ t → Sound x → Sound (lineOutcome x l .state) × (lineOutcome x l .state .settings ≡ x .settings)
+line-sound : (x : State) (l : List ℕ) (t : Bool) → isFrame l ≡ t → Sound x
+    → Sound (lineOutcome x l .state) × (lineOutcome x l .state .settings ≡ x .settings)
 line-sound x l true h s = rw (outcome-yes x l h) (step-sound x s (requestOf (lineWords l)), step-settings x (requestOf (lineWords l)))
 line-sound x l false h s = rw (outcome-no x l h) (s, refl)
 
@@ -52,7 +53,8 @@ pub record After (S : Settings) (x : State) (l : List ℕ) (b : List ℕ) : Type
   pub good : Good S b
   pub shows : stateOf b ≡ lineOutcome x l .state
 
-pub after-line : {S : Settings} {b b′ : List ℕ} {a : Answer} (l : List ℕ) → Good S b → answered a b′ ≡ called (lineOutcome (stateOf b) l) → After S (stateOf b) l b′
+pub after-line : {S : Settings} {b b′ : List ℕ} {a : Answer} (l : List ℕ) → Good S b → answered a b′ ≡ called (lineOutcome (stateOf b) l)
+    → After S (stateOf b) l b′
 after-line {S} {b} {b′} {a} l h e =
     let x = stateOf b in
     let y = lineOutcome x l .state in

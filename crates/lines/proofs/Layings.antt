@@ -75,9 +75,15 @@ module _ (w : List ℕ) {size : ℕ} (e : size ≡ neededLength w) where
   pub laid-large : {b : List ℕ} → (size ≡ 0 → ⊥) → 16384 < size → LaidOf w b (Refused 25) b
   laid-large n h =
       let g = good-by _ refl n in
-      record { is = sym (ap (λ (t : Bool). layable t w) (g .0) ∙ layable-25 w (omega (arith, g .1))); fresh = λ n q. no-book q; refused = λ n q. refl }
+      record {
+        is =
+            sym (ap (λ (t : Bool). layable t w) (g .0) ∙ layable-25 w (omega (arith, g .1)));
+        fresh = λ n q. no-book q;
+        refused = λ n q. refl;
+      }
 
-lay-good : (w b : List ℕ) → settingsGood w ≡ true → length b ≡ bookLength (settingsOf w) → lay w b ≡ record { answer = A.Done 0; book = freshBook (settingsOf w) }
+lay-good : (w b : List ℕ) → settingsGood w ≡ true → length b ≡ bookLength (settingsOf w)
+    → lay w b ≡ record { answer = A.Done 0; book = freshBook (settingsOf w) }
 unfolding lay
 lay-good w b h e = simp (h, eq-eqb (length b) (bookLength (settingsOf w)) e)
 
@@ -99,7 +105,8 @@ laid-good w b {last} {a} {size} e n h r q k =
 -- the words of a line
 module _ (l : List ℕ) {b : List ℕ} where
   refused-24 : wholeWords l && settingsGood (lineWords l) ≡ false → LaidBy l b (Refused 24) b
-  refused-24 h = record { is = sym (ap (λ (t : Bool). layable t (lineWords l)) h ∙ layable-24 (lineWords l)); fresh = λ n q. no-book q; refused = λ n q. refl }
+  refused-24 h =
+      record { is = sym (ap (λ (t : Bool). layable t (lineWords l)) h ∙ layable-24 (lineWords l)); fresh = λ n q. no-book q; refused = λ n q. refl }
 
   pub by-not-whole : wholeWords l ≡ false → LaidBy l b (Refused 24) b
   by-not-whole h = refused-24 (rw h)
@@ -109,7 +116,12 @@ module _ (l : List ℕ) {b : List ℕ} where
 
   pub by-words : {b₀ : List ℕ} {r : Laid} → wholeWords l ≡ true → LaidOf (lineWords l) b₀ r b → LaidBy l b₀ r b
   by-words h k =
-      record { is = k .is ∙ ap (λ (t : Bool). layable (t && settingsGood (lineWords l)) (lineWords l)) (sym h); fresh = k .fresh; refused = k .refused }
+      record {
+        is =
+            k .is ∙ ap (λ (t : Bool). layable (t && settingsGood (lineWords l)) (lineWords l)) (sym h);
+        fresh = k .fresh;
+        refused = k .refused;
+      }
 
 pub laid-is : {l b₀ b : List ℕ} {r q : Laid} → LaidBy l b₀ r b → r ≡ q → LaidBy l b₀ q b
 laid-is {l} {b₀} {b} k e = rw e at k
@@ -128,7 +140,8 @@ module _ (l : List ℕ) where
   unfolding opened
   opened-25 h k = simp (h, k)
 
-  opened-book : wholeWords l && settingsGood (lineWords l) ≡ true → leb (bookLength S) programWords ≡ true → opened l ≡ silent (later (emptyState S) [])
+  opened-book : wholeWords l && settingsGood (lineWords l) ≡ true → leb (bookLength S) programWords ≡ true
+      → opened l ≡ silent (later (emptyState S) [])
   unfolding opened
   opened-book h k = simp (h, k)
 
@@ -147,7 +160,8 @@ module _ (l : List ℕ) where
   number-by {n} true false h k e = let q : 25 ≡ n = cc in opened-25 h k ∙ ap (λ (m : ℕ). record { out = answerLine (A.Refused m 0); point = over }) q
   number-by {n} false u h k e = let q : 24 ≡ n = cc in opened-24 h ∙ ap (λ (m : ℕ). record { out = answerLine (A.Refused m 0); point = over }) q
 
-  pub settled-book : {b₀ b out : List ℕ} (n : ℕ) → LaidBy l b₀ (Book n) b → EndedOf (opened l) (record { more = true; size = n; wrote = 0 }) b₀ b out out 25
+  pub settled-book : {b₀ b out : List ℕ} (n : ℕ) → LaidBy l b₀ (Book n) b
+      → EndedOf (opened l) (record { more = true; size = n; wrote = 0 }) b₀ b out out 25
   unfolding layable
   settled-book {b₀} {b} {out} n k =
       let f = k .fresh n refl in

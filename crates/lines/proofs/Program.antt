@@ -7,12 +7,13 @@ use lib.ListN.{take}
 use Rattle.model.specs.Words.{words}
 use Rattle.model.specs.Reading.{stateOf}
 use Rattle.model.specs.Lines.{frames}
-use Rattle.lines.specs.Stream.{Point, opening, over, Turn, silent, behind, run, closed}
+use Rattle.lines.specs.Stream.{Point, opening, Turn, silent, behind, run, closed}
 use Rattle.lines.specs.Post.{pointAt, pointOf, heldOf, Going, Moved, Begun}
 use Rattle.lines.specs.declared.stream.Phase.{Phase}
 use Rattle.lines.specs.declared.stream.Phase.the-variants.{Later, Over}
 use Rattle.lines.specs.declared.stream.Stream.{Stream}
 use Rattle.engine.proofs.Kept.{good-book}
+use Rattle.lines.proofs.Turns.{run-none}
 use Rattle.lines.proofs.Streams.{begun}
 use Rattle.lines.proofs.Whole.{whole, run-append, whole-append, whole-over, whole-frames}
 
@@ -20,10 +21,6 @@ use Rattle.lines.proofs.Whole.{whole, run-append, whole-append, whole-o
 pub record Ran (i w : List ℕ) (s : Stream) (b : List ℕ) : Type 0 where
   pub going : Going s b
   pub same : run (opening []) i ≡ record { out = w; point = pointOf s b }
-
-run-none : (p : Point) → run p [] ≡ silent p
-unfolding run
-run-none p = refl
 
 whole-is : (p : Point) (i : List ℕ) → behind (run p i .out) (closed (run p i .point)) ≡ whole p i
 unfolding whole

@@ -38,7 +38,8 @@ pub put-none : (out : List ℕ) (at : ℕ) → Put out out at []
 put-none out at = record { kept = refl; wrote = ap (λ (n : ℕ). take n out) (add-zero at) ∙ sym (append-nil (take at out)); past = refl }
 
 pub put-one : (out : List ℕ) (at b : ℕ) → at < length out → Put out (set out at b) at (b ∷ [])
-put-one out at b h = record { kept = length-set out at b; wrote = rw (add-one, take-suc-set out at b h); past = drop-set-lt (at + 1) out at b (omega arith) }
+put-one out at b h =
+    record { kept = length-set out at b; wrote = rw (add-one, take-suc-set out at b h); past = drop-set-lt (at + 1) out at b (omega arith) }
 
 -- one more of the bytes
 pub put-more : {out₀ out : List ℕ} {at : ℕ} (bytes : List ℕ) (i : ℕ) → i < length bytes → at + i < length out₀

@@ -99,7 +99,8 @@ longer-over : (b : ℕ) → longer over b ≡ over
 unfolding longer
 longer-over b = refl
 
-over-by : (b : ℕ) (c : List ℕ) (t : Bool) → eqb b 10 ≡ t → run over c ≡ silent over → behind (byte over b .out) (run (byte over b .point) c) ≡ silent over
+over-by : (b : ℕ) (c : List ℕ) (t : Bool) → eqb b 10 ≡ t → run over c ≡ silent over
+    → behind (byte over b .out) (run (byte over b .point) c) ≡ silent over
 over-by b c true h r = ap (λ (t : Turn). behind (t .out) (run (t .point) c)) (byte-end over (eqb-true b 10 h) ∙ ended-over) ∙ r
 over-by b c false h r = ap (λ (t : Turn). behind (t .out) (run (t .point) c)) (byte-in over (eqb-false b 10 h) ∙ ap silent (longer-over b)) ∙ r
 
@@ -186,7 +187,8 @@ module _ (s : Stream) (b c : List ℕ) (g : Going s b) {h : Held} {n : ℕ} (e :
   point-kept : Kept (pointOf s b)
   point-kept =
       kept-at (s .phase) x (heldOf (s .held))
-      (take-all heldMost (heldOf (s .held)) (omega (arith, g .holds .few, g .holds .long, length-take-le (s .held .len) (s .held .bytes) (omega (arith, g .holds .few, g .holds .long)))))
+      (take-all heldMost (heldOf (s .held))
+      (omega (arith, g .holds .few, g .holds .long, length-take-le (s .held .len) (s .held .bytes) (omega (arith, g .holds .few, g .holds .long)))))
 
   held-point : pointAt (s .phase) x (heldOf h) ≡ grown (pointOf s b) (take n c)
   held-point = ap (pointAt (s .phase) x) (k .same) ∙ grown-at (s .phase) x (heldOf (s .held)) (take n c)

@@ -143,7 +143,7 @@ run-later x l n e =
     ∙ ap (λ (t : Turn). behind (t .out) (run (t .point) (drop (n + 1) l))) (ended-later x (take n l))
 
 -- a line by itself, with its byte 10
-run-none : (p : Point) → run p [] ≡ silent p
+pub run-none : (p : Point) → run p [] ≡ silent p
 unfolding run
 run-none p = refl
 
@@ -214,7 +214,8 @@ module _ {S : Settings} {b b′ : List ℕ} (c : List ℕ) (i : ℕ) (t : Taken)
   more-good = after-line (take (t .used - 1) (drop i c)) g gives .good
 
   pub more-told : {out out′ : List ℕ} {at : ℕ} → Put out out′ at (answerLine (t .answer))
-      → behind (take (at + 25) out′) (run (later (stateOf b′) []) (drop (i + t .used) c)) ≡ behind (take at out) (run (later (stateOf b) []) (drop i c))
+      → behind (take (at + 25) out′) (run (later (stateOf b′) []) (drop (i + t .used) c))
+      ≡ behind (take at out) (run (later (stateOf b) []) (drop i c))
   more-told {out} {out′} {at} p =
       let l = take (t .used - 1) (drop i c) in
       let o = lineOutcome (stateOf b) l in
@@ -222,7 +223,8 @@ module _ {S : Settings} {b b′ : List ℕ} (c : List ℕ) (i : ℕ) (t : Taken)
       let a : t .answer ≡ o .answer = ap (λ (q : Called). q .answer) gives in
       let x : stateOf b′ ≡ o .state = after-line l g gives .shows in
       rw (w, a, x, rest-is)
-      (ap (λ (q : List ℕ). record { out = q; point = run (later (o .state) []) (drop (t .used - 1 + 1) (drop i c)) .point }) (append-assoc (take at out) (answerLine (o .answer)) _)
+      (ap (λ (q : List ℕ). record { out = q; point = run (later (o .state) []) (drop (t .used - 1 + 1) (drop i c)) .point })
+      (append-assoc (take at out) (answerLine (o .answer)) _)
       ∙ ap (behind (take at out)) (sym (run-later (stateOf b) (drop i c) (t .used - 1) leads)))
 
 -- of the chunk c, the first i bytes are lines that are answered
@@ -237,7 +239,8 @@ pub record So (S : Settings) (b₀ c out₀ : List ℕ) (from : ℕ) (b out : Li
   pub same : behind (take at out) (run (later (stateOf b) []) (drop i c)) ≡ behind (take from out₀) (run (later (stateOf b₀) []) c)
 
 pub start : {S : Settings} (b c out : List ℕ) (from : ℕ) → Good S b → So S b c out from b out from 0
-start b c out from g = record { within = omega arith; more = omega arith; room = omega arith; good = g; past = refl; book-kept = refl; out-kept = refl; same = refl }
+start b c out from g =
+    record { within = omega arith; more = omega arith; room = omega arith; good = g; past = refl; book-kept = refl; out-kept = refl; same = refl }
 
 module _ {S : Settings} {b₀ c out₀ b out : List ℕ} {from at i : ℕ} where
   pub more-so : {b′ out′ : List ℕ} (t : Taken) (v : So S b₀ c out₀ from b out at i) → TakenOf (take (length c - i) (drop i c)) b t b′ → 0 < t .used
@@ -258,10 +261,28 @@ module _ {S : Settings} {b₀ c out₀ b out : List ℕ} {from at i : ℕ} where
   pub all-told : {b′ : List ℕ} → So S b₀ c out₀ from b out at i → Free (take (length c - i) (drop i c)) × (b′ ≡ b) → Told S b₀ c out₀ from b′ out i at
   all-told v f =
       rw (f .1)
-      (record { within = v .within; more = v .more; short = let h = v .room in omega arith; good = v .good; past = v .past; free = rw (tail-is c i) at (f .0); same = v .same })
+      (record {
+        within = v .within;
+        more = v .more;
+        short = let h = v .room in omega arith;
+        good = v .good;
+        past = v .past;
+        free = rw (tail-is c i) at (f .0);
+        same = v .same;
+      })
 
   -- there is no rest
   pub end-told : So S b₀ c out₀ from b out at i → length c ≤ i → Told S b₀ c out₀ from b out i at
   unfolding Free
   end-told v h =
-      record { within = v .within; more = v .more; short = let h = v .room in omega arith; good = v .good; past = v .past; free = rw (drop-of-length-le c {i = i} h) tt; same = v .same }
+      record {
+        within =
+            v .within;
+        more = v .more;
+        short = let h = v .room in omega arith;
+        good = v .good;
+        past = v .past;
+        free = rw
+            (drop-of-length-le c {i = i} h) tt;
+        same = v .same;
+      }

@@ -1,6 +1,6 @@
 -- What the stream writes for a whole input is `frames` of it; a run over two parts of an input is a run over both.
 -- Assumes nothing.
-use Prim.Native.Nat.{ℕ, _+_, _-_, _%_, _≤_, _<_}
+use Prim.Native.Nat.{ℕ, _%_, _<_}
 use native.Mathlib.Omega.{arith}
 use mathlib.Core.Path.{_≡_, refl, sym, _∙_, ap}
 use mathlib.Core.Bool.{Bool, true, false, _&&_}
@@ -21,11 +21,13 @@ use Rattle.model.specs.Words.{bookLength}
 use Rattle.model.specs.Reading.{settingsOf}
 use Rattle.model.specs.Calls.{settingsGood}
 use Rattle.model.specs.declared.Answer.the-variants.{Refused}
-use Rattle.model.specs.Lines.{digitValue, wholeWords, lineWords, linesOf, answerLine, lineOutcome, answerLines, programWords, output, frames}
+use Rattle.model.specs.Lines.{digitValue, wholeWords, lineWords, linesOf, answerLine, lineOutcome, answerLines}
+use Rattle.model.specs.Lines.{programWords, output, frames}
 use Rattle.lines.proofs.Framing.{words-length, not-so, frame-parts, no-frame}
 use Rattle.lines.proofs.Keeping.{kept-append}
 use Rattle.lines.specs.Post.{Free}
-use Rattle.lines.specs.Stream.{heldMost, kept, Point, opening, later, over, Turn, silent, behind, opened, told, ended, longer, byte, run, closed}
+use Rattle.lines.specs.Stream.{heldMost, kept, Point, opening, later, over, Turn, silent, behind, opened, told}
+use Rattle.lines.specs.Stream.{ended, longer, byte, run, closed}
 
 free-snoc : (l : List ℕ) (b : ℕ) → Free l → (b ≡ 10 → ⊥) → Free (l ++ (b ∷ []))
 unfolding Free
@@ -56,7 +58,8 @@ settings-short l h =
     let whole = eqb-true (length l % 8) 0 (and-right (every (λ b. isSome (digitValue b)) l) _ (and-left (wholeWords l) _ h)) in
     let good = and-right (wholeWords l) _ h in
     let valid = valid-is (settingsOf w) (and-right (leb 9 (length w) && eqb (length w) (settingsLength (settingsOf w))) _ good) in
-    let long = eqb-true (length w) (settingsLength (settingsOf w)) (and-right (leb 9 (length w)) _ (and-left _ (validSettings (settingsOf w)) good)) in
+    let long = eqb-true (length w) (settingsLength (settingsOf w)) (and-right (leb 9 (length w)) _ (and-left _ (validSettings (settingsOf w)) good))
+    in
     omega (arith, words-length l, valid .few)
 
 -- what a line gives is what is kept of it gives
@@ -81,7 +84,10 @@ module _ (l : List ℕ) where
   opened-kept =
       ⊎-elim (λ e. ap opened e)
       (λ h.
-      simp (not-so (wholeWords (kept l) && settingsGood (lineWords (kept l))) (λ e. omega (arith, settings-short (kept l) e)), not-so (wholeWords l && settingsGood (lineWords l)) (λ e. omega (arith, settings-short l e))))
+      simp (
+        not-so (wholeWords (kept l) && settingsGood (lineWords (kept l))) (λ e. omega (arith, settings-short (kept l) e)),
+        not-so (wholeWords l && settingsGood (lineWords l)) (λ e. omega (arith, settings-short l e)),
+      ))
       same-or-long
 
 -- Runs
@@ -202,10 +208,12 @@ isSettings l = wholeWords l && settingsGood (lineWords l)
 abbrev fitting : List ℕ → Bool
 fitting l = leb (bookLength (settingsOf (lineWords l))) programWords
 
-settings-by : (l bs : List ℕ) (t u : Bool) → isSettings l ≡ t → fitting l ≡ u → opened l .out ++ whole (opened l .point) bs .out ≡ output (l ∷ linesOf bs)
+settings-by : (l bs : List ℕ) (t u : Bool) → isSettings l ≡ t → fitting l ≡ u
+    → opened l .out ++ whole (opened l .point) bs .out ≡ output (l ∷ linesOf bs)
 unfolding opened output
 settings-by l bs true true h k = simp (h, k) (later-whole bs (emptyState (settingsOf (lineWords l))) [] free-none)
-settings-by l bs true false h k = simp (h, k) (ap (λ (o : List ℕ). answerLine (Refused 25 0) ++ o) (whole-over bs) ∙ append-nil (answerLine (Refused 25 0)))
+settings-by l bs true false h k =
+    simp (h, k) (ap (λ (o : List ℕ). answerLine (Refused 25 0) ++ o) (whole-over bs) ∙ append-nil (answerLine (Refused 25 0)))
 settings-by l bs false u h k = simp h (ap (λ (o : List ℕ). answerLine (Refused 24 0) ++ o) (whole-over bs) ∙ append-nil (answerLine (Refused 24 0)))
 
 alone-by : (l : List ℕ) (t u : Bool) → isSettings l ≡ t → fitting l ≡ u → opened l .out ≡ output (l ∷ [])

@@ -19,7 +19,8 @@ ghost use Rattle.model.specs.Reading.{settingsOf, stateOf};
 ghost use Rattle.model.specs.Lines.{lineOutcome};
 ghost use Rattle.book.specs.Good.{Good};
 ghost use Rattle.lines.specs.Stream.{kept, behind, opened, told, ended, run, closed};
-ghost use Rattle.lines.specs.Post.{Free, ends, heldOf, Holds, pointAt, pointOf, Sized, Going, EndSized, endPoint, EndedOf, Moved, TakenOf, Told, Begun, isLater};
+ghost use Rattle.lines.specs.Post.{Free, ends, heldOf, Holds, pointAt, pointOf, Sized, Going, Begun, isLater};
+ghost use Rattle.lines.specs.Post.{EndSized, endPoint, EndedOf, Moved, TakenOf, Told};
 
 // The most bytes that are held of a line: one more than a good line can have, so that they say all. Byte 10 has room behind them.
 const HELD_MOST: usize = 8 * SETTINGS_WORDS + 1;
@@ -124,7 +125,8 @@ fn take_line(book: &mut [u32], s: Settings, chunk: &[u8]) -> Taken
 fn answer_lines(book: &mut [u32], chunk: &[u8], out: &mut [u8], from: usize) -> Progress
     requires { ⌜ Good (settingsOf (now book)) (now book) ⌝ }
     requires { ⌜ from + 25 * ends (now chunk) ≤ length (now out) ⌝ }
-    ensures { λ r. ⌜ Told (settingsOf (now (book .entry))) (now (book .entry)) (now (chunk .entry)) (now (out .entry)) from (now (book .exit)) (now (out .exit)) (r .used) (r .wrote) ⌝ }
+    ensures { λ r. ⌜ Told (settingsOf (now (book .entry))) (now (book .entry)) (now (chunk .entry))
+        (now (out .entry)) from (now (book .exit)) (now (out .exit)) (r .used) (r .wrote) ⌝ }
 {
     let s = settings(book);
     let mut at = from;
@@ -150,7 +152,8 @@ fn end_later(book: &mut [u32], size: usize, held: Held, out: &mut [u8]) -> Ended
     requires { ⌜ Good (settingsOf (take size (now book))) (take size (now book)) ⌝ }
     requires { ⌜ Holds held (heldOf held) ⌝ }
     requires { ⌜ 25 ≤ length (now out) ⌝ }
-    ensures { λ r. ⌜ EndedOf (told (lineOutcome (stateOf (take size (now (book .entry)))) (heldOf held))) r (now (book .entry)) (now (book .exit)) (now (out .entry)) (now (out .exit)) 25 ⌝ }
+    ensures { λ r. ⌜ EndedOf (told (lineOutcome (stateOf (take size (now (book .entry)))) (heldOf held)))
+        r (now (book .entry)) (now (book .exit)) (now (out .entry)) (now (out .exit)) 25 ⌝ }
 {
     let mut bytes = held.bytes;
     let len = held.len;
@@ -201,7 +204,9 @@ fn nothing() -> Held
 fn go_on(book: &mut [u32], e: Ended, chunk: &[u8], out: &mut [u8]) -> Fed
     requires { ⌜ EndSized e (now book) ⌝ }
     requires { ⌜ e .wrote + 25 * length (now chunk) ≤ length (now out) ⌝ }
-    ensures { λ r. ⌜ Moved (behind (take (e .wrote) (now (out .entry))) (run (endPoint e (now (book .entry))) (now (chunk .entry)))) (r .stream) (now (book .entry)) (now (book .exit)) (now (out .entry)) (now (out .exit)) (e .wrote) (r .wrote) (e .wrote + 25 * length (now (chunk .entry))) × (r .stream .size ≡ e .size) ⌝ }
+    ensures { λ r. ⌜ Moved (behind (take (e .wrote) (now (out .entry))) (run (endPoint e (now (book .entry))) (now (chunk .entry))))
+        (r .stream) (now (book .entry)) (now (book .exit)) (now (out .entry)) (now (out .exit))
+        (e .wrote) (r .wrote) (e .wrote + 25 * length (now (chunk .entry))) × (r .stream .size ≡ e .size) ⌝ }
 {
     let wrote = e.wrote;
     if !e.more {
@@ -232,7 +237,8 @@ pub fn feed(book: &mut [u32], stream: Stream, chunk: &[u8], out: &mut [u8]) -> F
     requires { ⌜ 16384 ≤ length (now book) ⌝ }
     requires { ⌜ Going stream (now book) ⌝ }
     requires { ⌜ 25 * length (now chunk) ≤ length (now out) ⌝ }
-    ensures { λ r. ⌜ Moved (run (pointOf stream (now (book .entry))) (now (chunk .entry))) (r .stream) (now (book .entry)) (now (book .exit)) (now (out .entry)) (now (out .exit)) 0 (r .wrote) (25 * length (now (chunk .entry))) ⌝ }
+    ensures { λ r. ⌜ Moved (run (pointOf stream (now (book .entry))) (now (chunk .entry)))
+        (r .stream) (now (book .entry)) (now (book .exit)) (now (out .entry)) (now (out .exit)) 0 (r .wrote) (25 * length (now (chunk .entry))) ⌝ }
 {
     let before = stream.held;
     let phase = stream.phase;
@@ -256,7 +262,8 @@ fn end_held(book: &mut [u32], phase: Phase, size: usize, held: Held, out: &mut [
     requires { ⌜ Sized phase size (now book) ⌝ }
     requires { ⌜ Holds held (heldOf held) ⌝ }
     requires { ⌜ 25 ≤ length (now out) ⌝ }
-    ensures { λ r. ⌜ EndedOf (ended (pointAt phase (stateOf (take size (now (book .entry)))) (heldOf held))) r (now (book .entry)) (now (book .exit)) (now (out .entry)) (now (out .exit)) 25 ⌝ }
+    ensures { λ r. ⌜ EndedOf (ended (pointAt phase (stateOf (take size (now (book .entry)))) (heldOf held)))
+        r (now (book .entry)) (now (book .exit)) (now (out .entry)) (now (out .exit)) 25 ⌝ }
 {
     match phase {
         Phase::Opening => {
@@ -299,7 +306,8 @@ pub fn close(book: &mut [u32], stream: Stream, out: &mut [u8]) -> Ended
     requires { ⌜ 16384 ≤ length (now book) ⌝ }
     requires { ⌜ Going stream (now book) ⌝ }
     requires { ⌜ 25 ≤ length (now out) ⌝ }
-    ensures { λ r. ⌜ EndedOf (closed (pointOf stream (now (book .entry)))) r (now (book .entry)) (now (book .exit)) (now (out .entry)) (now (out .exit)) 25 ⌝ }
+    ensures { λ r. ⌜ EndedOf (closed (pointOf stream (now (book .entry))))
+        r (now (book .entry)) (now (book .exit)) (now (out .entry)) (now (out .exit)) 25 ⌝ }
 {
     let held = stream.held;
     let phase = stream.phase;

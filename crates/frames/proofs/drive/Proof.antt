@@ -10,7 +10,8 @@ use Rattle.frames.proofs.drive.Statement.{statement}
 use Rattle.frames.proofs.drive.Tie as tie
 
 abbrev Inv-loop : tie.InvT-loop
-Inv-loop book₀ chunk₀ out₀ turn₀ turns₀ book chunk out turn turns = (length book ≡ length book₀) × (length chunk ≡ length chunk₀) × (length out ≡ length out₀) × Since (turn .stream) book
+Inv-loop book₀ chunk₀ out₀ turn₀ turns₀ book chunk out turn turns =
+    (length book ≡ length book₀) × (length chunk ≡ length chunk₀) × (length out ≡ length out₀) × Since (turn .stream) book
 
 abbrev μ-loop : tie.MeasureT-loop
 μ-loop book₀ chunk₀ out₀ turn₀ turns₀ book chunk out turn turns = turns

@@ -45,7 +45,13 @@ within : (c : tie.Joined2 Inv-loop μ-loop)
 within c =
     let bytes = c .before .before .before .before .before .before .before .before .args .bytes .now in
     let sent = c .before .before .before .before .before .before .loop .sent in
-    omega (arith, c .before .count .ensures .0 .0, ap length (tail-is bytes sent), length-drop sent bytes, c .before .before .before .before .before .before .loop .inv)
+    omega (
+      arith,
+      c .before .count .ensures .0 .0,
+      ap length (tail-is bytes sent),
+      length-drop sent bytes,
+      c .before .before .before .before .before .before .loop .inv,
+    )
 
 add-sent : tie.Need-add-sent Inv-loop μ-loop
 add-sent c = omega (arith, within c, c .before .before .before .before .before .before .before .before .good)

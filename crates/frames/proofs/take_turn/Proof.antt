@@ -23,7 +23,9 @@ slice-aggregate-feed : tie.Need-slice-aggregate-feed
 slice-aggregate-feed c = search needs
 
 feed-requires : tie.Need-feed-requires
-feed-requires c κs = let d = c .before .before .before .before .before .before .before .before .before .before .before .before in (d .pre .0, (d .pre .1 .0, search needs))
+feed-requires c κs =
+    let e = c .before .before .before .before .before .before .before .before .before .before .before .before in
+    let d = e in (d .pre .0, (d .pre .1 .0, search needs))
 
 slice-reshare-prefix-send : tie.Need-slice-reshare-prefix-send
 slice-reshare-prefix-send c = search needs

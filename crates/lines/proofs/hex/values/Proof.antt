@@ -43,7 +43,8 @@ loop-again c =
     let l = c .before .before .loop in (
       omega arith,
       simp length-set (l .inv .1),
-      values-more s (l .d) (l .i) _ (omega arith) (l .inv .2) (value-is (getD s (l .i) 0) (digit-at s (l .i) (c .before .before .before .pre .0) (omega arith)) .0),
+      values-more s (l .d) (l .i) _ (omega arith) (l .inv .2)
+          (value-is (getD s (l .i) 0) (digit-at s (l .i) (c .before .before .before .pre .0) (omega arith)) .0),
     )
 
 returns : tie.Need-returns Inv-loop μ-loop

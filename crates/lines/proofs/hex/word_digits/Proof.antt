@@ -42,7 +42,8 @@ returns c =
     (ap₂ _∷_ (c .before .before .before .digit5 .ensures)
     (ap₂ _∷_ (c .before .before .digit6 .ensures)
     (ap₂ _∷_ (c .before .digit7 .ensures)
-    (ap₂ _∷_ (c .digit8 .ensures ∙ ap (λ (x : ℕ). digit (x % 16)) (sym (div-one (c .before .before .before .before .before .before .before .before .args .w)))) refl)))))))
+    (ap₂ _∷_ (c .digit8 .ensures
+    ∙ ap (λ (x : ℕ). digit (x % 16)) (sym (div-one (c .before .before .before .before .before .before .before .before .args .w)))) refl)))))))
 
 pub word-digits-spec : {M : Type 1} → statement M
 word-digits-spec =

@@ -30,7 +30,10 @@ returns-2 : tie.Need-returns-2
 returns-2 c = all-free _ _ (c .before .line-end .ensures) (c .if2 .taken)
 
 returns-3 : tie.Need-returns-3
-returns-3 c = let e = end-leads _ _ (c .before .line-end .ensures) (c .if2 .left) in (e, not-ahead _ _ (sym (c .before .before .before .frame-ahead .ensures) ∙ c .before .before .if1 .left) e)
+returns-3 c =
+    let d = c .before .before .before in
+    let e = end-leads _ _ (c .before .line-end .ensures) (c .if2 .left) in
+    (e, not-ahead _ _ (sym (d .frame-ahead .ensures) ∙ c .before .before .if1 .left) e)
 
 pub look-spec : {M : Type 1} → statement M
 look-spec =

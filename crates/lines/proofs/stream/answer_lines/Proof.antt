@@ -1,13 +1,12 @@
 -- `stream::answer_lines`: each turn answers the first line of what is left.
 -- Assumes nothing.
-use Prim.Native.Nat.{ℕ, suc, _+_, _-_, _≤_, _<_}
+use Prim.Native.Nat.{_+_, _-_, _≤_, _<_}
 use mathlib.Core.Path.{sym, _∙_, subst}
 use native.Mathlib.Omega.{arith}
-use lib.ListN.{length, drop}
+use lib.ListN.{length}
 use borrow.Author.Needs.{needs}
 use Rattle.model.specs.declared.Settings.{Settings}
 use Rattle.book.specs.Good.{Good}
-use Rattle.lines.specs.Post.{ends}
 use Rattle.lines.proofs.Turns.{So, start, all-told, end-told, more-so, more-ends, in-reach}
 use Rattle.lines.proofs.stream.answer_lines.Statement.{statement}
 use Rattle.lines.proofs.stream.answer_lines.Tie as tie
@@ -22,7 +21,9 @@ settings-requires : tie.Need-settings-requires Inv-loop μ-loop
 settings-requires c κs = search needs
 
 loop-holds : tie.Need-loop-holds Inv-loop μ-loop
-loop-holds c = let d = c .before .before .before .before .before in start _ _ _ _ (subst (λ (S : Settings). Good S (d .args .book .now)) (sym (c .settings .ensures)) (d .pre .0))
+loop-holds c =
+    let e = c .before .before .before .before .before in
+    let d = e in start _ _ _ _ (subst (λ (S : Settings). Good S (d .args .book .now)) (sym (c .settings .ensures)) (d .pre .0))
 
 sub-rest : tie.Need-sub-rest Inv-loop μ-loop
 sub-rest c = search needs
@@ -43,7 +44,9 @@ same-length-2 : tie.Need-same-length-2 Inv-loop μ-loop
 same-length-2 c = c .before .before .before .before .before .before .before .loop .inv .out-kept
 
 returns : tie.Need-returns Inv-loop μ-loop
-returns c = let l = c .before .before .before .before .before .before .before in rw (l .before .settings .ensures) at (all-told (l .loop .inv) (c .before .before .before .take-line .ensures .none (c .if1 .taken)))
+returns c =
+    let d = c .before .before .before .before .before .before .before in
+    rw (d .before .settings .ensures) at (all-told (d .loop .inv) (c .before .before .before .take-line .ensures .none (c .if1 .taken)))
 
 abbrev Line : Type 0
 Line = tie.After-put-answer-arg Inv-loop μ-loop
@@ -51,28 +54,45 @@ Line = tie.After-put-answer-arg Inv-loop μ-loop
 used : (c : Line) → 0 < c .before .before .before .before .take-line .result .used
 used c = let n = c .before .if1 .left in omega arith
 
-reach : (c : Line) → c .before .before .before .before .before .before .before .before .loop .i + c .before .before .before .before .take-line .result .used ≤ length (c .before .before .before .before .before .before .before .before .before .before .before .before .before .before .args .chunk .now)
+reach : (c : Line)
+    → c .before .before .before .before .before .before .before .before .loop .i + c .before .before .before .before .take-line .result .used
+    ≤ length (c .before .before .before .before .before .before .before .before .before .before .before .before .before .before .args .chunk .now)
 reach c =
     let v = c .before .before .before .before .before .before .before .before .loop in
     let t = c .before .before .before .before .take-line in
-    in-reach (c .before .before .before .before .before .before .before .before .before .before .before .before .before .before .args .chunk .now) (v .i) (t .result) (v .inv .within) (v .inv .good) (t .ensures) (used c)
+    in-reach (c .before .before .before .before .before .before .before .before .before .before .before .before .before .before .args .chunk .now)
+    (v .i) (t .result) (v .inv .within) (v .inv .good) (t .ensures) (used c)
 
-fits : (c : Line) → c .before .before .before .before .before .before .before .before .loop .at + 25 ≤ length (c .before .before .before .before .before .before .before .before .loop .out)
+fits : (c : Line)
+    → c .before .before .before .before .before .before .before .before .loop .at + 25
+    ≤ length (c .before .before .before .before .before .before .before .before .loop .out)
 fits c =
     let d = c .before .before .before .before .before .before .before .before .before .before .before .before .before .before in
     let v = c .before .before .before .before .before .before .before .before .loop in
     let t = c .before .before .before .before .take-line in
-    omega
-    (arith, v .inv .room, v .inv .out-kept, d .pre .1, more-ends (d .args .chunk .now) (v .i) (t .result) (v .inv .within) (v .inv .good) (t .ensures) (used c))
+    omega (
+      arith,
+      v .inv .room,
+      v .inv .out-kept,
+      d .pre .1,
+      more-ends (d .args .chunk .now) (v .i) (t .result) (v .inv .within) (v .inv .good) (t .ensures) (used c),
+    )
 
 put-answer-requires : tie.Need-put-answer-requires Inv-loop μ-loop
 put-answer-requires c κs = fits c
 
 add-at : tie.Need-add-at Inv-loop μ-loop
-add-at c = let f = fits (c .before .before .before) in omega (arith, c .before .before .before .before .before .before .before .before .before .before .before .loop .inv .out-kept, c .before .before .before .before .before .before .before .before .before .before .before .before .before .before .before .before .before .good)
+add-at c =
+    let d = c .before .before .before .before .before .before .before .before .before .before .before in
+    let e = c .before .before .before in
+    let f = fits e in
+    omega (arith, d .loop .inv .out-kept, d .before .before .before .before .before .before .good)
 
 add-i : tie.Need-add-i Inv-loop μ-loop
-add-i c = let r = reach (c .before .before .before) in omega (arith, c .before .before .before .before .before .before .before .before .before .before .before .before .before .before .before .before .before .good)
+add-i c =
+    let e = c .before .before .before in
+    let r = reach e in
+    omega (arith, e .before .before .before .before .before .before .before .before .before .before .before .before .before .before .good)
 
 loop-less : tie.Need-loop-less Inv-loop μ-loop
 loop-less c = let r = reach (c .before .before .before) in let u = used (c .before .before .before) in omega arith
@@ -81,7 +101,8 @@ loop-again : tie.Need-loop-again Inv-loop μ-loop
 loop-again c =
     let p = c .before .before .before in
     let t = p .before .before .before .before .take-line in
-    more-so (t .result) (p .before .before .before .before .before .before .before .before .loop .inv) (t .ensures) (used p) (t .kept .0) (c .before .before .put-answer .ensures)
+    more-so (t .result) (p .before .before .before .before .before .before .before .before .loop .inv) (t .ensures) (used p) (t .kept .0)
+    (c .before .before .put-answer .ensures)
 
 same-length-3 : tie.Need-same-length-3 Inv-loop μ-loop
 same-length-3 c = c .before .loop .inv .book-kept

@@ -46,7 +46,10 @@ same-length-2 c = search needs
 returns : tie.Need-returns
 returns c =
     let d = c .before .before .before .before .before .before .before .before .before .before .before .before .before in
-    ended-as (turn-opening (stateOf (take (d .args .size) (d .args .book .now))) (heldOf (d .args .held)) (c .before .before .before .before .before .before .before .before .before .enum-told .given .1)) (c .before .before .before .before .settle .ensures)
+    ended-as
+    (turn-opening (stateOf (take (d .args .size) (d .args .book .now))) (heldOf (d .args .held))
+    (c .before .before .before .before .before .before .before .before .before .enum-told .given .1))
+    (c .before .before .before .before .settle .ensures)
 
 same-length-3 : tie.Need-same-length-3
 same-length-3 c = search needs
@@ -57,7 +60,10 @@ same-length-4 c = search needs
 returns-2 : tie.Need-returns-2
 returns-2 c =
     let d = c .before .before .before .before .before .before .before .before .before .before .before in
-    ended-as (turn-later (stateOf (take (d .args .size) (d .args .book .now))) (heldOf (d .args .held)) (c .before .before .before .before .before .before .before .enum-told2 .given .1)) (c .before .before .before .before .end-later .ensures)
+    ended-as
+    (turn-later (stateOf (take (d .args .size) (d .args .book .now))) (heldOf (d .args .held))
+    (c .before .before .before .before .before .before .before .enum-told2 .given .1))
+    (c .before .before .before .before .end-later .ensures)
 
 returns-3 : tie.Need-returns-3
 returns-3 c =

@@ -24,7 +24,9 @@ slice-relend-prefix-answer-lines : tie.Need-slice-relend-prefix-answer-lines
 slice-relend-prefix-answer-lines c = search needs
 
 slice-aggregate-answer-lines : tie.Need-slice-aggregate-answer-lines
-slice-aggregate-answer-lines c = sym (length-take-le (c .before .before .before .before .before .before .args .e .size) (c .before .before .before .before .before .before .args .book .now) (c .before .before .before .before .before .before .pre .0 .fits))
+slice-aggregate-answer-lines c =
+    let d = c .before .before .before .before .before .before in
+    sym (length-take-le (d .args .e .size) (d .args .book .now) (d .pre .0 .fits))
 
 answer-lines-requires : tie.Need-answer-lines-requires
 answer-lines-requires c κs =
@@ -45,8 +47,9 @@ part-hold-end c = search needs
 
 hold-requires : tie.Need-hold-requires
 hold-requires c κs =
-    let a = c .before .before .before .before .before .before .answer-lines in
-    (holds-own (c .before .nothing2 .ensures), rw (tail-is (c .before .before .before .before .before .before .before .before .before .before .before .before .before .before .args .chunk .now) (a .result .used)) (a .ensures .free))
+    let a = c .before .before .before .before .before .before in
+    let chunk = a .before .before .before .before .before .before .before .before .args .chunk .now in
+    (holds-own (c .before .nothing2 .ensures), rw (tail-is chunk (a .answer-lines .result .used)) (a .answer-lines .ensures .free))
 
 same-length : tie.Need-same-length
 same-length c = search needs

@@ -47,7 +47,9 @@ In = tie.After-shared-slice-known2 Inv-loop μ-loop
 fits-piece : (c : In) → c .before .before .loop .i < length (c .before .before .before .before .before .args .piece .now)
 fits-piece c = let m = c .before .before .before .smaller .ensures in omega arith
 
-room : (c : In) → c .before .before .before .before .before .args .held .len + c .before .before .loop .i < length (c .before .before .before .before .before .args .held .bytes)
+room : (c : In)
+    → c .before .before .before .before .before .args .held .len + c .before .before .loop .i
+    < length (c .before .before .before .before .before .args .held .bytes)
 room c =
     let m = c .before .before .before .smaller .ensures in
     let p = c .before .before .before .before .before .pre .0 in

@@ -31,7 +31,10 @@ same-length-3 c = search needs
 
 returns-2 : tie.Need-returns-2
 returns-2 c =
-    settled-refused _ _ (laid-is (c .before .before .before .before .before .before .before .before .before .lay-line .ensures) (c .before .before .before .before .before .number .given .1)) (c .before .before .put-answer .ensures)
+    settled-refused _ _
+    (laid-is (c .before .before .before .before .before .before .before .before .before .lay-line .ensures)
+    (c .before .before .before .before .before .number .given .1))
+    (c .before .before .put-answer .ensures)
 
 pub settle-spec : {M : Type 1} → statement M
 settle-spec =

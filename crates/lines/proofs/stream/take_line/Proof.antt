@@ -20,7 +20,8 @@ step-requires c κs = search needs
 enum-known-n : tie.Need-enum-known-n
 enum-known-n c = search needs
 
-next-other : (c : tie.After-known-told2) → NextOf (c .before .before .before .before .before .before .args .chunk .now) (Other (c .before .n .given .0 .0))
+next-other : (c : tie.After-known-told2)
+    → NextOf (c .before .before .before .before .before .before .args .chunk .now) (Other (c .before .n .given .0 .0))
 next-other c = next-is _ (c .before .before .before .look .ensures) (c .before .n .given .1)
 
 add-t11 : tie.Need-add-t11
@@ -33,7 +34,10 @@ same-length : tie.Need-same-length
 same-length c = search needs
 
 returns : tie.Need-returns
-returns c = taken-frame _ (c .before .before .before .before .before .before .before .before .before .before .pre) (next-is _ (c .before .before .before .before .before .before .before .look .ensures) (c .before .before .before .before .before .r .given .1)) (c .before .before .step .ensures)
+returns c =
+    let d = c .before .before .before .before .before in
+    taken-frame _ (d .before .before .before .before .before .pre) (next-is _ (d .before .before .look .ensures) (d .r .given .1))
+    (c .before .before .step .ensures)
 
 returns-2 : tie.Need-returns-2
 returns-2 c = taken-other _ (c .before .before .before .before .before .before .pre) _ (next-other c)
