@@ -22,12 +22,10 @@ use Rattle.model.proofs.ReadBack.{stateOf-words}
 use Rattle.model.proofs.Frame.{step-settings}
 use Rattle.model.proofs.Calls.{step-sound, empty-sound, fresh-words}
 use native.Mathlib.Omega.{arith}
-use Rattle.lines.specs.Frame.{framed}
+use Rattle.lines.specs.Digits.{frameDigits}
 use Rattle.lines.specs.Post.{Free, NextOf, TakenOf}
 use Rattle.lines.specs.declared.line.Next.{Next}
-use Rattle.lines.specs.declared.line.Next.the-variants as N
-use Rattle.lines.specs.declared.line.Framed.the-variants.{Frame, Other}
-use Rattle.lines.proofs.Framing.{framed-yes, framed-no}
+use Rattle.lines.specs.declared.line.Next.the-variants.{Frame, Other}
 use Rattle.book.specs.Good.{Good, answered}
 use Rattle.book.proofs.Goods.{good-words}
 use Rattle.engine.proofs.Kept.{good-book}
@@ -41,32 +39,10 @@ pub outcome-no : (x : State) (l : List ℕ) → isFrame l ≡ false → lineOutc
 unfolding lineOutcome
 outcome-no x l h = simp h
 
--- the same by what the code finds
-step-by : (x : State) (l : List ℕ) (r : Request) (t : Bool) → isFrame l ≡ t → framed l ≡ Frame r → lineOutcome x l ≡ step x r
-step-by x l r true h e =
-    let f = framed-yes l h in
-    let q : requestOf (lineWords l) ≡ r = cc in
-    outcome-yes x l h ∙ ap (step x) q
-step-by x l r false h e =
-    let f = framed-no l h in
-    absurd (let z : _≡_ {A = ℕ} 0 1 = cc in omega arith)
-
-pub framed-step : (x : State) (l : List ℕ) {r : Request} → framed l ≡ Frame r → lineOutcome x l ≡ step x r
-framed-step x l {r} e = step-by x l r _ refl e
-
-other-by : (x : State) (l : List ℕ) (t : Bool) → isFrame l ≡ t → framed l ≡ Other → lineOutcome x l ≡ record { answer = Refused 23 0; state = x }
-other-by x l true h e =
-    let f = framed-yes l h in
-    absurd (let z : _≡_ {A = ℕ} 0 1 = cc in omega arith)
-other-by x l false h e = outcome-no x l h
-
-line-sound : (x : State) (l : List ℕ) (t : Bool) → isFrame l ≡ t → Sound x → Sound (lineOutcome x l .state) × (lineOutcome x l .state .settings ≡ x .settings)
+line-sound : (x : State) (l : List ℕ) (t : Bool) → isFrame l ≡ t → Sound x
+    → Sound (lineOutcome x l .state) × (lineOutcome x l .state .settings ≡ x .settings)
 line-sound x l true h s = rw (outcome-yes x l h) (step-sound x s (requestOf (lineWords l)), step-settings x (requestOf (lineWords l)))
 line-sound x l false h s = rw (outcome-no x l h) (s, refl)
-
-pub refused-23 : {S : Settings} {b : List ℕ} (l : List ℕ) → Good S b → framed l ≡ Other → answered (Refused 23 0) b ≡ called (lineOutcome (stateOf b) l)
-refused-23 {S} {b} l h e =
-    ap (λ (w : List ℕ). answered (Refused 23 0) w) (sym (good-book h)) ∙ sym (ap called (other-by (stateOf b) l _ refl e))
 
 state-settings : (b : List ℕ) → stateOf b .settings ≡ settingsOf b
 unfolding stateOf readState
@@ -77,7 +53,8 @@ pub record After (S : Settings) (x : State) (l : List ℕ) (b : List ℕ) : Type
   pub good : Good S b
   pub shows : stateOf b ≡ lineOutcome x l .state
 
-pub after-line : {S : Settings} {b b′ : List ℕ} {a : Answer} (l : List ℕ) → Good S b → answered a b′ ≡ called (lineOutcome (stateOf b) l) → After S (stateOf b) l b′
+pub after-line : {S : Settings} {b b′ : List ℕ} {a : Answer} (l : List ℕ) → Good S b → answered a b′ ≡ called (lineOutcome (stateOf b) l)
+    → After S (stateOf b) l b′
 after-line {S} {b} {b′} {a} l h e =
     let x = stateOf b in
     let y = lineOutcome x l .state in
@@ -87,26 +64,23 @@ after-line {S} {b} {b′} {a} l h e =
     record { good = rw (w, ← q) (good-words y (k .0)); shows = ap stateOf w ∙ stateOf-words y (k .0) }
 
 -- a fresh book
-pub fresh-good : (S : Settings) → validSettings S ≡ true → Good S (freshBook S) × (stateOf (freshBook S) ≡ emptyState S)
-unfolding emptyState
-fresh-good S v =
-    let s = empty-sound S v in
-    rw (fresh-words S v) (good-words (emptyState S) s, stateOf-words (emptyState S) s)
+pub fresh-shows : (S : Settings) → validSettings S ≡ true → stateOf (freshBook S) ≡ emptyState S
+fresh-shows S v = rw (fresh-words S v) (stateOf-words (emptyState S) (empty-sound S v))
 
 -- the first line of a chunk
 pub next-is : (l : List ℕ) {m n : Next} → NextOf l m → m ≡ n → NextOf l n
 next-is l q e = subst (λ (k : Next). NextOf l k) e q
 
 module _ {S : Settings} {b : List ℕ} (l : List ℕ) (h : Good S b) where
-  pub taken-frame : {a : Answer} {b′ : List ℕ} {r : Request} → NextOf l (N.Frame r) → answered a b′ ≡ called (step (stateOf b) r)
-      → TakenOf l b (record { used = 57; answer = a }) b′
+  pub taken-frame : {a : Answer} {b′ : List ℕ} {r : Request} → NextOf l (Frame r) → answered a b′ ≡ called (step (stateOf b) r)
+      → TakenOf l b (record { used = frameDigits + 1; answer = a }) b′
   taken-frame {a} {b′} {r} n e =
       record {
         none = λ z. absurd (omega arith);
-        some = λ z. (n .0, e ∙ ap called (sym (outcome-yes (stateOf b) (take 56 l) (n .1) ∙ ap (step (stateOf b)) (sym (n .2)))));
+        some = λ z. (n .0, e ∙ ap called (sym (outcome-yes (stateOf b) (take frameDigits l) (n .1) ∙ ap (step (stateOf b)) (sym (n .2)))));
       }
 
-  pub taken-other : (n : ℕ) → NextOf l (N.Other n) → TakenOf l b (record { used = n + 1; answer = Refused 23 0 }) b
+  pub taken-other : (n : ℕ) → NextOf l (Other n) → TakenOf l b (record { used = n + 1; answer = Refused 23 0 }) b
   taken-other n q =
       let e : n + 1 - 1 ≡ n = omega arith in
       record {

@@ -4,11 +4,11 @@ use Prim.Native.Nat.{ℕ, _+_, _*_, _/_, _<_}
 use native.Mathlib.Numerals.{add-one}
 use native.Mathlib.Omega.{arith}
 use mathlib.Core.Path.{_≡_, refl, sym, _∙_, ap, ap₂}
-use mathlib.Core.Bool.{Bool, true, false, _&&_}
+use mathlib.Core.Bool.{true, false}
 use mathlib.Core.List.{List, [], _∷_, _++_}
 use lib.ListN.{length, take, drop, getD, set}
 use lib.Seq.{take-suc, take-suc-set}
-use borrow.Author.Tests.{eqb-true, ne-eqb}
+use borrow.Author.Tests.{eqb-true}
 use Rattle.model.specs.declared.Request.{Request}
 use Rattle.model.specs.declared.Answer.{Answer}
 use Rattle.model.specs.declared.Answer.the-variants.{Done, Refused}
@@ -17,9 +17,7 @@ use Rattle.model.specs.Lines.{isFrame, wordDigits, hexadecimal, lineWords, show
 use Rattle.model.proofs.Search.{and-left, and-right}
 pub use Rattle.model.proofs.Search.{never as not-so}
 use Rattle.model.proofs.Places.{length-list, getD-list}
-use Rattle.lines.specs.Digits.{digitsOnly}
-use Rattle.lines.specs.Frame.{framed}
-use Rattle.lines.specs.declared.line.Framed.the-variants.{Frame, Other}
+use Rattle.lines.specs.Digits.{frameDigits, digitsOnly}
 
 -- the words of a line
 pub words-length : (l : List ℕ) → length (lineWords l) ≡ length l / 8
@@ -40,7 +38,7 @@ words-more l words k h g e =
     ∙ sym (take-suc (lineWords l) k 0 (omega arith)))
 
 -- the seven words of a frame
-module _ (l : List ℕ) (n : length l ≡ 56) where
+module _ (l : List ℕ) (n : length l ≡ frameDigits) where
   word-of : (k : ℕ) {w : ℕ} → k < 7 → w ≡ shown (take 8 (drop (8 * k) l)) → w ≡ getD (lineWords l) k 0
   word-of k h e = e ∙ word-is l k (omega arith)
 
@@ -66,36 +64,9 @@ module _ (l : List ℕ) (n : length l ≡ 56) where
 pub no-frame : (l : List ℕ) → (isFrame l ≡ true → ⊥) → isFrame l ≡ false
 no-frame l h = not-so (isFrame l) h
 
-pub frame-parts : (l : List ℕ) → isFrame l ≡ true → (length l ≡ 56) × (digitsOnly l ≡ true)
+pub frame-parts : (l : List ℕ) → isFrame l ≡ true → (length l ≡ frameDigits) × (digitsOnly l ≡ true)
 unfolding isFrame
-frame-parts l h = (eqb-true (length l) 56 (and-right (wholeWords l) _ h), and-left (digitsOnly l) _ (and-left (wholeWords l) _ h))
-
-and-no : (t : Bool) → t && false ≡ false
-and-no true = refl
-and-no false = refl
-
-module _ (l : List ℕ) where
-  frame-not : digitsOnly l ≡ false → isFrame l ≡ false
-  unfolding isFrame
-  frame-not h = simp h
-
-  frame-long : (length l ≡ 56 → ⊥) → isFrame l ≡ false
-  unfolding isFrame
-  frame-long h = ap (λ (t : Bool). wholeWords l && t) (ne-eqb (length l) 56 h) ∙ and-no (wholeWords l)
-
-  pub framed-no : isFrame l ≡ false → Other ≡ framed l
-  unfolding framed
-  framed-no h = simp h
-
-  pub framed-yes : isFrame l ≡ true → framed l ≡ Frame (requestOf (lineWords l))
-  unfolding framed
-  framed-yes h = simp h
-
-  pub framed-not : digitsOnly l ≡ false → Other ≡ framed l
-  framed-not h = framed-no (frame-not h)
-
-  pub framed-long : (length l ≡ 56 → ⊥) → Other ≡ framed l
-  framed-long h = framed-no (frame-long h)
+frame-parts l h = (eqb-true (length l) frameDigits (and-right (wholeWords l) _ h), and-left (digitsOnly l) _ (and-left (wholeWords l) _ h))
 
 -- the words of an answer, written by its kind
 pub done-line : {a : Answer} {v : ℕ} → a ≡ Done v → wordDigits 0 ++ (wordDigits 0 ++ wordDigits v) ≡ hexadecimal (answerWords a)

@@ -16,7 +16,7 @@ use borrow.Author.Tests.{leb-true}
 use Rattle.model.specs.Bounded.{isSome, found, within}
 use Rattle.model.specs.Lines.{shownFrom, shown}
 use Rattle.model.proofs.Search.{and-left, and-right, both}
-use Rattle.lines.specs.Digits.{isDigit, valueOf, digitsOnly, Values, wordOf}
+use Rattle.lines.specs.Digits.{frameDigits, isDigit, valueOf, digitsOnly, Values, wordOf}
 
 -- one of two tests finds something
 pub some-of : (s t : Bool) (x y : ℕ) → s || t ≡ isSome (cond s (some x) (cond t (some y) none))
@@ -96,7 +96,7 @@ eight-is : (a b c d e f g h : ℕ)
 eight-is a b c d e f g h = omega arith
 
 -- the word of eight values is the one that the digits show
-module _ (s d : List ℕ) (n : length s ≡ 56) (g : digitsOnly s ≡ true) (v : Values s d) (at : ℕ) (h : at ≤ 48) where
+module _ (s d : List ℕ) (n : length s ≡ frameDigits) (g : digitsOnly s ≡ true) (v : Values s d) (at : ℕ) (h : at + 8 ≤ frameDigits) where
   digit-of : (j k : ℕ) → k ≡ at + j → j < 8 → (getD d k 0 ≡ valueOf (getD s (at + j) 0)) × (valueOf (getD s (at + j) 0) < 16)
   digit-of j k e l = (
     rw e (v .at (at + j) (omega arith)),

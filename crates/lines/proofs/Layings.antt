@@ -4,10 +4,10 @@ use Prim.Native.Nat.{ℕ, _+_, _/_, _≤_, _<_}
 use native.Mathlib.Omega.{arith}
 use mathlib.Core.Path.{_≡_, refl, sym, _∙_, ap}
 use mathlib.Core.Bool.{Bool, true, false, _&&_, cond}
-use mathlib.Core.List.{List, [], _++_, append-nil}
+use mathlib.Core.List.{List, [], _++_}
 use lib.Dec.{leb}
 use lib.ListN.{length, take, drop, length-append}
-use lib.Seq.{take-at, length-take-le}
+use lib.Seq.{take-at, drop-at, length-take-le}
 use borrow.Author.Tests.{le-leb, lt-leb, eq-eqb}
 use Rattle.model.specs.declared.Settings.{Settings}
 use Rattle.model.specs.declared.Answer.{Answer}
@@ -23,14 +23,15 @@ use Rattle.model.proofs.Shows.{good-valid}
 use Rattle.book.specs.Good.{answered}
 use Rattle.book.specs.Heads.{neededLength}
 use Rattle.lines.specs.Digits.{Put}
-use Rattle.lines.specs.Stream.{later, over, silent, behind, opened}
+use Rattle.lines.specs.Stream.{settingsMost, later, over, silent, opened}
 use Rattle.lines.specs.Laying.{layable, LaidOf, LaidBy}
 use Rattle.lines.specs.Post.{EndedOf}
 use Rattle.lines.specs.declared.lay.Laid.{Laid}
 use Rattle.lines.specs.declared.lay.Laid.the-variants.{Book, Refused}
 use Rattle.lines.proofs.Whole.{settings-short}
-use Rattle.lines.proofs.Books.{fresh-good}
-use Rattle.lines.proofs.Turns.{put-wrote}
+use Rattle.engine.proofs.Kept.{fresh-good}
+use Rattle.lines.proofs.Books.{fresh-shows}
+use Rattle.lines.proofs.Turns.{put-wrote, put-past}
 
 -- a refusal lays no book
 no-book : {A : Type 0} {k n : ℕ} → Refused k ≡ Book n → A
@@ -67,21 +68,27 @@ module _ (w : List ℕ) {size : ℕ} (e : size ≡ neededLength w) where
   none-by true h z = absurd (omega (arith, needed-by w true h, long (settingsOf w)))
   none-by false h z = h
 
-  pub laid-none : {b : List ℕ} → size ≡ 0 → LaidOf w (Refused 24) b
+  pub laid-none : {b : List ℕ} → size ≡ 0 → LaidOf w b (Refused 24) b
   laid-none z =
-      record { is = sym (ap (λ (t : Bool). layable t w) (none-by _ refl z) ∙ layable-24 w); fresh = λ n q. no-book q }
+      record { is = sym (ap (λ (t : Bool). layable t w) (none-by _ refl z) ∙ layable-24 w); fresh = λ n q. no-book q; refused = λ n q. refl }
 
-  pub laid-large : {b : List ℕ} → (size ≡ 0 → ⊥) → 16384 < size → LaidOf w (Refused 25) b
+  pub laid-large : {b : List ℕ} → (size ≡ 0 → ⊥) → 16384 < size → LaidOf w b (Refused 25) b
   laid-large n h =
       let g = good-by _ refl n in
-      record { is = sym (ap (λ (t : Bool). layable t w) (g .0) ∙ layable-25 w (omega (arith, g .1))); fresh = λ n q. no-book q }
+      record {
+        is =
+            sym (ap (λ (t : Bool). layable t w) (g .0) ∙ layable-25 w (omega (arith, g .1)));
+        fresh = λ n q. no-book q;
+        refused = λ n q. refl;
+      }
 
-lay-good : (w b : List ℕ) → settingsGood w ≡ true → length b ≡ bookLength (settingsOf w) → lay w b ≡ record { answer = A.Done 0; book = freshBook (settingsOf w) }
+lay-good : (w b : List ℕ) → settingsGood w ≡ true → length b ≡ bookLength (settingsOf w)
+    → lay w b ≡ record { answer = A.Done 0; book = freshBook (settingsOf w) }
 unfolding lay
 lay-good w b h e = simp (h, eq-eqb (length b) (bookLength (settingsOf w)) e)
 
 pub laid-good : (w b : List ℕ) {last : List ℕ} {a : Answer} {size : ℕ} → size ≡ neededLength w → (size ≡ 0 → ⊥) → size ≤ 16384 → 16384 ≤ length b
-    → answered a last ≡ lay w (take size b) → length last ≡ length (take size b) → LaidOf w (Book size) (last ++ drop size b)
+    → answered a last ≡ lay w (take size b) → length last ≡ length (take size b) → LaidOf w b (Book size) (last ++ drop size b)
 laid-good w b {last} {a} {size} e n h r q k =
     let g = good-by w e _ refl n in
     let t = length-take-le size b (omega arith) in
@@ -90,26 +97,34 @@ laid-good w b {last} {a} {size} e n h r q k =
       is = ap Book (g .1) ∙ sym (ap (λ (t : Bool). layable t w) (g .0) ∙ layable-book w (omega (arith, g .1)));
       fresh = λ m p.
           let s : size ≡ m = cc in
-          rw (← s) (omega (arith, length-append last (drop size b)), take-at last (drop size b) size (k ∙ t) ∙ f);
+          rw (← s)
+          (omega (arith, length-append last (drop size b)), take-at last (drop size b) size (k ∙ t) ∙ f, drop-at last (drop size b) size (k ∙ t));
+      refused = λ m p. no-book (sym p);
     }
 
 -- the words of a line
 module _ (l : List ℕ) {b : List ℕ} where
-  refused-24 : wholeWords l && settingsGood (lineWords l) ≡ false → LaidBy l (Refused 24) b
-  refused-24 h = record { is = sym (ap (λ (t : Bool). layable t (lineWords l)) h ∙ layable-24 (lineWords l)); fresh = λ n q. no-book q }
+  refused-24 : wholeWords l && settingsGood (lineWords l) ≡ false → LaidBy l b (Refused 24) b
+  refused-24 h =
+      record { is = sym (ap (λ (t : Bool). layable t (lineWords l)) h ∙ layable-24 (lineWords l)); fresh = λ n q. no-book q; refused = λ n q. refl }
 
-  pub by-not-whole : wholeWords l ≡ false → LaidBy l (Refused 24) b
+  pub by-not-whole : wholeWords l ≡ false → LaidBy l b (Refused 24) b
   by-not-whole h = refused-24 (rw h)
 
-  pub by-long : 25 < length l / 8 → LaidBy l (Refused 24) b
+  pub by-long : settingsMost < length l / 8 → LaidBy l b (Refused 24) b
   by-long h = refused-24 (never (wholeWords l && settingsGood (lineWords l)) (λ e. omega (arith, settings-short l e)))
 
-  pub by-words : {r : Laid} → wholeWords l ≡ true → LaidOf (lineWords l) r b → LaidBy l r b
+  pub by-words : {b₀ : List ℕ} {r : Laid} → wholeWords l ≡ true → LaidOf (lineWords l) b₀ r b → LaidBy l b₀ r b
   by-words h k =
-      record { is = k .is ∙ ap (λ (t : Bool). layable (t && settingsGood (lineWords l)) (lineWords l)) (sym h); fresh = k .fresh }
+      record {
+        is =
+            k .is ∙ ap (λ (t : Bool). layable (t && settingsGood (lineWords l)) (lineWords l)) (sym h);
+        fresh = k .fresh;
+        refused = k .refused;
+      }
 
-pub laid-is : {l b : List ℕ} {r q : Laid} → LaidBy l r b → r ≡ q → LaidBy l q b
-laid-is {l} {b} k e = rw e at k
+pub laid-is : {l b₀ b : List ℕ} {r q : Laid} → LaidBy l b₀ r b → r ≡ q → LaidBy l b₀ q b
+laid-is {l} {b₀} {b} k e = rw e at k
 
 -- the settings line is over
 module _ (l : List ℕ) where
@@ -125,7 +140,8 @@ module _ (l : List ℕ) where
   unfolding opened
   opened-25 h k = simp (h, k)
 
-  opened-book : wholeWords l && settingsGood (lineWords l) ≡ true → leb (bookLength S) programWords ≡ true → opened l ≡ silent (later (emptyState S) [])
+  opened-book : wholeWords l && settingsGood (lineWords l) ≡ true → leb (bookLength S) programWords ≡ true
+      → opened l ≡ silent (later (emptyState S) [])
   unfolding opened
   opened-book h k = simp (h, k)
 
@@ -144,31 +160,34 @@ module _ (l : List ℕ) where
   number-by {n} true false h k e = let q : 25 ≡ n = cc in opened-25 h k ∙ ap (λ (m : ℕ). record { out = answerLine (A.Refused m 0); point = over }) q
   number-by {n} false u h k e = let q : 24 ≡ n = cc in opened-24 h ∙ ap (λ (m : ℕ). record { out = answerLine (A.Refused m 0); point = over }) q
 
-  pub settled-book : {b out : List ℕ} (n at : ℕ) → LaidBy l (Book n) b
-      → EndedOf (behind (take at out) (opened l)) (record { more = true; size = n; wrote = at }) b out (at + 25)
+  pub settled-book : {b₀ b out : List ℕ} (n : ℕ) → LaidBy l b₀ (Book n) b
+      → EndedOf (opened l) (record { more = true; size = n; wrote = 0 }) b₀ b out out 25
   unfolding layable
-  settled-book {b} {out} n at k =
+  settled-book {b₀} {b} {out} n k =
       let f = k .fresh n refl in
       let o = book-by _ _ refl refl (k .is) in
       let g = fresh-good S (o .0) in
       record {
         short = omega arith;
-        sized = record { fits = f .0; good = λ z. rw (f .1) (record { read = refl; laid = g .0 .laid; lawful = g .0 .lawful }) };
+        book-past = f .2;
+        out-past = refl;
+        sized = record { fits = f .0; none = λ z. both refl z; good = λ z. rw (f .1) (record { read = refl; laid = g .laid; lawful = g .lawful }) };
         same =
-            ap (λ (b : List ℕ). record { out = take at out; point = later (stateOf b) [] }) (f .1)
-            ∙ ap (λ (x : State). record { out = take at out; point = later x [] }) (g .1)
-            ∙ ap (λ (o : List ℕ). record { out = o; point = later (emptyState S) [] }) (sym (append-nil (take at out)))
-            ∙ ap (behind (take at out)) (sym (o .1));
+            ap (λ (b : List ℕ). silent (later (stateOf b) [])) (f .1)
+            ∙ ap (λ (x : State). silent (later x [])) (fresh-shows S (o .0))
+            ∙ sym (o .1);
       }
 
-  pub settled-refused : {b out out′ : List ℕ} (n : ℕ) {at : ℕ} → LaidBy l (Refused n) b → Put out out′ at (answerLine (A.Refused n 0))
-      → EndedOf (behind (take at out) (opened l)) (record { more = false; size = 0; wrote = at + 25 }) b out′ (at + 25)
+  pub settled-refused : {b₀ b out out′ : List ℕ} (n : ℕ) → LaidBy l b₀ (Refused n) b → Put out out′ 0 (answerLine (A.Refused n 0))
+      → EndedOf (opened l) (record { more = false; size = 0; wrote = 25 }) b₀ b out out′ 25
   unfolding layable
-  settled-refused {b} {out} {out′} n {at} k p =
+  settled-refused {b₀} {b} {out} {out′} n k p =
       record {
         short = omega arith;
-        sized = record { fits = omega arith; good = λ z. both z refl };
+        book-past = k .refused n refl;
+        out-past = put-past (A.Refused n 0) p;
+        sized = record { fits = omega arith; none = λ z. refl; good = λ z. both z refl };
         same =
             ap (λ (o : List ℕ). record { out = o; point = over }) (put-wrote (A.Refused n 0) p)
-            ∙ ap (behind (take at out)) (sym (number-by _ _ refl refl (k .is)));
+            ∙ sym (number-by _ _ refl refl (k .is));
       }

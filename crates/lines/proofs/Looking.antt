@@ -11,7 +11,7 @@ use lib.Seq.{getD-take, length-take-le, take-length}
 use borrow.Author.Tests.{ltb-true, lt-ltb, le-ltb, eqb-true, eq-eqb, ne-eqb}
 use Rattle.model.specs.Lines.{isFrame}
 use Rattle.model.proofs.Search.{and-left, and-right, both}
-use Rattle.lines.specs.Digits.{isDigit, digitsOnly, LineEnd}
+use Rattle.lines.specs.Digits.{frameDigits, isDigit, digitsOnly, LineEnd}
 use Rattle.lines.specs.Frame.{frameAhead}
 use Rattle.lines.specs.Post.{Free, Leads}
 use Rattle.lines.proofs.Framing.{is-frame, no-frame, frame-parts}
@@ -31,40 +31,37 @@ free-at [] f = tt
 free-at (x ∷ xs) f = (f 0 (omega arith), free-at xs (λ k h. f (suc k) (omega arith)))
 
 module _ (l : List ℕ) where
-  ahead-parts : frameAhead l ≡ true → (56 < length l) × (getD l 56 0 ≡ 10) × (digitsOnly (take 56 l) ≡ true)
+  ahead-parts : frameAhead l ≡ true → (frameDigits < length l) × (getD l frameDigits 0 ≡ 10) × (digitsOnly (take frameDigits l) ≡ true)
   unfolding frameAhead
   ahead-parts h = (
-    ltb-true 56 (length l) (and-left (ltb 56 (length l)) _ (and-left _ (digitsOnly (take 56 l)) h)),
-    eqb-true (getD l 56 0) 10 (and-right (ltb 56 (length l)) _ (and-left _ (digitsOnly (take 56 l)) h)),
-    and-right (ltb 56 (length l) && eqb (getD l 56 0) 10) _ h,
+    ltb-true frameDigits (length l) (and-left (ltb frameDigits (length l)) _ (and-left _ (digitsOnly (take frameDigits l)) h)),
+    eqb-true (getD l frameDigits 0) 10 (and-right (ltb frameDigits (length l)) _ (and-left _ (digitsOnly (take frameDigits l)) h)),
+    and-right (ltb frameDigits (length l) && eqb (getD l frameDigits 0) 10) _ h,
   )
 
-  pub ahead-by : 56 < length l → getD l 56 0 ≡ 10 → frameAhead l ≡ digitsOnly (take 56 l)
+  pub ahead-by : frameDigits < length l → getD l frameDigits 0 ≡ 10 → frameAhead l ≡ digitsOnly (take frameDigits l)
   unfolding frameAhead
-  ahead-by h e = simp (lt-ltb 56 (length l) h, eq-eqb (getD l 56 0) 10 e)
+  ahead-by h e = simp (lt-ltb frameDigits (length l) h, eq-eqb (getD l frameDigits 0) 10 e)
 
-  pub ahead-short : length l ≤ 56 → false ≡ frameAhead l
+  pub ahead-short : length l ≤ frameDigits → false ≡ frameAhead l
   unfolding frameAhead
-  ahead-short h = simp (le-ltb 56 (length l) h)
+  ahead-short h = simp (le-ltb frameDigits (length l) h)
 
-  pub ahead-other : 56 < length l → (getD l 56 0 ≡ 10 → ⊥) → false ≡ frameAhead l
+  pub ahead-other : frameDigits < length l → (getD l frameDigits 0 ≡ 10 → ⊥) → false ≡ frameAhead l
   unfolding frameAhead
-  ahead-other h e = simp (lt-ltb 56 (length l) h, ne-eqb (getD l 56 0) 10 e)
+  ahead-other h e = simp (lt-ltb frameDigits (length l) h, ne-eqb (getD l frameDigits 0) 10 e)
 
-  pub ahead-long : frameAhead l ≡ true → 56 < length l
-  ahead-long h = ahead-parts h .0
+  pub ahead-digits : frameAhead l ≡ true → (digitsOnly (take frameDigits l) ≡ true) × (length (take frameDigits l) ≡ frameDigits)
+  ahead-digits h = let p = ahead-parts h in (p .2, length-take-le frameDigits l (omega arith))
 
-  pub ahead-digits : frameAhead l ≡ true → (digitsOnly (take 56 l) ≡ true) × (length (take 56 l) ≡ 56)
-  ahead-digits h = let p = ahead-parts h in (p .2, length-take-le 56 l (omega arith))
-
-  pub ahead-leads : frameAhead l ≡ true → Leads l 56 × (isFrame (take 56 l) ≡ true)
+  pub ahead-leads : frameAhead l ≡ true → Leads l frameDigits × (isFrame (take frameDigits l) ≡ true)
   ahead-leads h =
       let p = ahead-parts h in
       let q = ahead-digits h in
-      (record { inside = p .0; free = free-digits (take 56 l) (p .2); ends = p .1 }, is-frame (take 56 l) (q .1) (q .0))
+      (record { inside = p .0; free = free-digits (take frameDigits l) (p .2); ends = p .1 }, is-frame (take frameDigits l) (q .1) (q .0))
 
   -- a line that is found by its byte 10
-  line-free : (n : ℕ) → LineEnd l n → Free (take n l)
+  pub line-free : (n : ℕ) → LineEnd l n → Free (take n l)
   line-free n e =
       let s = length-take-le n l (e .within) in
       free-at (take n l) (λ k h g. e .before k (omega arith) (sym (getD-take n l k 0 (omega arith)) ∙ g))
@@ -85,7 +82,7 @@ module _ (l : List ℕ) where
       bad f =
           let i = e .inside in
           let p = frame-parts (take n l) f in
-          let m : n ≡ 56 = omega (arith, length-take-le n l (omega arith)) in
-          let t : getD l 56 0 ≡ 10 = ap (λ (k : ℕ). getD l k 0) (sym m) ∙ e .ends in
-          let d : digitsOnly (take 56 l) ≡ true = rw m at (p .1) in
+          let m : n ≡ frameDigits = omega (arith, length-take-le n l (omega arith)) in
+          let t : getD l frameDigits 0 ≡ 10 = ap (λ (k : ℕ). getD l k 0) (sym m) ∙ e .ends in
+          let d : digitsOnly (take frameDigits l) ≡ true = rw m at (p .1) in
           both (ahead-by (omega arith) t ∙ d) h

@@ -1,46 +1,63 @@
--- The program over its whole input: what its turns promise, one after the other, is `frames` of the input.
+-- The program over its whole input: what its turns hand to write, one after the other, is `frames` of what they read.
 -- Assumes nothing.
-use Prim.Native.Nat.{ℕ, _*_}
-use mathlib.Core.Path.{_≡_, refl, _∙_, ap}
-use mathlib.Core.List.{List, [], _∷_, _++_}
-use lib.ListN.{length, take}
+use Prim.Native.Nat.{ℕ}
+use mathlib.Core.Path.{_≡_, refl, sym, _∙_, ap}
+use mathlib.Core.List.{List, [], _++_, append-nil}
+use lib.ListN.{take}
 use Rattle.model.specs.Words.{words}
 use Rattle.model.specs.Reading.{stateOf}
 use Rattle.model.specs.Lines.{frames}
-use Rattle.lines.specs.Stream.{Point, Turn, behind, run, closed, fed, joined}
-use Rattle.lines.specs.Post.{pointOf, Going, Moved, Begun, EndedOf}
-use Rattle.lines.specs.declared.stream.Phase.the-variants.{Later}
+use Rattle.lines.specs.Stream.{Point, opening, Turn, silent, behind, run, closed}
+use Rattle.lines.specs.Post.{pointAt, pointOf, heldOf, Going, Moved, Begun}
+use Rattle.lines.specs.declared.stream.Phase.{Phase}
+use Rattle.lines.specs.declared.stream.Phase.the-variants.{Later, Over}
 use Rattle.lines.specs.declared.stream.Stream.{Stream}
-use Rattle.lines.specs.declared.stream.Ended.{Ended}
 use Rattle.engine.proofs.Kept.{good-book}
+use Rattle.lines.proofs.Turns.{run-none}
 use Rattle.lines.proofs.Streams.{begun}
-use Rattle.lines.proofs.Whole.{any-cutting}
+use Rattle.lines.proofs.Whole.{whole, run-append, whole-append, whole-over, whole-frames}
 
--- A run of the program: `feed` on each chunk, then `close`; their contracts give the facts of each turn. The last argument is all that
--- is written.
-pub data Reads : Stream → List ℕ → List (List ℕ) → List ℕ → Type 0 where
-  ends : {s : Stream} {b b′ out : List ℕ} {e : Ended} → EndedOf (closed (pointOf s b)) e b′ out 25 → Reads s b [] (take (e .wrote) out)
-  goes : {s s′ : Stream} {b b′ c out w : List ℕ} {cs : List (List ℕ)} {wrote : ℕ}
-      → Moved (run (pointOf s b) c) s′ b′ out wrote (25 * length c) → Reads s′ b′ cs w → Reads s b (c ∷ cs) (take wrote out ++ w)
+-- since the stream began, the bytes i were read and the bytes w handed to write
+pub record Ran (i w : List ℕ) (s : Stream) (b : List ℕ) : Type 0 where
+  pub going : Going s b
+  pub same : run (opening []) i ≡ record { out = w; point = pointOf s b }
 
-fed-none : (p : Point) → closed p ≡ fed p []
-unfolding fed
-fed-none p = refl
+whole-is : (p : Point) (i : List ℕ) → behind (run p i .out) (closed (run p i .point)) ≡ whole p i
+unfolding whole
+whole-is p i = refl
 
-fed-cons : (p : Point) (c : List ℕ) (cs : List (List ℕ)) → behind (run p c .out) (fed (run p c .point) cs) ≡ fed p (c ∷ cs)
-unfolding fed
-fed-cons p c cs = refl
+pub ran-none : {s : Stream} (b : List ℕ) → Begun s → Ran [] [] s b
+ran-none b g = let k = begun b g in record { going = k .0; same = run-none (opening []) ∙ ap silent (sym (k .1)) }
 
-pub reads-fed : {s : Stream} {b : List ℕ} {cs : List (List ℕ)} {w : List ℕ} → Reads s b cs w → w ≡ fed (pointOf s b) cs .out
-reads-fed {s} {b} (ends m) = ap (λ (t : Turn). t .out) (m .same ∙ fed-none (pointOf s b))
-reads-fed {s} {b} (goes {c = c} {out = out} {cs = cs} {wrote = wrote} m r) =
-    ap (λ (w : List ℕ). take wrote out ++ w) (reads-fed r)
-    ∙ ap (λ (t : Turn). t .out ++ fed (t .point) cs .out) (m .same)
-    ∙ ap (λ (t : Turn). t .out) (fed-cons (pointOf s b) c cs)
+-- one turn more, by what `feed` says of it: however the input is cut, it is joined again
+pub ran-more : {i w b b₀ b′ out₀ out : List ℕ} {s s′ : Stream} {from wrote room : ℕ} (c : List ℕ) → Ran i w s b
+    → Moved (run (pointOf s b) c) s′ b₀ b′ out₀ out from wrote room → Ran (i ++ c) (w ++ take wrote out) s′ b′
+ran-more {i} {w} c r m =
+    record {
+      going = m .going;
+      same =
+          run-append (opening []) i c
+          ∙ ap (λ (t : Turn). behind (t .out) (run (t .point) c)) (r .same)
+          ∙ ap (behind w) (sym (m .same));
+    }
 
--- for every cutting of the input into chunks
-pub program : {s : Stream} {b : List ℕ} {cs : List (List ℕ)} {w : List ℕ} → Begun s → Reads s b cs w → w ≡ frames (joined cs)
-program {s} {b} {cs} g r = reads-fed r ∙ ap (λ (p : Point). fed p cs .out) (begun b g .1) ∙ any-cutting cs
+-- the end of the input, by what `close` says of it
+pub ran-ends : {i w b o : List ℕ} {s : Stream} → Ran i w s b → o ≡ closed (pointOf s b) .out → w ++ o ≡ frames i
+ran-ends {i} {w} r e =
+    ap (λ (k : List ℕ). w ++ k) e
+    ∙ ap (λ (t : Turn). t .out ++ closed (t .point) .out) (sym (r .same))
+    ∙ ap (λ (t : Turn). t .out) (whole-is (opening []) i)
+    ∙ whole-frames i
+
+-- behind a refused settings line all is written, whatever is left of the input
+pub ran-over : {i w b : List ℕ} {s : Stream} → Ran i w s b → s .phase ≡ Over → (rest : List ℕ) → w ≡ frames (i ++ rest)
+ran-over {i} {w} {b} {s} r h rest =
+    let x = stateOf (take (s .size) b) in
+    sym (append-nil w)
+    ∙ ap (λ (k : List ℕ). w ++ k) (sym (ap (λ (p : Phase). whole (pointAt p x (heldOf (s .held))) rest .out) h ∙ whole-over rest))
+    ∙ ap (λ (t : Turn). t .out ++ whole (t .point) rest .out) (sym (r .same))
+    ∙ ap (λ (t : Turn). t .out) (sym (whole-append (opening []) i rest))
+    ∙ whole-frames (i ++ rest)
 
 -- behind a good settings line the book's words are those of the machine's state
 pub book-shown : {s : Stream} {b : List ℕ} → Going s b → s .phase ≡ Later → words (stateOf (take (s .size) b)) ≡ take (s .size) b

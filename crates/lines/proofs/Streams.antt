@@ -8,18 +8,16 @@ use mathlib.Core.List.{List, [], _∷_, _++_, append-nil}
 use lib.Dec.{eqb}
 use lib.ListN.{length, take, drop, length-append, length-drop}
 use borrow.Author.Tests.{eqb-true, eqb-false}
-use lib.Seq.{take-at, take-all, length-take-le}
+use lib.Seq.{take-at, drop-at, take-all, length-take-le}
 use Rattle.model.specs.declared.Settings.{Settings}
-use Rattle.model.specs.declared.Answer.{Answer}
 use Rattle.model.specs.State.{State}
 use Rattle.model.specs.Reading.{settingsOf, stateOf}
-use Rattle.model.specs.Calls.{Called, called}
-use Rattle.model.specs.Lines.{answerLine, lineOutcome}
+use Rattle.model.specs.Lines.{lineOutcome}
 use Rattle.model.proofs.Search.{both}
-use Rattle.book.specs.Good.{Good, answered}
-use Rattle.lines.specs.Digits.{Put, LineEnd}
-use Rattle.lines.specs.Stream.{kept, Turn, opening, later, over, silent, behind, opened, told, ended, longer, byte, run, closed}
-use Rattle.lines.specs.Post.{heldOf, Holds, pointAt, pointOf, Going, Moved, Begun, endPoint, EndedOf, isLater, Told}
+use Rattle.book.specs.Good.{Good}
+use Rattle.lines.specs.Digits.{LineEnd}
+use Rattle.lines.specs.Stream.{heldMost, kept, Turn, opening, later, over, silent, behind, opened, told, ended, longer, byte, run, closed}
+use Rattle.lines.specs.Post.{Free, heldOf, Holds, pointAt, pointOf, Going, Moved, Begun, endPoint, EndedOf, isLater, Told}
 use Rattle.lines.specs.declared.stream.Held.{Held}
 use Rattle.lines.specs.declared.stream.Phase.{Phase}
 use Rattle.lines.specs.declared.stream.Phase.the-variants.{Opening, Later, Over}
@@ -27,35 +25,40 @@ use Rattle.lines.specs.declared.stream.Stream.{Stream}
 use Rattle.lines.specs.declared.stream.Ended.{Ended}
 use Rattle.lines.proofs.Looking.{all-free, end-leads}
 use Rattle.lines.proofs.Whole.{byte-end, byte-in}
-use Rattle.lines.proofs.Books.{after-line}
-use Rattle.lines.proofs.Turns.{grown, Kept, later-kept, run-free, run-leads, tail-is, put-wrote}
+use Rattle.lines.proofs.Turns.{grown, Kept, later-kept, run-free, run-leads, run-alone, run-out, rest-none, ends-le, ends-one, tail-is}
+use Rattle.lines.proofs.Keeping.{holds-own}
+use Rattle.lines.proofs.Puts.{drop-behind}
 
 -- a good book by its own settings
 own : {S : Settings} {b : List ℕ} → Good S b → Good (settingsOf b) b
 own g = record { read = refl; laid = g .laid; lawful = g .lawful }
 
 -- the front of a book was replaced by as many words
-front : (size : ℕ) (b last : List ℕ) → size ≤ length b → length last ≡ length (take size b) → (take size (last ++ drop size b) ≡ last) × (size ≤ length (last ++ drop size b))
+front : (size : ℕ) (b last : List ℕ) → size ≤ length b → length last ≡ length (take size b)
+    → (take size (last ++ drop size b) ≡ last) × (size ≤ length (last ++ drop size b)) × (drop size (last ++ drop size b) ≡ drop size b)
 front size b last h e =
     let n = length-take-le size b h in
-    (take-at last (drop size b) size (e ∙ n), omega (arith, length-append last (drop size b)))
+    (take-at last (drop size b) size (e ∙ n), omega (arith, length-append last (drop size b)), drop-at last (drop size b) size (e ∙ n))
 
--- a later line is over
-pub responded : {last out out′ : List ℕ} {a : Answer} {at : ℕ} (b l : List ℕ) (size : ℕ) → size ≤ length b → Good (settingsOf (take size b)) (take size b)
-    → answered a last ≡ called (lineOutcome (stateOf (take size b)) l) → length last ≡ length (take size b) → Put out out′ at (answerLine a)
-    → EndedOf (behind (take at out) (told (lineOutcome (stateOf (take size b)) l))) (record { more = true; size = size; wrote = at + 25 }) (last ++ drop size b) out′ (at + 25)
-responded {last} {out} {out′} {a} {at} b l size h g e k p =
-    let o = lineOutcome (stateOf (take size b)) l in
-    let f = front size b last h k in
-    let s = after-line l g e in
-    let q : a ≡ o .answer = ap (λ (c : Called). c .answer) e in
+-- a later line that is held is over: it is answered as a chunk of one line
+pub responded : {last out out′ : List ℕ} {used wrote : ℕ} (b l : List ℕ) (size : ℕ) → size ≤ length b → Free l
+    → Told (settingsOf (take size b)) (take size b) (l ++ (10 ∷ [])) out 0 last out′ used wrote → length last ≡ length (take size b)
+    → EndedOf (told (lineOutcome (stateOf (take size b)) l)) (record { more = true; size = size; wrote = wrote }) b (last ++ drop size b) out out′ 25
+responded {last} {out} {out′} {used} {wrote} b l size h f v k =
+    let n = front size b last h k in
+    let c = l ++ (10 ∷ []) in
+    let y = stateOf last in
     record {
-      short = omega arith;
-      sized = record { fits = f .1; good = λ z. rw (f .0) (own (s .good)) };
+      short = omega (arith, v .short, ends-one l f);
+      book-past = n .2;
+      out-past = v .past;
+      sized = record { fits = n .1; none = λ z. both refl z; good = λ z. rw (n .0) (own (v .good)) };
       same =
-          ap (λ (d : List ℕ). record { out = take (at + 25) out′; point = later (stateOf d) [] }) (f .0)
-          ∙ ap (λ (x : State). record { out = take (at + 25) out′; point = later x [] }) (s .shows)
-          ∙ ap (λ (w : List ℕ). record { out = w; point = later (o .state) [] }) (put-wrote a p ∙ ap (λ (c : Answer). take at out ++ answerLine c) q);
+          ap (λ (d : List ℕ). record { out = take wrote out′; point = later (stateOf d) [] }) (n .0)
+          ∙ ap (λ (o : List ℕ). record { out = o; point = later y [] }) (sym (append-nil (take wrote out′)))
+          ∙ ap (behind (take wrote out′)) (sym (run-out y (drop used c) (rest-none l used (v .free))))
+          ∙ v .same
+          ∙ run-alone (stateOf (take size b)) l f;
     }
 
 -- any line is over
@@ -71,24 +74,24 @@ ended-over : ended over ≡ silent over
 unfolding ended
 ended-over = refl
 
-pub ended-as : {t u : Turn} {e : Ended} {b out : List ℕ} {room : ℕ} → t ≡ u → EndedOf t e b out room → EndedOf u e b out room
-ended-as q v = record { short = v .short; sized = v .sized; same = v .same ∙ q }
+pub ended-as : {t u : Turn} {e : Ended} {b₀ b out₀ out : List ℕ} {room : ℕ} → t ≡ u → EndedOf t e b₀ b out₀ out room → EndedOf u e b₀ b out₀ out room
+ended-as q v = record { short = v .short; sized = v .sized; same = v .same ∙ q; book-past = v .book-past; out-past = v .out-past }
 
-module _ {p : Phase} (x : State) (l out : List ℕ) (at : ℕ) where
-  pub turn-opening : p ≡ Opening → behind (take at out) (opened l) ≡ behind (take at out) (ended (pointAt p x l))
-  turn-opening h = ap (behind (take at out)) (sym (ap (λ (q : Phase). ended (pointAt q x l)) h ∙ ended-opening l))
+module _ {p : Phase} (x : State) (l : List ℕ) where
+  pub turn-opening : p ≡ Opening → opened l ≡ ended (pointAt p x l)
+  turn-opening h = sym (ap (λ (q : Phase). ended (pointAt q x l)) h ∙ ended-opening l)
 
-  pub turn-later : p ≡ Later → behind (take at out) (told (lineOutcome x l)) ≡ behind (take at out) (ended (pointAt p x l))
-  turn-later h = ap (behind (take at out)) (sym (ap (λ (q : Phase). ended (pointAt q x l)) h ∙ ended-later x l))
+  pub turn-later : p ≡ Later → told (lineOutcome x l) ≡ ended (pointAt p x l)
+  turn-later h = sym (ap (λ (q : Phase). ended (pointAt q x l)) h ∙ ended-later x l)
 
-  pub turn-over : {b : List ℕ} → p ≡ Over → EndedOf (behind (take at out) (ended (pointAt p x l))) (record { more = false; size = 0; wrote = at }) b out (at + 25)
+  pub turn-over : {b out : List ℕ} → p ≡ Over → EndedOf (ended (pointAt p x l)) (record { more = false; size = 0; wrote = 0 }) b b out out 25
   turn-over h =
       record {
         short = omega arith;
-        sized = record { fits = omega arith; good = λ z. both z refl };
-        same =
-            ap (λ (o : List ℕ). record { out = o; point = over }) (sym (append-nil (take at out)))
-            ∙ ap (behind (take at out)) (sym (ap (λ (q : Phase). ended (pointAt q x l)) h ∙ ended-over));
+        book-past = refl;
+        out-past = refl;
+        sized = record { fits = omega arith; none = λ z. refl; good = λ z. both z refl };
+        same = sym (ap (λ (q : Phase). ended (pointAt q x l)) h ∙ ended-over);
       }
 
 -- nothing more is read
@@ -96,7 +99,8 @@ longer-over : (b : ℕ) → longer over b ≡ over
 unfolding longer
 longer-over b = refl
 
-over-by : (b : ℕ) (c : List ℕ) (t : Bool) → eqb b 10 ≡ t → run over c ≡ silent over → behind (byte over b .out) (run (byte over b .point) c) ≡ silent over
+over-by : (b : ℕ) (c : List ℕ) (t : Bool) → eqb b 10 ≡ t → run over c ≡ silent over
+    → behind (byte over b .out) (run (byte over b .point) c) ≡ silent over
 over-by b c true h r = ap (λ (t : Turn). behind (t .out) (run (t .point) c)) (byte-end over (eqb-true b 10 h) ∙ ended-over) ∙ r
 over-by b c false h r = ap (λ (t : Turn). behind (t .out) (run (t .point) c)) (byte-in over (eqb-false b 10 h) ∙ ap silent (longer-over b)) ∙ r
 
@@ -107,11 +111,19 @@ run-over (b ∷ c) = over-by b c _ refl (run-over c)
 
 -- the rest of a chunk
 pub rest-over : {b out : List ℕ} {h : Held} (e : Ended) (c : List ℕ) → e .more ≡ false → Holds h []
-    → Moved (behind (take (e .wrote) out) (run (endPoint e b) c)) (record { held = h; phase = Over; size = 0 }) b out (e .wrote) (e .wrote + 25 * length c)
+    → Moved (behind (take (e .wrote) out) (run (endPoint e b) c)) (record { held = h; phase = Over; size = 0 })
+    b b out out (e .wrote) (e .wrote) (e .wrote + 25 * length c)
 rest-over {b} {out} {h} e c m k =
     record {
+      more = omega arith;
       short = omega arith;
-      going = record { holds = record { long = k .long; few = k .few; same = refl }; sized = record { fits = omega arith; good = λ z. absurd (not-later z) } };
+      book-past = refl;
+      out-past = refl;
+      going =
+          record {
+            holds = holds-own k;
+            sized = record { fits = omega arith; none = λ z. refl; good = λ z. absurd (not-later z) };
+          };
       same =
           ap (λ (o : List ℕ). record { out = o; point = over }) (sym (append-nil (take (e .wrote) out)))
           ∙ ap (behind (take (e .wrote) out)) (sym (ap (λ (t : Bool). run (cond t (later (stateOf (take (e .size) b)) []) over) c) m ∙ run-over c));
@@ -128,17 +140,24 @@ pub rest-later : {last out out′ : List ℕ} {h : Held} {used wrote : ℕ} (b :
     → Told (settingsOf (take (e .size) b)) (take (e .size) b) c out (e .wrote) last out′ used wrote
     → length last ≡ length (take (e .size) b)
     → Holds h (kept (take (length c - used) (drop used c)))
-    → Moved (behind (take (e .wrote) out) (run (endPoint e b) c)) (record { held = h; phase = Later; size = e .size }) (last ++ drop (e .size) b) out′ wrote (e .wrote + 25 * length c)
+    → Moved (behind (take (e .wrote) out) (run (endPoint e b) c)) (record { held = h; phase = Later; size = e .size })
+    b (last ++ drop (e .size) b) out out′ (e .wrote) wrote (e .wrote + 25 * length c)
 rest-later {last} {out} {out′} {h} {used} {wrote} b e c m f v k q =
     let x = stateOf last in
     let r = drop used c in
     let n = front (e .size) b last f k in
-    let w = v .within in
-    let s = v .short in
+    let w = v .short in
     let held : heldOf h ≡ kept r = q .same ∙ ap kept (tail-is c used) in
     record {
-      short = omega arith;
-      going = record { holds = record { long = q .long; few = q .few; same = refl }; sized = record { fits = n .1; good = λ z. rw (n .0) (own (v .good)) } };
+      more = v .more;
+      short = omega (arith, ends-le c);
+      book-past = n .2;
+      out-past = v .past;
+      going =
+          record {
+            holds = holds-own q;
+            sized = record { fits = n .1; none = λ z. both refl z; good = λ z. rw (n .0) (own (v .good)) };
+          };
       same =
           ap (λ (d : List ℕ). record { out = take wrote out′; point = later (stateOf d) (heldOf h) }) (n .0)
           ∙ ap (λ (l : List ℕ). record { out = take wrote out′; point = later x l }) held
@@ -168,36 +187,42 @@ module _ (s : Stream) (b c : List ℕ) (g : Going s b) {h : Held} {n : ℕ} (e :
   point-kept : Kept (pointOf s b)
   point-kept =
       kept-at (s .phase) x (heldOf (s .held))
-      (take-all 201 (heldOf (s .held)) (omega (arith, g .holds .few, g .holds .long, length-take-le (s .held .len) (s .held .bytes) (omega (arith, g .holds .few, g .holds .long)))))
+      (take-all heldMost (heldOf (s .held))
+      (omega (arith, g .holds .few, g .holds .long, length-take-le (s .held .len) (s .held .bytes) (omega (arith, g .holds .few, g .holds .long)))))
 
   held-point : pointAt (s .phase) x (heldOf h) ≡ grown (pointOf s b) (take n c)
   held-point = ap (pointAt (s .phase) x) (k .same) ∙ grown-at (s .phase) x (heldOf (s .held)) (take n c)
 
-  pub holds-on : Holds h (heldOf h)
-  holds-on = record { long = k .long; few = k .few; same = refl }
-
   -- no line ends in it
-  pub all-held : {out : List ℕ} → n ≡ length c → Moved (run (pointOf s b) c) (record { held = h; phase = s .phase; size = s .size }) b out 0 (25 * length c)
+  pub all-held : {out : List ℕ} → n ≡ length c → Moved (run (pointOf s b) c) (record { held = h; phase = s .phase; size = s .size })
+      b b out out 0 0 (25 * length c)
   all-held {out} l =
       record {
+        more = omega arith;
         short = omega arith;
-        going = record { holds = holds-on; sized = g .sized };
+        book-past = refl;
+        out-past = refl;
+        going = record { holds = holds-own k; sized = g .sized };
         same =
             ap silent (held-point ∙ ap (grown (pointOf s b)) (take-all n c (omega arith)))
             ∙ sym (run-free c (pointOf s b) point-kept (all-free c n e l));
       }
 
   -- a line ends in it
-  pub line-held : {b₁ b₂ out₁ out₂ : List ℕ} {t : Stream} {wrote : ℕ} (d : Ended) → (n ≡ length c → ⊥)
-      → EndedOf (ended (pointAt (s .phase) x (heldOf h))) d b₁ out₁ 25
-      → Moved (behind (take (d .wrote) out₁) (run (endPoint d b₁) (take (length c - (n + 1)) (drop (n + 1) c)))) t b₂ out₂ wrote (d .wrote + 25 * length (take (length c - (n + 1)) (drop (n + 1) c)))
-      → Moved (run (pointOf s b) c) t b₂ out₂ wrote (25 * length c)
-  line-held {b₁} {b₂} {out₁} {out₂} {t} {wrote} d l v m =
+  pub line-held : {b₁ b₂ out out₁ out₂ : List ℕ} {t : Stream} {wrote : ℕ} (d : Ended) → (n ≡ length c → ⊥)
+      → EndedOf (ended (pointAt (s .phase) x (heldOf h))) d b b₁ out out₁ 25
+      → Moved (behind (take (d .wrote) out₁) (run (endPoint d b₁) (take (length c - (n + 1)) (drop (n + 1) c))))
+      t b₁ b₂ out₁ out₂ (d .wrote) wrote (d .wrote + 25 * length (take (length c - (n + 1)) (drop (n + 1) c)))
+      → t .size ≡ d .size → Moved (run (pointOf s b) c) t b b₂ out out₂ 0 wrote (25 * length c)
+  line-held {b₁} {b₂} {out} {out₁} {out₂} {t} {wrote} d l v m q =
       let r = drop (n + 1) c in
       let y = end-leads c n e l in
       let z = ap length (tail-is c (n + 1)) in
       record {
+        more = omega arith;
         short = omega (arith, m .short, v .short, length-drop (n + 1) c, y .inside);
+        book-past = m .book-past ∙ ap (λ (k : ℕ). drop k b₁) q ∙ v .book-past ∙ ap (λ (k : ℕ). drop k b) (sym q);
+        out-past = m .out-past ∙ drop-behind out₁ out (m .more) (v .out-past);
         going = m .going;
         same =
             m .same
@@ -236,14 +261,16 @@ later-is Over h = both h refl
 
 -- no later line has begun
 pub closed-silent : {out : List ℕ} (s : Stream) (b : List ℕ) → Going s b → isLater (s .phase) ≡ true → s .held .len ≡ 0
-    → EndedOf (closed (pointOf s b)) (record { more = true; size = s .size; wrote = 0 }) b out 25
+    → EndedOf (closed (pointOf s b)) (record { more = true; size = s .size; wrote = 0 }) b b out out 25
 closed-silent s b g h z =
     let l = later-is (s .phase) h in
     let x = stateOf (take (s .size) b) in
     let n : heldOf (s .held) ≡ [] = ap (λ (k : ℕ). take k (s .held .bytes)) z in
     record {
       short = omega arith;
-      sized = record { fits = g .sized .fits; good = λ q. g .sized .good l };
+      book-past = refl;
+      out-past = refl;
+      sized = record { fits = g .sized .fits; none = λ z. both refl z; good = λ q. g .sized .good l };
       same = closed-none x ∙ sym (ap (λ (p : Phase). closed (pointAt p x (heldOf (s .held)))) l ∙ ap (λ (k : List ℕ). closed (later x k)) n);
     }
 
@@ -255,8 +282,8 @@ pub begun : {s : Stream} (b : List ℕ) → Begun s → Going s b × (pointOf s 
 begun {s} b g =
     let h = g .holds in (
       record {
-        holds = record { long = h .long; few = h .few; same = refl };
-        sized = record { fits = rw (g .size) (omega arith); good = λ z. absurd (not-later (sym (g .phase) ∙ z)) };
+        holds = holds-own h;
+        sized = record { fits = rw (g .size) (omega arith); none = λ z. g .size; good = λ z. absurd (not-later (sym (g .phase) ∙ z)) };
       },
       ap (λ (p : Phase). pointAt p (stateOf (take (s .size) b)) (heldOf (s .held))) (g .phase) ∙ ap opening (h .same),
     )

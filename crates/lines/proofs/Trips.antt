@@ -24,7 +24,8 @@ digit-by d true h k =
     simp (le-leb 48 (48 + d) (omega arith), le-leb (48 + d) 57 (omega arith)) (omega arith)
 digit-by d false h k =
     let g = leb-false d 9 h in
-    simp (le-leb 48 (87 + d) (omega arith), lt-leb (87 + d) 57 (omega arith), le-leb 97 (87 + d) (omega arith), le-leb (87 + d) 102 (omega arith)) (omega arith)
+    simp (le-leb 48 (87 + d) (omega arith), lt-leb (87 + d) 57 (omega arith), le-leb 97 (87 + d) (omega arith), le-leb (87 + d) 102 (omega arith))
+    (omega arith)
 
 pub value-digit : (d : ℕ) → d < 16 → valueOf (digit d) ≡ d
 value-digit d h = digit-by d _ refl h
@@ -64,7 +65,8 @@ there-and-back (suc n) acc w =
     split-mod : w % (16 * 16 ^ n) ≡ (w / 16 ^ n % 16) * 16 ^ n + w % 16 ^ n
     split-mod = mod-mul w {m = 16} {c = 16 ^ n} (omega arith) (one-le-pow n 16 (omega arith))
 
-back-and-there : (bs : List ℕ) (acc : ℕ) → digitsOnly bs ≡ true → (shownFrom acc bs / 16 ^ length bs ≡ acc) × (digits (length bs) (shownFrom acc bs) ≡ bs)
+back-and-there : (bs : List ℕ) (acc : ℕ) → digitsOnly bs ≡ true
+    → (shownFrom acc bs / 16 ^ length bs ≡ acc) × (digits (length bs) (shownFrom acc bs) ≡ bs)
 back-and-there [] acc h = (div-one (shownFrom acc []) ∙ shown-none acc, refl)
 back-and-there (b ∷ bs) acc h =
     let w = shownFrom acc (b ∷ bs) in
@@ -75,7 +77,8 @@ back-and-there (b ∷ bs) acc h =
     let i1 : digits (length bs) w ≡ bs = rw e (ih .1) in
     let v = value-is b one .1 in
     let q : (w / 16 ^ length bs) % 16 ≡ valueOf b = omega arith in
-    let d : w / 16 ^ suc (length bs) ≡ w / 16 ^ length bs / 16 = ap (λ (p : ℕ). w / p) (pow-suc 16 (length bs)) ∙ sym (div-div-eq-div-mul w (16 ^ length bs) 16) in
+    let d : w / 16 ^ suc (length bs) ≡ w / 16 ^ length bs / 16 = ap (λ (p : ℕ). w / p) (pow-suc 16 (length bs))
+    ∙ sym (div-div-eq-div-mul w (16 ^ length bs) 16) in
     (omega arith, ap₂ _∷_ (ap digit q ∙ digit-value b one) i1)
 
 -- every word below 2^32

@@ -1,12 +1,16 @@
 -- Runs over the lines of a chunk.
 -- Assumes nothing.
 use Prim.Native.Nat.{ℕ, suc, _+_, _-_, _*_, _≤_, _<_}
+use native.Mathlib.Decide.{decLe}
+use mathlib.Core.Bool.{Bool, true, false, cond}
+use lib.Dec.{eqb}
+use borrow.Author.Tests.{ne-eqb}
 use native.Mathlib.Numerals.{add-one}
 use native.Mathlib.Omega.{arith}
 use mathlib.Core.Path.{_≡_, refl, sym, _∙_, ap}
 use mathlib.Core.List.{List, [], _∷_, _++_, append-assoc, append-nil}
-use lib.ListN.{length, take, drop, length-drop, drop-of-length-le}
-use lib.Seq.{split-at, take-all, drop-drop}
+use lib.ListN.{length, take, drop, length-append, length-drop, drop-of-length-le}
+use lib.Seq.{split-at, take-all, drop-drop, drop-append-le}
 use Rattle.model.specs.declared.Settings.{Settings}
 use Rattle.model.specs.declared.Answer.{Answer}
 use Rattle.model.specs.declared.Answer.the-variants.{Done, Refused}
@@ -15,10 +19,11 @@ use Rattle.model.specs.Reading.{stateOf}
 use Rattle.model.specs.Calls.{Called, called}
 use Rattle.model.specs.Lines.{hexadecimal, answerLine, lineOutcome}
 use Rattle.book.specs.Good.{Good, answered}
-use Rattle.lines.specs.Stream.{kept, Point, opening, later, over, Turn, silent, behind, ended, longer, byte, run}
+use Rattle.lines.specs.Stream.{kept, Point, opening, later, over, Turn, silent, behind, told, ended, longer, byte, run}
 use Rattle.lines.specs.Digits.{Put}
-use Rattle.lines.specs.Post.{Free, Leads, TakenOf, Told}
+use Rattle.lines.specs.Post.{Free, ends, Leads, TakenOf, Told}
 use Rattle.lines.specs.declared.stream.Taken.{Taken}
+use Rattle.lines.proofs.Puts.{drop-further}
 use Rattle.lines.proofs.Keeping.{kept-append}
 use Rattle.lines.proofs.Whole.{byte-end, byte-in, run-append, ended-later}
 use Rattle.lines.proofs.Books.{after-line}
@@ -88,6 +93,39 @@ leads-split l n e =
     ∙ ap (λ (b : ℕ). take n l ++ (b ∷ drop (suc n) l)) (e .ends)
     ∙ ap (λ (k : ℕ). take n l ++ (10 ∷ drop k l)) (sym (add-one n))
 
+-- the bytes 10 of an input: at most one for each byte, and one less behind each line
+pub ends-le : (l : List ℕ) → ends l ≤ length l
+unfolding ends
+ends-le [] = omega arith
+ends-le (b ∷ l) = by (eqb b 10) (ends-le l)
+  where
+    by : (t : Bool) → ends l ≤ length l → cond t (suc (ends l)) (ends l) ≤ suc (length l)
+    by true h = omega arith
+    by false h = omega arith
+
+ends-more : (a b : List ℕ) → ends b ≤ ends (a ++ b)
+unfolding ends
+ends-more [] b = omega arith
+ends-more (x ∷ a) b = by (eqb x 10) (ends-more a b)
+  where
+    by : (t : Bool) → ends b ≤ ends (a ++ b) → ends b ≤ cond t (suc (ends (a ++ b))) (ends (a ++ b))
+    by true h = omega arith
+    by false h = omega arith
+
+ends-cons : (l : List ℕ) → ends (10 ∷ l) ≡ suc (ends l)
+unfolding ends
+ends-cons l = refl
+
+pub leads-ends : (l : List ℕ) (n : ℕ) → Leads l n → suc (ends (drop (n + 1) l)) ≤ ends l
+leads-ends l n e =
+    let r = drop (n + 1) l in
+    omega (arith, ap ends (leads-split l n e), ends-more (take n l) (10 ∷ r), ends-cons r)
+
+pub ends-one : (l : List ℕ) → Free l → ends (l ++ (10 ∷ [])) ≡ 1
+unfolding ends Free
+ends-one [] f = refl
+ends-one (b ∷ l) f = rw (ne-eqb b 10 (f .0)) (ends-one l (f .1))
+
 pub run-leads : (p : Point) (l : List ℕ) (n : ℕ) → Kept p → Leads l n
     → run p l ≡ behind (ended (grown p (take n l)) .out) (run (ended (grown p (take n l)) .point) (drop (n + 1) l))
 run-leads p l n k e = ap (run p) (leads-split l n e) ∙ run-line p (take n l) (drop (n + 1) l) k (e .free)
@@ -104,6 +142,35 @@ run-later x l n e =
     run-leads (later x []) l n (later-kept x) e
     ∙ ap (λ (t : Turn). behind (t .out) (run (t .point) (drop (n + 1) l))) (ended-later x (take n l))
 
+-- a line by itself, with its byte 10
+pub run-none : (p : Point) → run p [] ≡ silent p
+unfolding run
+run-none p = refl
+
+pub run-alone : (x : State) (l : List ℕ) → Free l → run (later x []) (l ++ (10 ∷ [])) ≡ told (lineOutcome x l)
+unfolding grown
+run-alone x l f =
+    let o = lineOutcome x l in
+    run-line (later x []) l [] (later-kept x) f
+    ∙ ap (λ (t : Turn). behind (t .out) (run (t .point) [])) (ended-later x l)
+    ∙ ap (behind (answerLine (o .answer))) (run-none (later (o .state) []))
+    ∙ ap (λ (w : List ℕ). record { out = w; point = later (o .state) [] }) (append-nil (answerLine (o .answer)))
+
+free-ended : (a : List ℕ) → Free (a ++ (10 ∷ [])) → ⊥
+unfolding Free
+free-ended [] f = f .0 refl
+free-ended (b ∷ a) f = free-ended a (f .1)
+
+pub rest-none : (l : List ℕ) (used : ℕ) → Free (drop used (l ++ (10 ∷ []))) → drop used (l ++ (10 ∷ [])) ≡ []
+rest-none l used f = go (decLe used (length l))
+  where
+    go : Dec (used ≤ length l) → drop used (l ++ (10 ∷ [])) ≡ []
+    go (yes h) = absurd (free-ended (drop used l) (rw (drop-append-le used l (10 ∷ []) h) at f))
+    go (no h) = drop-of-length-le (l ++ (10 ∷ [])) {i = used} (omega (arith, length-append l (10 ∷ [])))
+
+pub run-out : (x : State) (r : List ℕ) → r ≡ [] → run (later x []) r ≡ silent (later x [])
+run-out x r e = ap (run (later x [])) e ∙ run-none (later x [])
+
 pub answer-length : (a : Answer) → length (answerLine a) ≡ 25
 unfolding hexadecimal
 answer-length (Done v) = refl
@@ -112,6 +179,12 @@ answer-length (Refused n p) = refl
 -- an answer line was written
 pub put-wrote : {out out′ : List ℕ} {at : ℕ} (a : Answer) → Put out out′ at (answerLine a) → take (at + 25) out′ ≡ take at out ++ answerLine a
 put-wrote {out} {out′} {at} a p = ap (λ (m : ℕ). take (at + m) out′) (sym (answer-length a)) ∙ p .wrote
+
+-- and no more than it
+pub put-past : {out out′ : List ℕ} {at : ℕ} (a : Answer) → Put out out′ at (answerLine a) → drop (at + 25) out′ ≡ drop (at + 25) out
+put-past {out} {out′} {at} a p =
+    let e = answer-length a in
+    ap (λ (m : ℕ). drop (at + m) out′) (sym e) ∙ p .past ∙ ap (λ (m : ℕ). drop (at + m) out) e
 
 -- the part `&c[i..]`
 pub tail-is : (c : List ℕ) (i : ℕ) → take (length c - i) (drop i c) ≡ drop i c
@@ -126,6 +199,14 @@ module _ {S : Settings} {b b′ : List ℕ} (c : List ℕ) (i : ℕ) (t : Taken)
   gives : answered (t .answer) b′ ≡ called (lineOutcome (stateOf b) (take (t .used - 1) (drop i c)))
   gives = rw (tail-is c i) at (k .some s .1)
 
+  rest-is : drop (i + t .used) c ≡ drop (t .used - 1 + 1) (drop i c)
+  rest-is =
+      let n : t .used - 1 + 1 ≡ t .used = omega arith in
+      ap (λ (m : ℕ). drop (i + m) c) (sym n) ∙ sym (drop-drop (t .used - 1 + 1) i c)
+
+  pub more-ends : suc (ends (drop (i + t .used) c)) ≤ ends (drop i c)
+  more-ends = rw rest-is (leads-ends (drop i c) (t .used - 1) leads)
+
   pub in-reach : i + t .used ≤ length c
   in-reach = omega (arith, leads .inside, length-drop i c)
 
@@ -133,31 +214,33 @@ module _ {S : Settings} {b b′ : List ℕ} (c : List ℕ) (i : ℕ) (t : Taken)
   more-good = after-line (take (t .used - 1) (drop i c)) g gives .good
 
   pub more-told : {out out′ : List ℕ} {at : ℕ} → Put out out′ at (answerLine (t .answer))
-      → behind (take (at + 25) out′) (run (later (stateOf b′) []) (drop (i + t .used) c)) ≡ behind (take at out) (run (later (stateOf b) []) (drop i c))
+      → behind (take (at + 25) out′) (run (later (stateOf b′) []) (drop (i + t .used) c))
+      ≡ behind (take at out) (run (later (stateOf b) []) (drop i c))
   more-told {out} {out′} {at} p =
       let l = take (t .used - 1) (drop i c) in
       let o = lineOutcome (stateOf b) l in
-      let n : t .used - 1 + 1 ≡ t .used = omega arith in
       let w : take (at + 25) out′ ≡ take at out ++ answerLine (t .answer) = put-wrote (t .answer) p in
       let a : t .answer ≡ o .answer = ap (λ (q : Called). q .answer) gives in
       let x : stateOf b′ ≡ o .state = after-line l g gives .shows in
-      let d : drop (i + t .used) c ≡ drop (t .used - 1 + 1) (drop i c)
-      = ap (λ (m : ℕ). drop (i + m) c) (sym n) ∙ sym (drop-drop (t .used - 1 + 1) i c) in
-      rw (w, a, x, d)
-      (ap (λ (q : List ℕ). record { out = q; point = run (later (o .state) []) (drop (t .used - 1 + 1) (drop i c)) .point }) (append-assoc (take at out) (answerLine (o .answer)) _)
+      rw (w, a, x, rest-is)
+      (ap (λ (q : List ℕ). record { out = q; point = run (later (o .state) []) (drop (t .used - 1 + 1) (drop i c)) .point })
+      (append-assoc (take at out) (answerLine (o .answer)) _)
       ∙ ap (behind (take at out)) (sym (run-later (stateOf b) (drop i c) (t .used - 1) leads)))
 
 -- of the chunk c, the first i bytes are lines that are answered
 pub record So (S : Settings) (b₀ c out₀ : List ℕ) (from : ℕ) (b out : List ℕ) (at i : ℕ) : Type 0 where
   pub within : i ≤ length c
-  pub short : at ≤ from + 25 * i
+  pub more : from ≤ at
+  pub room : at + 25 * ends (drop i c) ≤ from + 25 * ends c
   pub good : Good S b
+  pub past : drop at out ≡ drop at out₀
   pub book-kept : length b ≡ length b₀
   pub out-kept : length out ≡ length out₀
   pub same : behind (take at out) (run (later (stateOf b) []) (drop i c)) ≡ behind (take from out₀) (run (later (stateOf b₀) []) c)
 
 pub start : {S : Settings} (b c out : List ℕ) (from : ℕ) → Good S b → So S b c out from b out from 0
-start b c out from g = record { within = omega arith; short = omega arith; good = g; book-kept = refl; out-kept = refl; same = refl }
+start b c out from g =
+    record { within = omega arith; more = omega arith; room = omega arith; good = g; past = refl; book-kept = refl; out-kept = refl; same = refl }
 
 module _ {S : Settings} {b₀ c out₀ b out : List ℕ} {from at i : ℕ} where
   pub more-so : {b′ out′ : List ℕ} (t : Taken) (v : So S b₀ c out₀ from b out at i) → TakenOf (take (length c - i) (drop i c)) b t b′ → 0 < t .used
@@ -165,7 +248,9 @@ module _ {S : Settings} {b₀ c out₀ b out : List ℕ} {from at i : ℕ} where
   more-so t v k s e p =
       record {
         within = in-reach c i t (v .within) (v .good) k s;
-        short = let h = v .short in omega arith;
+        more = let h = v .more in omega arith;
+        room = let h = v .room in omega (arith, more-ends c i t (v .within) (v .good) k s);
+        past = put-past (t .answer) p ∙ drop-further out out₀ at 25 (v .past);
         good = more-good c i t (v .within) (v .good) k s;
         book-kept = e ∙ v .book-kept;
         out-kept = p .kept ∙ v .out-kept;
@@ -176,10 +261,28 @@ module _ {S : Settings} {b₀ c out₀ b out : List ℕ} {from at i : ℕ} where
   pub all-told : {b′ : List ℕ} → So S b₀ c out₀ from b out at i → Free (take (length c - i) (drop i c)) × (b′ ≡ b) → Told S b₀ c out₀ from b′ out i at
   all-told v f =
       rw (f .1)
-      (record { within = v .within; short = v .short; good = v .good; free = rw (tail-is c i) at (f .0); same = v .same })
+      (record {
+        within = v .within;
+        more = v .more;
+        short = let h = v .room in omega arith;
+        good = v .good;
+        past = v .past;
+        free = rw (tail-is c i) at (f .0);
+        same = v .same;
+      })
 
   -- there is no rest
   pub end-told : So S b₀ c out₀ from b out at i → length c ≤ i → Told S b₀ c out₀ from b out i at
   unfolding Free
   end-told v h =
-      record { within = v .within; short = v .short; good = v .good; free = rw (drop-of-length-le c {i = i} h) tt; same = v .same }
+      record {
+        within =
+            v .within;
+        more = v .more;
+        short = let h = v .room in omega arith;
+        good = v .good;
+        past = v .past;
+        free = rw
+            (drop-of-length-le c {i = i} h) tt;
+        same = v .same;
+      }

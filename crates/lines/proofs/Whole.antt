@@ -1,6 +1,6 @@
--- However the input is cut into chunks, what the stream writes is `frames` of the whole.
+-- What the stream writes for a whole input is `frames` of it; a run over two parts of an input is a run over both.
 -- Assumes nothing.
-use Prim.Native.Nat.{ℕ, _+_, _-_, _%_, _≤_, _<_}
+use Prim.Native.Nat.{ℕ, _%_, _<_}
 use native.Mathlib.Omega.{arith}
 use mathlib.Core.Path.{_≡_, refl, sym, _∙_, ap}
 use mathlib.Core.Bool.{Bool, true, false, _&&_}
@@ -21,11 +21,13 @@ use Rattle.model.specs.Words.{bookLength}
 use Rattle.model.specs.Reading.{settingsOf}
 use Rattle.model.specs.Calls.{settingsGood}
 use Rattle.model.specs.declared.Answer.the-variants.{Refused}
-use Rattle.model.specs.Lines.{digitValue, wholeWords, lineWords, linesOf, answerLine, lineOutcome, answerLines, programWords, output, frames}
+use Rattle.model.specs.Lines.{digitValue, wholeWords, lineWords, linesOf, answerLine, lineOutcome, answerLines}
+use Rattle.model.specs.Lines.{programWords, output, frames}
 use Rattle.lines.proofs.Framing.{words-length, not-so, frame-parts, no-frame}
 use Rattle.lines.proofs.Keeping.{kept-append}
 use Rattle.lines.specs.Post.{Free}
-use Rattle.lines.specs.Stream.{kept, Point, opening, later, over, Turn, silent, behind, opened, told, ended, longer, byte, run, closed, fed, joined}
+use Rattle.lines.specs.Stream.{heldMost, kept, Point, opening, later, over, Turn, silent, behind, opened, told}
+use Rattle.lines.specs.Stream.{ended, longer, byte, run, closed}
 
 free-snoc : (l : List ℕ) (b : ℕ) → Free l → (b ≡ 10 → ⊥) → Free (l ++ (b ∷ []))
 unfolding Free
@@ -49,24 +51,25 @@ lines-last b (c ∷ l) f = rw (ne-eqb b 10 (f .0), lines-last c l (f .1))
 
 -- Long lines
 
-pub settings-short : (l : List ℕ) → wholeWords l && settingsGood (lineWords l) ≡ true → length l ≤ 200
+pub settings-short : (l : List ℕ) → wholeWords l && settingsGood (lineWords l) ≡ true → length l < heldMost
 unfolding settingsGood
 settings-short l h =
     let w = lineWords l in
     let whole = eqb-true (length l % 8) 0 (and-right (every (λ b. isSome (digitValue b)) l) _ (and-left (wholeWords l) _ h)) in
     let good = and-right (wholeWords l) _ h in
     let valid = valid-is (settingsOf w) (and-right (leb 9 (length w) && eqb (length w) (settingsLength (settingsOf w))) _ good) in
-    let long = eqb-true (length w) (settingsLength (settingsOf w)) (and-right (leb 9 (length w)) _ (and-left _ (validSettings (settingsOf w)) good)) in
+    let long = eqb-true (length w) (settingsLength (settingsOf w)) (and-right (leb 9 (length w)) _ (and-left _ (validSettings (settingsOf w)) good))
+    in
     omega (arith, words-length l, valid .few)
 
--- what a line gives is what its first 201 bytes give
+-- what a line gives is what is kept of it gives
 module _ (l : List ℕ) where
-  same-or-long : (kept l ≡ l) ⊎ ((201 < length l) × (length (kept l) ≡ 201))
-  same-or-long = go (decLt 201 (length l))
+  same-or-long : (kept l ≡ l) ⊎ ((heldMost < length l) × (length (kept l) ≡ heldMost))
+  same-or-long = go (decLt heldMost (length l))
     where
-      go : Dec (201 < length l) → (kept l ≡ l) ⊎ ((201 < length l) × (length (kept l) ≡ 201))
-      go (yes h) = inr (h, length-take-le 201 l (omega arith))
-      go (no h) = inl (take-all 201 l (omega arith))
+      go : Dec (heldMost < length l) → (kept l ≡ l) ⊎ ((heldMost < length l) × (length (kept l) ≡ heldMost))
+      go (yes h) = inr (h, length-take-le heldMost l (omega arith))
+      go (no h) = inl (take-all heldMost l (omega arith))
 
   pub outcome-kept : (x : State) → lineOutcome x (kept l) ≡ lineOutcome x l
   unfolding lineOutcome
@@ -81,7 +84,10 @@ module _ (l : List ℕ) where
   opened-kept =
       ⊎-elim (λ e. ap opened e)
       (λ h.
-      simp (not-so (wholeWords (kept l) && settingsGood (lineWords (kept l))) (λ e. omega (arith, settings-short (kept l) e)), not-so (wholeWords l && settingsGood (lineWords l)) (λ e. omega (arith, settings-short l e))))
+      simp (
+        not-so (wholeWords (kept l) && settingsGood (lineWords (kept l))) (λ e. omega (arith, settings-short (kept l) e)),
+        not-so (wholeWords l && settingsGood (lineWords l)) (λ e. omega (arith, settings-short l e)),
+      ))
       same-or-long
 
 -- Runs
@@ -102,18 +108,12 @@ whole-none : (p : Point) → closed p ≡ whole p []
 unfolding whole run
 whole-none p = refl
 
-whole-append : (p : Point) (a b : List ℕ) → whole p (a ++ b) ≡ behind (run p a .out) (whole (run p a .point) b)
+pub whole-append : (p : Point) (a b : List ℕ) → whole p (a ++ b) ≡ behind (run p a .out) (whole (run p a .point) b)
 unfolding whole
 whole-append p a b =
     ap (λ (t : Turn). behind (t .out) (closed (t .point))) (run-append p a b)
     ∙ ap (λ (o : List ℕ). record { out = o; point = closed (run (run p a .point) b .point) .point })
     (append-assoc (run p a .out) (run (run p a .point) b .out) (closed (run (run p a .point) b .point) .out))
-
--- the chunks' cuts do not matter
-pub any-cuts : (p : Point) (cs : List (List ℕ)) → fed p cs ≡ whole p (joined cs)
-unfolding fed joined
-any-cuts p [] = whole-none p
-any-cuts p (c ∷ cs) = ap (behind (run p c .out)) (any-cuts (run p c .point) cs) ∙ sym (whole-append p c (joined cs))
 
 whole-cons : (p : Point) (b : ℕ) (bs : List ℕ) → whole p (b ∷ bs) ≡ behind (byte p b .out) (whole (byte p b .point) bs)
 unfolding whole run
@@ -159,12 +159,12 @@ longer-later : (x : State) (l : List ℕ) (b : ℕ) → longer (later x (kept l)
 unfolding longer
 longer-later x l b = ap (later x) (kept-append l (b ∷ []))
 
-free-none : Free []
+pub free-none : Free []
 unfolding Free
 free-none = tt
 
 -- nothing is read after a refused settings line
-whole-over : (bs : List ℕ) → whole over bs .out ≡ []
+pub whole-over : (bs : List ℕ) → whole over bs .out ≡ []
 unfolding whole run closed ended longer
 whole-over [] = refl
 whole-over (b ∷ bs) = over-by (eqb b 10) refl (whole-over bs)
@@ -208,10 +208,12 @@ isSettings l = wholeWords l && settingsGood (lineWords l)
 abbrev fitting : List ℕ → Bool
 fitting l = leb (bookLength (settingsOf (lineWords l))) programWords
 
-settings-by : (l bs : List ℕ) (t u : Bool) → isSettings l ≡ t → fitting l ≡ u → opened l .out ++ whole (opened l .point) bs .out ≡ output (l ∷ linesOf bs)
+settings-by : (l bs : List ℕ) (t u : Bool) → isSettings l ≡ t → fitting l ≡ u
+    → opened l .out ++ whole (opened l .point) bs .out ≡ output (l ∷ linesOf bs)
 unfolding opened output
 settings-by l bs true true h k = simp (h, k) (later-whole bs (emptyState (settingsOf (lineWords l))) [] free-none)
-settings-by l bs true false h k = simp (h, k) (ap (λ (o : List ℕ). answerLine (Refused 25 0) ++ o) (whole-over bs) ∙ append-nil (answerLine (Refused 25 0)))
+settings-by l bs true false h k =
+    simp (h, k) (ap (λ (o : List ℕ). answerLine (Refused 25 0) ++ o) (whole-over bs) ∙ append-nil (answerLine (Refused 25 0)))
 settings-by l bs false u h k = simp h (ap (λ (o : List ℕ). answerLine (Refused 24 0) ++ o) (whole-over bs) ∙ append-nil (answerLine (Refused 24 0)))
 
 alone-by : (l : List ℕ) (t u : Bool) → isSettings l ≡ t → fitting l ≡ u → opened l .out ≡ output (l ∷ [])
@@ -260,7 +262,7 @@ opening-whole (b ∷ bs) l f = by (eqb b 10) refl (opening-whole bs)
         ∙ more (l ++ (b ∷ [])) (free-snoc l b f n)
         ∙ ap (λ (k : List ℕ). output (linesOf k)) (append-assoc l (b ∷ []) bs)
 
--- "The program `frames` reads standard input": for every cutting of the input into chunks
-pub any-cutting : (cs : List (List ℕ)) → fed (opening []) cs .out ≡ frames (joined cs)
+-- the whole input
+pub whole-frames : (i : List ℕ) → whole (opening []) i .out ≡ frames i
 unfolding frames
-any-cutting cs = ap (λ (t : Turn). t .out) (any-cuts (opening []) cs) ∙ opening-whole (joined cs) [] free-none
+whole-frames i = opening-whole i [] free-none

@@ -1,9 +1,10 @@
 -- What the functions of the stream promise, by name.
 -- Assumes nothing.
-use Prim.Native.Nat.{ℕ, _+_, _-_, _*_, _≤_, _<_}
+use Prim.Native.Nat.{ℕ, suc, _+_, _-_, _*_, _≤_, _<_}
 use mathlib.Core.Bool.{Bool, true, false, cond}
 use mathlib.Core.Path.{_≡_}
 use mathlib.Core.List.{List, [], _∷_}
+use lib.Dec.{eqb}
 use lib.ListN.{length, take, drop, getD}
 use Rattle.model.specs.declared.Settings.{Settings}
 use Rattle.model.specs.State.{State}
@@ -12,7 +13,8 @@ use Rattle.model.specs.Machine.{requestOf}
 use Rattle.model.specs.Calls.{called}
 use Rattle.model.specs.Lines.{isFrame, lineWords, lineOutcome}
 use Rattle.book.specs.Good.{Good, answered}
-use Rattle.lines.specs.Stream.{Point, opening, later, over, Turn, behind, run}
+use Rattle.lines.specs.Digits.{frameDigits}
+use Rattle.lines.specs.Stream.{heldMost, Point, opening, later, over, Turn, behind, run}
 use Rattle.lines.specs.declared.line.Next.{Next}
 use Rattle.lines.specs.declared.line.Next.the-variants.{Frame, Other, Partial}
 use Rattle.lines.specs.declared.stream.Ended.{Ended}
@@ -22,15 +24,30 @@ use Rattle.lines.specs.declared.stream.Phase.{Phase}
 use Rattle.lines.specs.declared.stream.Phase.the-variants.{Opening, Later, Over}
 use Rattle.lines.specs.declared.stream.Stream.{Stream}
 
+-- no byte 10, and how many there are
+unfoldable pub Free : List ℕ → Type 0
+Free [] = Unit {0}
+Free (b ∷ bs) = (b ≡ 10 → ⊥) × Free bs
+
+unfoldable pub ends : List ℕ → ℕ
+ends [] = 0
+ends (b ∷ bs) = cond (eqb b 10) (suc (ends bs)) (ends bs)
+
 -- the bytes that are held
 abbrev pub heldOf : Held → List ℕ
 heldOf h = take (h .len) (h .bytes)
 
--- h holds the bytes l
+-- h holds the bytes l, and byte 10 has room behind them
 pub record Holds (h : Held) (l : List ℕ) : Type 0 where
-  pub long : length (h .bytes) ≡ 201
-  pub few : h .len ≤ 201
+  pub long : length (h .bytes) ≡ heldMost + 1
+  pub few : h .len ≤ heldMost
+  pub free : Free l
   pub same : heldOf h ≡ l
+
+abbrev pub isLater : Phase → Bool
+isLater Opening = false
+isLater Later = true
+isLater Over = false
 
 -- where the stream is, by its fields and the book's words
 abbrev pub pointAt : Phase → State → List ℕ → Point
@@ -41,9 +58,10 @@ pointAt Over x l = over
 abbrev pub pointOf : Stream → List ℕ → Point
 pointOf s b = pointAt (s .phase) (stateOf (take (s .size) b)) (heldOf (s .held))
 
--- behind a good settings line the book is a good one
+-- behind a good settings line the book is a good one; before it and behind a bad one there is none
 pub record Sized (p : Phase) (size : ℕ) (b : List ℕ) : Type 0 where
   pub fits : size ≤ length b
+  pub none : isLater p ≡ false → size ≡ 0
   pub good : p ≡ Later → Good (settingsOf (take size b)) (take size b)
 
 -- what a stream keeps
@@ -51,11 +69,15 @@ pub record Going (s : Stream) (b : List ℕ) : Type 0 where
   pub holds : Holds (s .held) (heldOf (s .held))
   pub sized : Sized (s .phase) (s .size) b
 
--- the turn t was taken, and at most `room` bytes are written
-pub record Moved (t : Turn) (s : Stream) (b out : List ℕ) (wrote room : ℕ) : Type 0 where
+-- The turn t was taken, from the book's words b₀ and the answers out₀, of which `from` bytes stood there before: `wrote` bytes stand there
+-- now, at most `room`. What stands behind the book's size and behind the answers is as it was.
+pub record Moved (t : Turn) (s : Stream) (b₀ b out₀ out : List ℕ) (from wrote room : ℕ) : Type 0 where
+  pub more : from ≤ wrote
   pub short : wrote ≤ room
   pub going : Going s b
   pub same : record { out = take wrote out; point = pointOf s b } ≡ t
+  pub book-past : drop (s .size) b ≡ drop (s .size) b₀
+  pub out-past : drop wrote out ≡ drop wrote out₀
 
 -- the stream before the first byte
 pub record Begun (s : Stream) : Type 0 where
@@ -69,22 +91,16 @@ endPoint e b = cond (e .more) (later (stateOf (take (e .size) b)) []) over
 
 pub record EndSized (e : Ended) (b : List ℕ) : Type 0 where
   pub fits : e .size ≤ length b
+  pub none : e .more ≡ false → e .size ≡ 0
   pub good : e .more ≡ true → Good (settingsOf (take (e .size) b)) (take (e .size) b)
 
-pub record EndedOf (t : Turn) (e : Ended) (b out : List ℕ) (room : ℕ) : Type 0 where
+-- the same of the end of a line
+pub record EndedOf (t : Turn) (e : Ended) (b₀ b out₀ out : List ℕ) (room : ℕ) : Type 0 where
   pub short : e .wrote ≤ room
   pub sized : EndSized e b
   pub same : record { out = take (e .wrote) out; point = endPoint e b } ≡ t
-
-abbrev pub isLater : Phase → Bool
-isLater Opening = false
-isLater Later = true
-isLater Over = false
-
--- no byte 10
-unfoldable pub Free : List ℕ → Type 0
-Free [] = Unit {0}
-Free (b ∷ bs) = (b ≡ 10 → ⊥) × Free bs
+  pub book-past : drop (e .size) b ≡ drop (e .size) b₀
+  pub out-past : drop (e .wrote) out ≡ drop (e .wrote) out₀
 
 -- the first line of l is its first n bytes, ended by byte 10
 pub record Leads (l : List ℕ) (n : ℕ) : Type 0 where
@@ -94,7 +110,7 @@ pub record Leads (l : List ℕ) (n : ℕ) : Type 0 where
 
 -- what stands at the front of l
 abbrev pub NextOf : List ℕ → Next → Type 0
-NextOf l (Frame r) = Leads l 56 × (isFrame (take 56 l) ≡ true) × (r ≡ requestOf (lineWords (take 56 l)))
+NextOf l (Frame r) = Leads l frameDigits × (isFrame (take frameDigits l) ≡ true) × (r ≡ requestOf (lineWords (take frameDigits l)))
 NextOf l (Other n) = Leads l n × (isFrame (take n l) ≡ false)
 NextOf l Partial = Free l
 
@@ -106,7 +122,9 @@ pub record TakenOf (l b₀ : List ℕ) (t : Taken) (b : List ℕ) : Type 0 where
 -- of the chunk c, `used` bytes were lines that are answered now, and no line ends in the rest
 pub record Told (s : Settings) (b₀ c out₀ : List ℕ) (at : ℕ) (b out : List ℕ) (used wrote : ℕ) : Type 0 where
   pub within : used ≤ length c
-  pub short : wrote ≤ at + 25 * used
+  pub more : at ≤ wrote
+  pub short : wrote ≤ at + 25 * ends c
   pub good : Good s b
+  pub past : drop wrote out ≡ drop wrote out₀
   pub free : Free (drop used c)
   pub same : behind (take wrote out) (run (later (stateOf b) []) (drop used c)) ≡ behind (take at out₀) (run (later (stateOf b₀) []) c)

@@ -1,6 +1,6 @@
 -- The program as a stream: where it is in its input, and what each byte writes.
 -- Assumes nothing.
-use Prim.Native.Nat.{ℕ}
+use Prim.Native.Nat.{ℕ, _+_, _*_}
 use mathlib.Core.Bool.{_&&_, cond}
 use mathlib.Core.List.{List, [], _∷_, _++_}
 use lib.Dec.{leb, eqb}
@@ -13,10 +13,17 @@ use Rattle.model.specs.Reading.{settingsOf}
 use Rattle.model.specs.Calls.{settingsGood}
 use Rattle.model.specs.Lines.{wholeWords, lineWords, answerLine, lineOutcome, programWords}
 
--- A line of more than 200 bytes is neither a frame nor settings, and one of 201 bytes isn't either: of a line that is not over, the
--- first 201 bytes say all.
+-- the most words of settings: nine limits and sixteen capacities
+abbrev pub settingsMost : ℕ
+settingsMost = 25
+
+-- A line of more bytes than settings can have is neither a frame nor settings, and no more is one that is cut behind its first byte too
+-- many: of a line that is not over, that many bytes say all.
+abbrev pub heldMost : ℕ
+heldMost = 8 * settingsMost + 1
+
 abbrev pub kept : List ℕ → List ℕ
-kept l = take 201 l
+kept l = take heldMost l
 
 -- in the settings line, of which these bytes were read; in a later line, with the machine's state; after a refused settings line
 pub data Point : Type 0 where
@@ -75,12 +82,3 @@ closed (opening l) = opened l
 closed (later x []) = silent (later x [])
 closed (later x (b ∷ l)) = told (lineOutcome x (b ∷ l))
 closed over = silent over
-
--- the input in chunks, and its end
-unfoldable pub fed : Point → List (List ℕ) → Turn
-fed p [] = closed p
-fed p (c ∷ cs) = behind (run p c .out) (fed (run p c .point) cs)
-
-unfoldable pub joined : List (List ℕ) → List ℕ
-joined [] = []
-joined (c ∷ cs) = c ++ joined cs

@@ -1,10 +1,11 @@
 // Lower-case hexadecimal: digits and words both ways.
+use crate::line::FRAME_DIGITS;
 ghost use mathlib.Core.Path.{_≡_};
 ghost use mathlib.Core.Bool.{true};
 ghost use Prim.Native.Nat.{_+_, _*_, _/_, _<_, _≤_};
 ghost use lib.ListN.{length, take, drop};
 ghost use Rattle.model.specs.Lines.{digit as digitByte, shown, wordDigits};
-ghost use Rattle.lines.specs.Digits.{isDigit, valueOf, digitsOnly, Values, halfOf, wordOf, Put};
+ghost use Rattle.lines.specs.Digits.{frameDigits, isDigit, valueOf, digitsOnly, Values, halfOf, wordOf, Put};
 
 // Whether a byte is one of the sixteen digits.
 pub fn is_digit(b: u8) -> bool
@@ -49,15 +50,15 @@ pub fn word(s: &[u8], at: usize) -> u32
     w
 }
 
-// The values of the 56 digits of a frame. The compiler takes many bytes at a time.
-pub fn values(s: &[u8]) -> [u8; 56]
+// The values of the digits of a frame. The compiler takes many bytes at a time.
+pub fn values(s: &[u8]) -> [u8; FRAME_DIGITS]
     requires { ⌜ digitsOnly (now s) ≡ true ⌝ }
-    requires { ⌜ length (now s) ≡ 56 ⌝ }
+    requires { ⌜ length (now s) ≡ frameDigits ⌝ }
     ensures { λ r. ⌜ Values (now (s .entry)) r ⌝ }
 {
-    let mut d = [0u8; 56];
+    let mut d = [0u8; FRAME_DIGITS];
     let mut i: usize = 0;
-    while i < 56 {
+    while i < FRAME_DIGITS {
         let b = s[i];
         d[i] = b % 16 + b / 64 * 9;
         i += 1;
@@ -72,16 +73,16 @@ fn wide(b: u8) -> u32
 }
 
 // The number of four values.
-fn half_of(d: &[u8; 56], at: usize) -> u32
-    requires { ⌜ at ≤ 52 ⌝ }
+fn half_of(d: &[u8; FRAME_DIGITS], at: usize) -> u32
+    requires { ⌜ at + 4 ≤ frameDigits ⌝ }
     ensures { λ r. ⌜ r ≡ halfOf (now (d .entry)) at ⌝ }
 {
     wide(d[at]) * 0x1000 + wide(d[at + 1]) * 0x100 + wide(d[at + 2]) * 0x10 + wide(d[at + 3])
 }
 
 // The word of eight values.
-pub fn word_of(d: &[u8; 56], at: usize) -> u32
-    requires { ⌜ at ≤ 48 ⌝ }
+pub fn word_of(d: &[u8; FRAME_DIGITS], at: usize) -> u32
+    requires { ⌜ at + 8 ≤ frameDigits ⌝ }
     ensures { λ r. ⌜ r ≡ wordOf (now (d .entry)) at ⌝ }
 {
     half_of(d, at) % 0x1_0000 * 0x1_0000 + half_of(d, at + 4) % 0x1_0000

@@ -11,7 +11,7 @@ ghost use Rattle.lines.specs.Laying.{LaidOf, LaidBy};
 const PROGRAM_WORDS: usize = 16384;
 
 // The most words that settings are: nine limits and sixteen capacities.
-const SETTINGS_WORDS: usize = 25;
+pub const SETTINGS_WORDS: usize = 25;
 
 // What a settings line gives: the length of the book that is laid, or the number of a refusal.
 pub enum Laid {
@@ -21,7 +21,7 @@ pub enum Laid {
 
 pub fn lay_words(book: &mut [u32], words: &[u32]) -> Laid
     requires { ⌜ 16384 ≤ length (now book) ⌝ }
-    ensures { λ r. ⌜ LaidOf (now (words .entry)) r (now (book .exit)) ⌝ }
+    ensures { λ r. ⌜ LaidOf (now (words .entry)) (now (book .entry)) r (now (book .exit)) ⌝ }
 {
     let size = book_len(words);
     if size == 0 {
@@ -36,7 +36,7 @@ pub fn lay_words(book: &mut [u32], words: &[u32]) -> Laid
 
 pub fn lay_line(book: &mut [u32], line: &[u8]) -> Laid
     requires { ⌜ 16384 ≤ length (now book) ⌝ }
-    ensures { λ r. ⌜ LaidBy (now (line .entry)) r (now (book .exit)) ⌝ }
+    ensures { λ r. ⌜ LaidBy (now (line .entry)) (now (book .entry)) r (now (book .exit)) ⌝ }
 {
     if !whole_words(line) {
         return Laid::Refused(24);
@@ -45,7 +45,7 @@ pub fn lay_line(book: &mut [u32], line: &[u8]) -> Laid
     if SETTINGS_WORDS < n {
         return Laid::Refused(24);
     }
-    let mut words = [0u32; 25];
+    let mut words = [0u32; SETTINGS_WORDS];
     line_words(line, &mut words);
     lay_words(book, &words[..n])
 }

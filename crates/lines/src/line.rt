@@ -5,17 +5,17 @@ ghost use Prim.Native.Nat.{_+_, _*_, _/_, _<_, _≤_};
 ghost use lib.ListN.{length, take};
 ghost use Rattle.model.specs.Machine.{answerWords, requestOf};
 ghost use Rattle.model.specs.Lines.{hexadecimal, wholeWords, lineWords, answerLine};
-ghost use Rattle.lines.specs.Digits.{digitsOnly, Put, LineEnd};
+ghost use Rattle.lines.specs.Digits.{frameDigits, digitsOnly, Put, LineEnd};
 ghost use Rattle.lines.specs.Post.{NextOf};
-ghost use Rattle.lines.specs.Frame.{framed, frameAhead};
+ghost use Rattle.lines.specs.Frame.{frameAhead};
 use model::Answer;
 use model::Request;
 
-// What a later line is: a frame with its request, or any other line.
-pub enum Framed {
-    Frame(Request),
-    Other,
-}
+// The digits of a frame line: seven words of eight.
+pub const FRAME_DIGITS: usize = 56;
+
+// The same with the byte 10 that ends it.
+pub const FRAME_LINE: usize = FRAME_DIGITS + 1;
 
 // The index of the first byte 10, or the length where there is none.
 pub fn line_end(s: &[u8]) -> usize
@@ -31,10 +31,10 @@ pub fn line_end(s: &[u8]) -> usize
     i
 }
 
-// The request of 56 digits.
+// The request of a frame line.
 pub fn request(line: &[u8]) -> Request
     requires { ⌜ digitsOnly (now line) ≡ true ⌝ }
-    requires { ⌜ length (now line) ≡ 56 ⌝ }
+    requires { ⌜ length (now line) ≡ frameDigits ⌝ }
     ensures { λ r. ⌜ r ≡ requestOf (lineWords (now (line .entry))) ⌝ }
 {
     let d = crate::hex::values(line);
@@ -49,18 +49,6 @@ pub fn request(line: &[u8]) -> Request
     }
 }
 
-pub fn frame(line: &[u8]) -> Framed
-    ensures { λ r. ⌜ r ≡ framed (now (line .entry)) ⌝ }
-{
-    if line.len() != 56 {
-        return Framed::Other;
-    }
-    if !crate::hex::digits_only(line) {
-        return Framed::Other;
-    }
-    Framed::Frame(request(line))
-}
-
 // What stands at the front of the input: a frame line, another line of some length, or a line that is not over.
 pub enum Next {
     Frame(Request),
@@ -68,17 +56,17 @@ pub enum Next {
     Partial,
 }
 
-// Whether the input begins with a frame line: 56 digits and byte 10.
+// Whether the input begins with a frame line: its digits and byte 10.
 pub fn frame_ahead(s: &[u8]) -> bool
     ensures { λ r. ⌜ r ≡ frameAhead (now (s .entry)) ⌝ }
 {
-    if s.len() <= 56 {
+    if s.len() <= FRAME_DIGITS {
         return false;
     }
-    if s[56] != 10 {
+    if s[FRAME_DIGITS] != 10 {
         return false;
     }
-    crate::hex::digits_only(&s[..56])
+    crate::hex::digits_only(&s[..FRAME_DIGITS])
 }
 
 // The search for a line's end is left to lines that are no frames.
@@ -86,7 +74,7 @@ pub fn look(s: &[u8]) -> Next
     ensures { λ r. ⌜ NextOf (now (s .entry)) r ⌝ }
 {
     if frame_ahead(s) {
-        return Next::Frame(request(&s[..56]));
+        return Next::Frame(request(&s[..FRAME_DIGITS]));
     }
     let n = line_end(s);
     if n == s.len() {

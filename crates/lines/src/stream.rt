@@ -1,9 +1,9 @@
 // The stream: a chunk of input in, answer lines out, and what is held of a line that the chunk's end cuts.
 use crate::lay::Laid;
+use crate::lay::SETTINGS_WORDS;
 use crate::lay::lay_line;
-use crate::line::Framed;
+use crate::line::FRAME_LINE;
 use crate::line::Next;
-use crate::line::frame;
 use crate::line::line_end;
 use crate::line::look;
 use crate::line::put_answer;
@@ -16,15 +16,20 @@ ghost use mathlib.Core.List.{[], _++_};
 ghost use Prim.Native.Nat.{_+_, _*_, _≤_, min};
 ghost use lib.ListN.{length, take};
 ghost use Rattle.model.specs.Reading.{settingsOf, stateOf};
-ghost use Rattle.model.specs.Calls.{called};
 ghost use Rattle.model.specs.Lines.{lineOutcome};
-ghost use Rattle.book.specs.Good.{Good, answered};
+ghost use Rattle.book.specs.Good.{Good};
 ghost use Rattle.lines.specs.Stream.{kept, behind, opened, told, ended, run, closed};
-ghost use Rattle.lines.specs.Post.{heldOf, Holds, pointAt, pointOf, Sized, Going, EndSized, endPoint, EndedOf, Moved, TakenOf, Told, Begun, isLater};
+ghost use Rattle.lines.specs.Post.{Free, ends, heldOf, Holds, pointAt, pointOf, Sized, Going, Begun, isLater};
+ghost use Rattle.lines.specs.Post.{EndSized, endPoint, EndedOf, Moved, TakenOf, Told};
 
-// The bytes of a line that is not over. No line of more than 200 bytes is good, so the first 201 say all.
+// The most bytes that are held of a line: one more than a good line can have, so that they say all. Byte 10 has room behind them.
+const HELD_MOST: usize = 8 * SETTINGS_WORDS + 1;
+
+const HELD_ROOM: usize = HELD_MOST + 1;
+
+// The bytes of a line that is not over.
 pub struct Held {
-    pub bytes: [u8; 201],
+    pub bytes: [u8; HELD_ROOM],
     pub len: usize,
 }
 
@@ -76,11 +81,12 @@ fn smaller(a: usize, b: usize) -> usize
 // A piece of a line behind what is held.
 fn hold(held: Held, piece: &[u8]) -> Held
     requires { ⌜ Holds held (heldOf held) ⌝ }
+    requires { ⌜ Free (now piece) ⌝ }
     ensures { λ r. ⌜ Holds r (kept (heldOf held ++ now (piece .entry))) ⌝ }
 {
     let mut next = held;
     let len = held.len;
-    let n = smaller(piece.len(), 201 - len);
+    let n = smaller(piece.len(), HELD_MOST - len);
     let mut i = 0;
     while i < n {
         next.bytes[len + i] = piece[i];
@@ -90,28 +96,14 @@ fn hold(held: Held, piece: &[u8]) -> Held
     next
 }
 
-// The answer of a later line, and the book after it.
-fn answer(book: &mut [u32], s: Settings, line: &[u8]) -> Answer
-    requires { ⌜ Good s (now book) ⌝ }
-    ensures { λ a. ⌜ answered a (now (book .exit)) ≡ called (lineOutcome (stateOf (now (book .entry))) (now (line .entry))) ⌝ }
-{
-    match frame(line) {
-        Framed::Frame(r) => step(book, s, r),
-        Framed::Other => Answer::Refused {
-            number: 23,
-            place: 0,
-        },
-    }
-}
-
 // The answer of the first line of a chunk, and the book after it.
-fn answer_next(book: &mut [u32], s: Settings, chunk: &[u8]) -> Taken
+fn take_line(book: &mut [u32], s: Settings, chunk: &[u8]) -> Taken
     requires { ⌜ Good s (now book) ⌝ }
     ensures { λ r. ⌜ TakenOf (now (chunk .entry)) (now (book .entry)) r (now (book .exit)) ⌝ }
 {
     match look(chunk) {
         Next::Frame(r) => Taken {
-            used: 57,
+            used: FRAME_LINE,
             answer: step(book, s, r),
         },
         Next::Other(n) => Taken {
@@ -128,17 +120,20 @@ fn answer_next(book: &mut [u32], s: Settings, chunk: &[u8]) -> Taken
     }
 }
 
-// The answers of all whole lines of a chunk that begins with a line.
-fn answers(book: &mut [u32], s: Settings, chunk: &[u8], out: &mut [u8], from: usize) -> Progress
-    requires { ⌜ Good s (now book) ⌝ }
-    requires { ⌜ from + 25 * length (now chunk) ≤ length (now out) ⌝ }
-    ensures { λ r. ⌜ Told s (now (book .entry)) (now (chunk .entry)) (now (out .entry)) from (now (book .exit)) (now (out .exit)) (r .used) (r .wrote) ⌝ }
+// The answers of all whole lines of a chunk that begins with a line. Every later line comes here, so that there is one loop into which
+// the compiler can put the step.
+fn answer_lines(book: &mut [u32], chunk: &[u8], out: &mut [u8], from: usize) -> Progress
+    requires { ⌜ Good (settingsOf (now book)) (now book) ⌝ }
+    requires { ⌜ from + 25 * ends (now chunk) ≤ length (now out) ⌝ }
+    ensures { λ r. ⌜ Told (settingsOf (now (book .entry))) (now (book .entry)) (now (chunk .entry))
+        (now (out .entry)) from (now (book .exit)) (now (out .exit)) (r .used) (r .wrote) ⌝ }
 {
+    let s = settings(book);
     let mut at = from;
     let mut i = 0;
     while i < chunk.len() {
         let rest = &chunk[i..];
-        let t = answer_next(book, s, rest);
+        let t = take_line(book, s, rest);
         let used = t.used;
         if used == 0 {
             return Progress { used: i, wrote: at };
@@ -151,86 +146,48 @@ fn answers(book: &mut [u32], s: Settings, chunk: &[u8], out: &mut [u8], from: us
     Progress { used: i, wrote: at }
 }
 
-// The same under the settings that the book begins with.
-fn answer_lines(book: &mut [u32], chunk: &[u8], out: &mut [u8], from: usize) -> Progress
-    requires { ⌜ Good (settingsOf (now book)) (now book) ⌝ }
-    requires { ⌜ from + 25 * length (now chunk) ≤ length (now out) ⌝ }
-    ensures { λ r. ⌜ Told (settingsOf (now (book .entry))) (now (book .entry)) (now (chunk .entry)) (now (out .entry)) from (now (book .exit)) (now (out .exit)) (r .used) (r .wrote) ⌝ }
-{
-    let s = settings(book);
-    answers(book, s, chunk, out, from)
-}
-
-fn answer_line(book: &mut [u32], line: &[u8]) -> Answer
-    requires { ⌜ Good (settingsOf (now book)) (now book) ⌝ }
-    ensures { λ a. ⌜ answered a (now (book .exit)) ≡ called (lineOutcome (stateOf (now (book .entry))) (now (line .entry))) ⌝ }
-{
-    let s = settings(book);
-    answer(book, s, line)
-}
-
-// The end of a later line.
-fn respond(book: &mut [u32], size: usize, line: &[u8], out: &mut [u8], at: usize) -> Ended
+// The end of a later line that is held: it is answered as in a chunk, with byte 10 behind it.
+fn end_later(book: &mut [u32], size: usize, held: Held, out: &mut [u8]) -> Ended
     requires { ⌜ size ≤ length (now book) ⌝ }
     requires { ⌜ Good (settingsOf (take size (now book))) (take size (now book)) ⌝ }
-    requires { ⌜ at + 25 ≤ length (now out) ⌝ }
-    ensures { λ r. ⌜ EndedOf (behind (take at (now (out .entry))) (told (lineOutcome (stateOf (take size (now (book .entry)))) (now (line .entry))))) r (now (book .exit)) (now (out .exit)) (at + 25) ⌝ }
+    requires { ⌜ Holds held (heldOf held) ⌝ }
+    requires { ⌜ 25 ≤ length (now out) ⌝ }
+    ensures { λ r. ⌜ EndedOf (told (lineOutcome (stateOf (take size (now (book .entry)))) (heldOf held)))
+        r (now (book .entry)) (now (book .exit)) (now (out .entry)) (now (out .exit)) 25 ⌝ }
 {
-    let a = answer_line(&mut book[..size], line);
-    put_answer(out, at, a);
+    let mut bytes = held.bytes;
+    let len = held.len;
+    bytes[len] = 10;
+    let end = len + 1;
+    let p = answer_lines(&mut book[..size], &bytes[..end], out, 0);
     Ended {
         more: true,
         size,
-        wrote: at + 25,
+        wrote: p.wrote,
     }
 }
 
 // The end of the settings line.
-fn settle(book: &mut [u32], line: &[u8], out: &mut [u8], at: usize) -> Ended
+fn settle(book: &mut [u32], line: &[u8], out: &mut [u8]) -> Ended
     requires { ⌜ 16384 ≤ length (now book) ⌝ }
-    requires { ⌜ at + 25 ≤ length (now out) ⌝ }
-    ensures { λ r. ⌜ EndedOf (behind (take at (now (out .entry))) (opened (now (line .entry)))) r (now (book .exit)) (now (out .exit)) (at + 25) ⌝ }
+    requires { ⌜ 25 ≤ length (now out) ⌝ }
+    ensures { λ r. ⌜ EndedOf (opened (now (line .entry))) r (now (book .entry)) (now (book .exit)) (now (out .entry)) (now (out .exit)) 25 ⌝ }
 {
     match lay_line(book, line) {
         Laid::Book(size) => Ended {
             more: true,
             size,
-            wrote: at,
+            wrote: 0,
         },
         Laid::Refused(number) => {
-            put_answer(out, at, Answer::Refused { number, place: 0 });
+            put_answer(out, 0, Answer::Refused { number, place: 0 });
             // nothing more is read
             Ended {
                 more: false,
                 size: 0,
-                wrote: at + 25,
+                wrote: 25,
             }
         }
-    }
-}
-
-// The end of any line.
-fn end_line(
-    book: &mut [u32],
-    phase: Phase,
-    size: usize,
-    line: &[u8],
-    out: &mut [u8],
-    at: usize,
-) -> Ended
-    requires { ⌜ 16384 ≤ length (now book) ⌝ }
-    requires { ⌜ Sized phase size (now book) ⌝ }
-    requires { ⌜ at + 25 ≤ length (now out) ⌝ }
-    ensures { λ r. ⌜ EndedOf (behind (take at (now (out .entry))) (ended (pointAt phase (stateOf (take size (now (book .entry)))) (now (line .entry))))) r (now (book .exit)) (now (out .exit)) (at + 25) ⌝ }
-{
-    match phase {
-        Phase::Opening => settle(book, line, out, at),
-        Phase::Later => respond(book, size, line, out, at),
-        Phase::Over => Ended {
-            more: false,
-            size: 0,
-            wrote: at,
-        },
     }
 }
 
@@ -238,7 +195,7 @@ fn nothing() -> Held
     ensures { λ r. ⌜ Holds r [] ⌝ }
 {
     Held {
-        bytes: [0; 201],
+        bytes: [0; HELD_ROOM],
         len: 0,
     }
 }
@@ -247,7 +204,9 @@ fn nothing() -> Held
 fn go_on(book: &mut [u32], e: Ended, chunk: &[u8], out: &mut [u8]) -> Fed
     requires { ⌜ EndSized e (now book) ⌝ }
     requires { ⌜ e .wrote + 25 * length (now chunk) ≤ length (now out) ⌝ }
-    ensures { λ r. ⌜ Moved (behind (take (e .wrote) (now (out .entry))) (run (endPoint e (now (book .entry))) (now (chunk .entry)))) (r .stream) (now (book .exit)) (now (out .exit)) (r .wrote) (e .wrote + 25 * length (now (chunk .entry))) ⌝ }
+    ensures { λ r. ⌜ Moved (behind (take (e .wrote) (now (out .entry))) (run (endPoint e (now (book .entry))) (now (chunk .entry))))
+        (r .stream) (now (book .entry)) (now (book .exit)) (now (out .entry)) (now (out .exit))
+        (e .wrote) (r .wrote) (e .wrote + 25 * length (now (chunk .entry))) × (r .stream .size ≡ e .size) ⌝ }
 {
     let wrote = e.wrote;
     if !e.more {
@@ -278,7 +237,8 @@ pub fn feed(book: &mut [u32], stream: Stream, chunk: &[u8], out: &mut [u8]) -> F
     requires { ⌜ 16384 ≤ length (now book) ⌝ }
     requires { ⌜ Going stream (now book) ⌝ }
     requires { ⌜ 25 * length (now chunk) ≤ length (now out) ⌝ }
-    ensures { λ r. ⌜ Moved (run (pointOf stream (now (book .entry))) (now (chunk .entry))) (r .stream) (now (book .exit)) (now (out .exit)) (r .wrote) (25 * length (now (chunk .entry))) ⌝ }
+    ensures { λ r. ⌜ Moved (run (pointOf stream (now (book .entry))) (now (chunk .entry)))
+        (r .stream) (now (book .entry)) (now (book .exit)) (now (out .entry)) (now (out .exit)) 0 (r .wrote) (25 * length (now (chunk .entry))) ⌝ }
 {
     let before = stream.held;
     let phase = stream.phase;
@@ -302,11 +262,22 @@ fn end_held(book: &mut [u32], phase: Phase, size: usize, held: Held, out: &mut [
     requires { ⌜ Sized phase size (now book) ⌝ }
     requires { ⌜ Holds held (heldOf held) ⌝ }
     requires { ⌜ 25 ≤ length (now out) ⌝ }
-    ensures { λ r. ⌜ EndedOf (ended (pointAt phase (stateOf (take size (now (book .entry)))) (heldOf held))) r (now (book .exit)) (now (out .exit)) 25 ⌝ }
+    ensures { λ r. ⌜ EndedOf (ended (pointAt phase (stateOf (take size (now (book .entry)))) (heldOf held)))
+        r (now (book .entry)) (now (book .exit)) (now (out .entry)) (now (out .exit)) 25 ⌝ }
 {
-    let bytes = held.bytes;
-    let len = held.len;
-    end_line(book, phase, size, &bytes[..len], out, 0)
+    match phase {
+        Phase::Opening => {
+            let bytes = held.bytes;
+            let len = held.len;
+            settle(book, &bytes[..len], out)
+        }
+        Phase::Later => end_later(book, size, held, out),
+        Phase::Over => Ended {
+            more: false,
+            size: 0,
+            wrote: 0,
+        },
+    }
 }
 
 // The stream before the first byte.
@@ -335,7 +306,8 @@ pub fn close(book: &mut [u32], stream: Stream, out: &mut [u8]) -> Ended
     requires { ⌜ 16384 ≤ length (now book) ⌝ }
     requires { ⌜ Going stream (now book) ⌝ }
     requires { ⌜ 25 ≤ length (now out) ⌝ }
-    ensures { λ r. ⌜ EndedOf (closed (pointOf stream (now (book .entry)))) r (now (book .exit)) (now (out .exit)) 25 ⌝ }
+    ensures { λ r. ⌜ EndedOf (closed (pointOf stream (now (book .entry))))
+        r (now (book .entry)) (now (book .exit)) (now (out .entry)) (now (out .exit)) 25 ⌝ }
 {
     let held = stream.held;
     let phase = stream.phase;

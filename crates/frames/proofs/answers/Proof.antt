@@ -1,4 +1,4 @@
--- `answers` meets its contract: the length is stated over a variable and taken at the number.
+-- `answers`: the length is stated over a variable and taken at the number.
 -- Assumes nothing.
 use Prim.Native.Nat.{ℕ}
 use mathlib.Core.Path.{_≡_, sym}

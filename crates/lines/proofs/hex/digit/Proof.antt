@@ -1,4 +1,4 @@
--- `hex::digit` meets its contract: by the two ranges of digits.
+-- `hex::digit`: by the two ranges of digits.
 -- Assumes nothing.
 use borrow.Author.Tests.{le-leb, lt-leb}
 use borrow.Author.Needs.{needs}

@@ -1,4 +1,4 @@
--- `hex::digit_value` meets its contract: by the two ranges of digits.
+-- `hex::digit_value`: by the two ranges of digits.
 -- Assumes nothing.
 use Rattle.lines.proofs.Hexes.{value-is}
 use borrow.Author.Needs.{needs}

@@ -1,4 +1,4 @@
--- `hex::digits_only` meets its contract: the bytes before i are told.
+-- `hex::digits_only`: the bytes before i are told.
 -- Assumes nothing.
 use mathlib.Core.Bool.{_&&_}
 use native.Mathlib.Omega.{arith}

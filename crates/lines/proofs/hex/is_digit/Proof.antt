@@ -1,4 +1,4 @@
--- `hex::is_digit` meets its contract: by the two ranges of digits.
+-- `hex::is_digit`: by the two ranges of digits.
 -- Assumes nothing.
 use Rattle.model.specs.Bounded.{within}
 use Prim.Native.Nat.{_-_}

@@ -1,4 +1,4 @@
--- `hex::put` meets its contract: the bytes before i are put.
+-- `hex::put`: the bytes before i are put.
 -- Assumes nothing.
 use native.Mathlib.Omega.{arith}
 use borrow.Author.Needs.{needs}
@@ -34,7 +34,9 @@ loop-less : tie.Need-loop-less Inv-loop μ-loop
 loop-less c = search needs
 
 loop-again : tie.Need-loop-again Inv-loop μ-loop
-loop-again c = (search needs, put-more (c .before .before .before .args .bytes .now) (c .before .before .loop .i) (omega arith) (omega arith) (c .before .before .loop .inv .1))
+loop-again c =
+    let d = c .before .before .before in
+    (search needs, put-more (d .args .bytes .now) (c .before .before .loop .i) (omega arith) (omega arith) (c .before .before .loop .inv .1))
 
 same-length : tie.Need-same-length Inv-loop μ-loop
 same-length c = search needs

@@ -1,4 +1,4 @@
--- `hex::put_word` meets its contract: the word's eight digits are put.
+-- `hex::put_word`: the word's eight digits are put.
 -- Assumes nothing.
 use borrow.Author.Needs.{needs}
 use Rattle.lines.proofs.hex.put_word.Statement.{statement}

@@ -1,20 +1,20 @@
--- `hex::values` meets its contract: the values before i are those of the digits.
+-- `hex::values`: the values before i are those of the digits.
 -- Assumes nothing.
 use Prim.Native.Nat.{ℕ, _≤_, _<_, _-_}
 use mathlib.Core.Path.{_≡_, refl}
 use native.Mathlib.Omega.{arith}
 use lib.ListN.{length, getD, length-set}
-use Rattle.lines.specs.Digits.{valueOf}
+use Rattle.lines.specs.Digits.{frameDigits, valueOf}
 use Rattle.lines.proofs.Hexes.{value-is, digit-at, values-more}
 use borrow.Author.Needs.{needs}
 use Rattle.lines.proofs.hex.values.Statement.{statement}
 use Rattle.lines.proofs.hex.values.Tie as tie
 
 abbrev Inv-loop : tie.InvT-loop
-Inv-loop s d₀ i₀ d i = (i ≤ 56) × (length d ≡ 56) × ((k : ℕ) → k < i → getD d k 0 ≡ valueOf (getD s k 0))
+Inv-loop s d₀ i₀ d i = (i ≤ frameDigits) × (length d ≡ frameDigits) × ((k : ℕ) → k < i → getD d k 0 ≡ valueOf (getD s k 0))
 
 abbrev μ-loop : tie.MeasureT-loop
-μ-loop s d₀ i₀ d i = 56 - i
+μ-loop s d₀ i₀ d i = frameDigits - i
 
 loop-holds : tie.Need-loop-holds Inv-loop μ-loop
 loop-holds c = (omega arith, refl, λ k h. absurd (omega arith))
@@ -43,7 +43,8 @@ loop-again c =
     let l = c .before .before .loop in (
       omega arith,
       simp length-set (l .inv .1),
-      values-more s (l .d) (l .i) _ (omega arith) (l .inv .2) (value-is (getD s (l .i) 0) (digit-at s (l .i) (c .before .before .before .pre .0) (omega arith)) .0),
+      values-more s (l .d) (l .i) _ (omega arith) (l .inv .2)
+          (value-is (getD s (l .i) 0) (digit-at s (l .i) (c .before .before .before .pre .0) (omega arith)) .0),
     )
 
 returns : tie.Need-returns Inv-loop μ-loop

@@ -1,4 +1,4 @@
--- `hex::word` meets its contract: the digits before i make the number so far.
+-- `hex::word`: the digits before i make the number so far.
 -- Assumes nothing.
 use native.Mathlib.Nat.{pow-suc, pow-le-pow-right, add-zero}
 use native.Mathlib.Numerals.{add-one}
@@ -42,7 +42,8 @@ in-digit : (c : tie.After-digit-value Inv-loop μ-loop) → c .digit-value .resu
 in-digit c =
     let a = c .before .before .before .before .before .args in
     let i = c .before .before .before .loop .i in
-    let v = value-is (getD (a .s .now) (a .at + i) 0) (digit-at (a .s .now) (a .at + i) (c .before .before .before .before .before .pre .0) (omega arith)) in
+    let v = value-is (getD (a .s .now) (a .at + i) 0)
+    (digit-at (a .s .now) (a .at + i) (c .before .before .before .before .before .pre .0) (omega arith)) in
     let e : c .digit-value .result ≡ valueOf (getD (a .s .now) (a .at + i) 0) = c .digit-value .ensures in
     omega arith
 

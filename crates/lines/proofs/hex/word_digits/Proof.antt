@@ -1,4 +1,4 @@
--- `hex::word_digits` meets its contract: eight digits, the highest first.
+-- `hex::word_digits`: eight digits, the highest first.
 -- Assumes nothing.
 use mathlib.Core.Path.{refl, sym, ap, ap₂, _∙_}
 use mathlib.Core.List.{_∷_}
@@ -42,7 +42,8 @@ returns c =
     (ap₂ _∷_ (c .before .before .before .digit5 .ensures)
     (ap₂ _∷_ (c .before .before .digit6 .ensures)
     (ap₂ _∷_ (c .before .digit7 .ensures)
-    (ap₂ _∷_ (c .digit8 .ensures ∙ ap (λ (x : ℕ). digit (x % 16)) (sym (div-one (c .before .before .before .before .before .before .before .before .args .w)))) refl)))))))
+    (ap₂ _∷_ (c .digit8 .ensures
+    ∙ ap (λ (x : ℕ). digit (x % 16)) (sym (div-one (c .before .before .before .before .before .before .before .before .args .w)))) refl)))))))
 
 pub word-digits-spec : {M : Type 1} → statement M
 word-digits-spec =

@@ -1,4 +1,4 @@
--- `hex::word_of` meets its contract: two halves of four values make the word.
+-- `hex::word_of`: two halves of four values make the word.
 -- Assumes nothing.
 use Prim.Native.Nat.{ℕ, _+_, _*_, _%_}
 use mathlib.Core.Path.{ap₂}

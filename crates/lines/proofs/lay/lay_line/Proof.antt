@@ -1,4 +1,4 @@
--- `lay::lay_line` meets its contract: the settings' words are read, and the book is laid or refused.
+-- `lay::lay_line`: the settings' words are read, and the book is laid or refused.
 -- Assumes nothing.
 use Rattle.model.proofs.Search.{and-left}
 use mathlib.Core.Path.{sym, _∙_}
@@ -22,7 +22,9 @@ slice-aggregate-line-words : tie.Need-slice-aggregate-line-words
 slice-aggregate-line-words c = search needs
 
 line-words-requires : tie.Need-line-words-requires
-line-words-requires c κs = (and-left _ _ (sym (c .before .before .before .whole-words .ensures) ∙ not-false _ (c .before .before .if1 .left)), search needs)
+line-words-requires c κs =
+    let d = c .before .before .before in
+    (and-left _ _ (sym (d .whole-words .ensures) ∙ not-false _ (c .before .before .if1 .left)), search needs)
 
 array-share-prefix-words : tie.Need-array-share-prefix-words
 array-share-prefix-words c = search needs
@@ -38,7 +40,9 @@ same-length c = search needs
 
 returns-3 : tie.Need-returns-3
 returns-3 c =
-    by-words _ (sym (c .before .before .before .before .before .before .before .before .before .before .whole-words .ensures) ∙ not-false _ (c .before .before .before .before .before .before .before .before .before .if1 .left))
+    by-words _
+    (sym (c .before .before .before .before .before .before .before .before .before .before .whole-words .ensures)
+    ∙ not-false _ (c .before .before .before .before .before .before .before .before .before .if1 .left))
     (rw (c .before .before .before .before .before .before .line-words .ensures) at (c .before .before .lay-words .ensures))
 
 pub lay-line-spec : {M : Type 1} → statement M

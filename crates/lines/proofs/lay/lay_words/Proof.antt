@@ -1,4 +1,4 @@
--- `lay::lay_words` meets its contract: question 24, then 25, then a fresh book.
+-- `lay::lay_words`: question 24, then 25, then a fresh book.
 -- Assumes nothing.
 use mathlib.Core.Path.{sym}
 use native.Mathlib.Omega.{arith}
@@ -21,7 +21,9 @@ slice-relend-prefix-lay : tie.Need-slice-relend-prefix-lay
 slice-relend-prefix-lay c = search needs
 
 slice-aggregate-lay : tie.Need-slice-aggregate-lay
-slice-aggregate-lay c = sym (length-take-le (c .before .before .before .book-len .result) (c .before .before .before .before .before .before .args .book .now) (omega arith))
+slice-aggregate-lay c =
+    let d = c .before .before .before in
+    sym (length-take-le (d .book-len .result) (d .before .before .before .args .book .now) (omega arith))
 
 lay-requires : tie.Need-lay-requires
 lay-requires c κs = search needs
@@ -30,7 +32,10 @@ same-length : tie.Need-same-length
 same-length c = search needs
 
 returns-3 : tie.Need-returns-3
-returns-3 c = laid-good _ _ (c .before .before .before .before .before .before .book-len .ensures) (c .before .before .before .before .before .if1 .left) (c .before .before .before .before .if2 .left) (c .before .before .before .before .before .before .before .before .before .pre) (c .before .before .lay .ensures) (c .before .before .lay .kept .1 .0)
+returns-3 c =
+    let d = c .before .before .before .before in
+    laid-good _ _ (d .before .before .book-len .ensures) (d .before .if1 .left) (d .if2 .left) (d .before .before .before .before .before .pre)
+    (c .before .before .lay .ensures) (c .before .before .lay .kept .1 .0)
 
 pub lay-words-spec : {M : Type 1} → statement M
 lay-words-spec =

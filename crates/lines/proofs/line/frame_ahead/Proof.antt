@@ -1,8 +1,9 @@
--- `line::frame_ahead` meets its contract: 56 digits and byte 10 stand in front.
+-- `line::frame_ahead`: the digits of a frame and byte 10 stand in front.
 -- Assumes nothing.
 use mathlib.Core.Path.{sym, _∙_}
 use native.Mathlib.Omega.{arith}
 use lib.Seq.{length-take-le}
+use Rattle.lines.specs.Digits.{frameDigits}
 use Rattle.lines.proofs.Looking.{ahead-by, ahead-short, ahead-other}
 use borrow.Author.Needs.{needs}
 use Rattle.lines.proofs.line.frame_ahead.Statement.{statement}
@@ -18,7 +19,7 @@ returns-2 : tie.Need-returns-2
 returns-2 c = ahead-other _ (search needs) (c .if2 .taken)
 
 slice-aggregate-digits-only : tie.Need-slice-aggregate-digits-only
-slice-aggregate-digits-only c = sym (length-take-le 56 (c .before .before .before .before .before .args .s .now) (omega arith))
+slice-aggregate-digits-only c = sym (length-take-le frameDigits (c .before .before .before .before .before .args .s .now) (omega arith))
 
 digits-only-requires : tie.Need-digits-only-requires
 digits-only-requires c κs = search needs

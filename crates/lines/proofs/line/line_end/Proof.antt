@@ -1,4 +1,4 @@
--- `line::line_end` meets its contract: no byte before i is 10.
+-- `line::line_end`: no byte before i is 10.
 -- Assumes nothing.
 use borrow.Author.Needs.{needs}
 use Prim.Native.Nat.{ℕ, _≤_, _<_, _-_}

@@ -1,4 +1,4 @@
--- `line::line_words` meets its contract: the words before k are read.
+-- `line::line_words`: the words before k are read.
 -- Assumes nothing.
 use native.Mathlib.Omega.{arith}
 use lib.Seq.{take-all}
@@ -57,7 +57,9 @@ returns : tie.Need-returns Inv-loop μ-loop
 returns c =
     let l = c .before .before .before .before .args .line .now in
     let e : c .before .loop .k ≡ length l / 8 = omega arith in
-    ap (λ (k : ℕ). take k (c .before .loop .words)) (sym e) ∙ c .before .loop .inv .2 ∙ take-all (c .before .loop .k) (lineWords l) (omega (arith, words-length l))
+    ap (λ (k : ℕ). take k (c .before .loop .words)) (sym e)
+    ∙ c .before .loop .inv .2
+    ∙ take-all (c .before .loop .k) (lineWords l) (omega (arith, words-length l))
 
 pub line-words-spec : {M : Type 1} → statement M
 line-words-spec =

@@ -1,4 +1,4 @@
--- `line::look` meets its contract: a frame in front, or else the line's end is searched for.
+-- `line::look`: a frame in front, or else the line's end is searched for.
 -- Assumes nothing.
 use mathlib.Core.Path.{_≡_, sym, _∙_}
 use mathlib.Core.Bool.{true}
@@ -30,7 +30,10 @@ returns-2 : tie.Need-returns-2
 returns-2 c = all-free _ _ (c .before .line-end .ensures) (c .if2 .taken)
 
 returns-3 : tie.Need-returns-3
-returns-3 c = let e = end-leads _ _ (c .before .line-end .ensures) (c .if2 .left) in (e, not-ahead _ _ (sym (c .before .before .before .frame-ahead .ensures) ∙ c .before .before .if1 .left) e)
+returns-3 c =
+    let d = c .before .before .before in
+    let e = end-leads _ _ (c .before .line-end .ensures) (c .if2 .left) in
+    (e, not-ahead _ _ (sym (d .frame-ahead .ensures) ∙ c .before .before .if1 .left) e)
 
 pub look-spec : {M : Type 1} → statement M
 look-spec =

@@ -1,4 +1,4 @@
--- `line::put_answer` meets its contract: three words and byte 10.
+-- `line::put_answer`: three words and byte 10.
 -- Assumes nothing.
 use Rattle.lines.proofs.Puts.{join-at}
 use Rattle.lines.proofs.Framing.{words-line}
@@ -22,7 +22,9 @@ same-length : tie.Need-same-length
 same-length c = search needs
 
 returns : tie.Need-returns
-returns c = join-at (words-line (c .before .before .before .before .before .before .before .before .before .before .args .a)) (c .before .before .before .before .before .before .before .put-words .ensures) (c .before .before .put .ensures)
+returns c =
+    let d = c .before .before .before .before .before .before .before in
+    join-at (words-line (d .before .before .before .args .a)) (d .put-words .ensures) (c .before .before .put .ensures)
 
 pub put-answer-spec : {M : Type 1} → statement M
 put-answer-spec =

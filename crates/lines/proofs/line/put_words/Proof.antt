@@ -1,4 +1,4 @@
--- `line::put_words` meets its contract: by the two cases of an answer.
+-- `line::put_words`: by the two cases of an answer.
 -- Assumes nothing.
 use Rattle.lines.proofs.Puts.{join, put-as}
 use Rattle.lines.proofs.Framing.{done-line, refused-line}
@@ -46,13 +46,19 @@ same-length : tie.Need-same-length
 same-length c = search needs
 
 returns : tie.Need-returns
-returns c = put-as (done-line (c .before .before .before .before .before .before .before .before .before .before .a .given .1)) (join (c .before .before .before .before .before .before .put .ensures) (c .before .before .put-word .ensures))
+returns c =
+    let d = c .before .before .before .before .before .before in
+    put-as (done-line (d .before .before .before .before .a .given .1)) (join (d .put .ensures) (c .before .before .put-word .ensures))
 
 same-length-2 : tie.Need-same-length-2
 same-length-2 c = search needs
 
 returns-2 : tie.Need-returns-2
-returns-2 c = put-as (refused-line (c .before .before .before .before .before .before .before .before .before .before .before .before .before .before .a2 .given .1)) (join (join (c .before .before .before .before .before .before .before .before .before .before .before .put-word2 .ensures) (c .before .before .before .before .before .before .before .put-word3 .ensures)) (c .before .before .put2 .ensures))
+returns-2 c =
+    let d = c .before .before .before .before .before .before .before .before .before .before .before in
+    let e = c .before .before .before .before .before .before .before in
+    put-as (refused-line (d .before .before .before .a2 .given .1))
+    (join (join (d .put-word2 .ensures) (e .put-word3 .ensures)) (c .before .before .put2 .ensures))
 
 pub put-words-spec : {M : Type 1} → statement M
 put-words-spec =

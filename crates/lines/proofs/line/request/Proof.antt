@@ -1,4 +1,4 @@
--- `line::request` meets its contract: the seven words of the line.
+-- `line::request`: the seven words of the line.
 -- Assumes nothing.
 use mathlib.Core.Path.{_∙_}
 use native.Mathlib.Omega.{arith}
@@ -35,7 +35,10 @@ word-of-requires-7 c κs = search needs
 returns : tie.Need-returns
 returns c =
     let d = c .before .before .before .before .before .before .before .before .before .before .before .before .before .before .before .before in
-    let w = word-values (d .args .line .now) (c .before .before .before .before .before .before .before .before .before .before .before .before .before .before .values .result) (d .pre .1) (d .pre .0) (c .before .before .before .before .before .before .before .before .before .before .before .before .before .before .values .ensures) in
+    let w = word-values (d .args .line .now)
+    (c .before .before .before .before .before .before .before .before .before .before .before .before .before .before .values .result) (d .pre .1)
+    (d .pre .0) (c .before .before .before .before .before .before .before .before .before .before .before .before .before .before .values .ensures)
+    in
     request-is (d .args .line .now) (d .pre .1)
     ((c .before .before .before .before .before .before .before .before .before .before .before .before .word-of .ensures) ∙ w 0 (omega arith))
     ((c .before .before .before .before .before .before .before .before .before .before .word-of2 .ensures) ∙ w 8 (omega arith))

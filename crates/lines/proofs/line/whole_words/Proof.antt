@@ -1,4 +1,4 @@
--- `line::whole_words` meets its contract: digits only, and eight to a word.
+-- `line::whole_words`: digits only, and eight to a word.
 -- Assumes nothing.
 use Prim.Native.Nat.{_%_}
 use mathlib.Core.Path.{ap}

@@ -1,4 +1,4 @@
--- `stream::close` meets its contract: a line that is not over ends with the input.
+-- `stream::close`: a line that is not over ends with the input.
 -- Assumes nothing.
 use Rattle.model.proofs.Search.{both}
 use Prim.Native.Nat.{_<_}
@@ -13,11 +13,14 @@ use borrow.Author.Needs.{needs}
 use Rattle.lines.proofs.stream.close.Statement.{statement}
 use Rattle.lines.proofs.stream.close.Tie as tie
 
-begun-line : (c : tie.After-slice-known4) → isLater (c .before .before .before .before .before .before .before .before .before .before .before .before .args .stream .phase) ≡ true → 0 < length (heldOf (c .before .before .before .before .before .before .before .before .before .before .before .before .args .stream .held))
+begun-line : (c : tie.After-slice-known4)
+    → isLater (c .before .before .before .before .before .before .before .before .before .before .before .before .args .stream .phase) ≡ true
+    → 0 < length (heldOf (c .before .before .before .before .before .before .before .before .before .before .before .before .args .stream .held))
 begun-line c h =
     let g = c .before .before .before .before .before .before .before .before .before .before .before .before .pre .1 .0 .holds in
     ⊎-elim
-    (λ w. held-some (c .before .before .before .before .before .before .before .before .before .before .before .before .args .stream .held) g (w .2 .left))
+    (λ w.
+    held-some (c .before .before .before .before .before .before .before .before .before .before .before .before .args .stream .held) g (w .2 .left))
     (λ w. both h (sym (c .before .before .before .before .before .before .before .before .is-later .ensures) ∙ w .left))
     (c .before .before .before .before .before .before .before .if1 .came)
 
@@ -25,7 +28,10 @@ is-later-requires : tie.Need-is-later-requires
 is-later-requires c κs = search needs
 
 returns : tie.Need-returns
-returns c = closed-silent _ _ (c .before .before .before .before .before .before .before .pre .1 .0) (sym (c .before .before .before .is-later .ensures) ∙ c .before .before .if1 .taken) (c .if2 .taken)
+returns c =
+    let d = c .before .before .before .before .before .before .before in
+    let e = c .before .before .before in
+    closed-silent _ _ (d .pre .1 .0) (sym (e .is-later .ensures) ∙ c .before .before .if1 .taken) (c .if2 .taken)
 
 end-held-requires : tie.Need-end-held-requires
 end-held-requires c κs = search needs
@@ -37,7 +43,13 @@ same-length-2 : tie.Need-same-length-2
 same-length-2 c = search needs
 
 returns-2 : tie.Need-returns-2
-returns-2 c = ended-as (ended-closed (c .before .before .before .before .before .before .before .before .before .before .before .before .args .stream .phase) (stateOf (take (c .before .before .before .before .before .before .before .before .before .before .before .before .args .stream .size) (c .before .before .before .before .before .before .before .before .before .before .before .before .args .book .now))) (heldOf (c .before .before .before .before .before .before .before .before .before .before .before .before .args .stream .held)) (begun-line c)) (c .before .before .before .before .end-held .ensures)
+returns-2 c =
+    let d = c .before .before .before .before .before .before .before .before .before .before .before .before in
+    let e = c .before .before .before .before in
+    ended-as
+    (ended-closed (d .args .stream .phase) (stateOf (take (d .args .stream .size) (d .args .book .now)))
+    (heldOf (d .args .stream .held)) (begun-line c))
+    (e .end-held .ensures)
 
 pub close-spec : {M : Type 1} → statement M
 close-spec =

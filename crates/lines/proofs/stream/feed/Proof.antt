@@ -1,11 +1,13 @@
--- `stream::feed` meets its contract: the held line first, then whole lines, and the rest is held.
+-- `stream::feed`: the held line first, then whole lines, and the rest is held.
 -- Assumes nothing.
 use Prim.Native.Nat.{_≤_}
 use lib.ListN.{length}
 use mathlib.Core.Path.{sym}
 use native.Mathlib.Omega.{arith}
 use lib.Seq.{length-take-le}
-use Rattle.lines.proofs.Streams.{holds-on, all-held, line-held}
+use Rattle.lines.proofs.Streams.{all-held, line-held}
+use Rattle.lines.proofs.Keeping.{holds-own}
+use Rattle.lines.proofs.Looking.{line-free}
 use borrow.Author.Needs.{needs}
 use Rattle.lines.proofs.stream.feed.Statement.{statement}
 use Rattle.lines.proofs.stream.feed.Tie as tie
@@ -14,19 +16,33 @@ line-end-requires : tie.Need-line-end-requires
 line-end-requires c κs = search needs
 
 slice-aggregate-hold : tie.Need-slice-aggregate-hold
-slice-aggregate-hold c = sym (length-take-le (c .before .line-end .result) (c .before .before .before .before .before .before .args .chunk .now) (c .before .line-end .ensures .within))
+slice-aggregate-hold c =
+    let d = c .before .before .before .before .before .before in
+    sym (length-take-le (c .before .line-end .result) (d .args .chunk .now) (c .before .line-end .ensures .within))
 
 hold-requires : tie.Need-hold-requires
-hold-requires c κs = search needs
+hold-requires c κs =
+    let d = c .before .before .before .before .before .before in
+    (d .pre .1 .0 .holds, line-free (d .args .chunk .now) (c .before .line-end .result) (c .before .line-end .ensures))
 
 returns : tie.Need-returns
-returns c = all-held (c .before .before .before .before .before .before .before .before .args .stream) (c .before .before .before .before .before .before .before .before .args .book .now) (c .before .before .before .before .before .before .before .before .args .chunk .now) (c .before .before .before .before .before .before .before .before .pre .1 .0) (c .before .before .before .line-end .ensures) (c .before .hold .ensures) (c .if1 .taken)
+returns c =
+    let d = c .before .before .before .before .before .before .before .before in
+    let e = c .before .before .before in
+    all-held (d .args .stream) (d .args .book .now) (d .args .chunk .now) (d .pre .1 .0) (e .line-end .ensures) (c .before .hold .ensures)
+    (c .if1 .taken)
 
 room : (c : tie.After-end-held-arg2) → 25 ≤ length (c .before .before .before .before .before .before .before .before .before .before .args .out .now)
-room c = let w = c .before .before .before .before .before .line-end .ensures .within in let n = c .before .before .if1 .left in omega (arith, c .before .before .before .before .before .before .before .before .before .before .pre .1 .1)
+room c =
+    let d = c .before .before .before .before .before in
+    let w = d .line-end .ensures .within in
+    let n = c .before .before .if1 .left in omega (arith, d .before .before .before .before .before .pre .1 .1)
 
 end-held-requires : tie.Need-end-held-requires
-end-held-requires c κs = (c .before .before .before .before .before .before .before .before .before .before .pre .0, (c .before .before .before .before .before .before .before .before .before .before .pre .1 .0 .sized, (holds-on (c .before .before .before .before .before .before .before .before .before .before .args .stream) (c .before .before .before .before .before .before .before .before .before .before .args .book .now) (c .before .before .before .before .before .before .before .before .before .before .args .chunk .now) (c .before .before .before .before .before .before .before .before .before .before .pre .1 .0) (c .before .before .before .before .before .line-end .ensures) (c .before .before .before .hold .ensures), room c)))
+end-held-requires c κs =
+    let d = c .before .before .before .before .before .before .before .before .before .before in
+    let e = c .before .before .before in
+    (d .pre .0, (d .pre .1 .0 .sized, (holds-own (e .hold .ensures), room c)))
 
 add-next : tie.Need-add-next
 add-next c = search needs
@@ -51,9 +67,12 @@ same-length-2 c = search needs
 
 returns-2 : tie.Need-returns-2
 returns-2 c =
-    let d = c .before .before .before .before .before .before .before .before .before .before .before .before .before .before .before .before .before .before .before .before .before .before .before in
-    line-held (d .args .stream) (d .args .book .now) (d .args .chunk .now) (d .pre .1 .0) (c .before .before .before .before .before .before .before .before .before .before .before .before .before .before .before .before .before .before .line-end .ensures) (c .before .before .before .before .before .before .before .before .before .before .before .before .before .before .before .before .hold .ensures)
-    (c .before .before .before .before .before .before .before .before .before .before .before .before .end-held .result) (c .before .before .before .before .before .before .before .before .before .before .before .before .before .before .before .if1 .left) (c .before .before .before .before .before .before .before .before .before .before .before .before .end-held .ensures) (c .before .before .before .before .go-on .ensures)
+    let e = c .before .before .before .before .before .before .before .before .before .before .before .before in
+    let h = e .before .before .before .before in
+    let d = h .before .before .before .before .before .before .before in
+    line-held (d .args .stream) (d .args .book .now) (d .args .chunk .now) (d .pre .1 .0) (h .before .before .line-end .ensures) (h .hold .ensures)
+    (e .end-held .result) (e .before .before .before .if1 .left) (e .end-held .ensures)
+    (c .before .before .before .before .go-on .ensures .0) (c .before .before .before .before .go-on .ensures .1)
 
 pub feed-spec : {M : Type 1} → statement M
 feed-spec =

@@ -1,8 +1,11 @@
--- `stream::go_on` meets its contract: whole lines are answered, and the rest is held.
+-- `stream::go_on`: whole lines are answered, and the rest is held.
 -- Assumes nothing.
-use mathlib.Core.Path.{sym}
+use mathlib.Core.Path.{refl, sym}
 use borrow.Author.Tests.{not-true, not-false}
 use lib.Seq.{length-take-le}
+use native.Mathlib.Omega.{arith}
+use Rattle.lines.proofs.Keeping.{holds-own}
+use Rattle.lines.proofs.Turns.{ends-le, tail-is}
 use Rattle.lines.proofs.Streams.{rest-over, rest-later}
 use borrow.Author.Needs.{needs}
 use Rattle.lines.proofs.stream.go_on.Statement.{statement}
@@ -12,16 +15,23 @@ nothing-requires : tie.Need-nothing-requires
 nothing-requires c κs = search needs
 
 returns : tie.Need-returns
-returns c = rest-over (c .before .before .before .before .before .before .args .e) (c .before .before .before .before .before .before .args .chunk .now) (not-true _ (c .before .if1 .taken)) (c .nothing .ensures)
+returns c =
+    let d = c .before .before .before .before .before .before in
+    let m = not-true _ (c .before .if1 .taken) in
+    (rest-over (d .args .e) (d .args .chunk .now) m (c .nothing .ensures), sym (d .pre .0 .none m))
 
 slice-relend-prefix-answer-lines : tie.Need-slice-relend-prefix-answer-lines
 slice-relend-prefix-answer-lines c = search needs
 
 slice-aggregate-answer-lines : tie.Need-slice-aggregate-answer-lines
-slice-aggregate-answer-lines c = sym (length-take-le (c .before .before .before .before .before .before .args .e .size) (c .before .before .before .before .before .before .args .book .now) (c .before .before .before .before .before .before .pre .0 .fits))
+slice-aggregate-answer-lines c =
+    let d = c .before .before .before .before .before .before in
+    sym (length-take-le (d .args .e .size) (d .args .book .now) (d .pre .0 .fits))
 
 answer-lines-requires : tie.Need-answer-lines-requires
-answer-lines-requires c κs = (c .before .before .before .before .before .before .before .pre .0 .good (not-false _ (c .before .before .if1 .left)), c .before .before .before .before .before .before .before .pre .1)
+answer-lines-requires c κs =
+    let d = c .before .before .before .before .before .before .before in
+    (d .pre .0 .good (not-false _ (c .before .before .if1 .left)), omega (arith, d .pre .1, ends-le (d .args .chunk .now)))
 
 nothing-requires-2 : tie.Need-nothing-requires-2
 nothing-requires-2 c κs = search needs
@@ -36,7 +46,10 @@ part-hold-end : tie.Need-part-hold-end
 part-hold-end c = search needs
 
 hold-requires : tie.Need-hold-requires
-hold-requires c κs = search needs
+hold-requires c κs =
+    let a = c .before .before .before .before .before .before in
+    let chunk = a .before .before .before .before .before .before .before .before .args .chunk .now in
+    (holds-own (c .before .nothing2 .ensures), rw (tail-is chunk (a .answer-lines .result .used)) (a .answer-lines .ensures .free))
 
 same-length : tie.Need-same-length
 same-length c = search needs
@@ -45,7 +58,13 @@ same-length-2 : tie.Need-same-length-2
 same-length-2 c = search needs
 
 returns-2 : tie.Need-returns-2
-returns-2 c = rest-later (c .before .before .before .before .before .before .before .before .before .before .before .before .before .before .before .args .book .now) (c .before .before .before .before .before .before .before .before .before .before .before .before .before .before .before .args .e) (c .before .before .before .before .before .before .before .before .before .before .before .before .before .before .before .args .chunk .now) (not-false _ (c .before .before .before .before .before .before .before .before .before .before .if1 .left)) (c .before .before .before .before .before .before .before .before .before .before .before .before .before .before .before .pre .0 .fits) (c .before .before .before .before .before .before .before .answer-lines .ensures) (c .before .before .before .before .before .before .before .answer-lines .kept .0) (rw (c .before .before .nothing2 .ensures .same) at (c .hold .ensures))
+returns-2 c =
+    let a = c .before .before .before .before .before .before .before in
+    let d = a .before .before .before .before .before .before .before .before in (
+      rest-later (d .args .book .now) (d .args .e) (d .args .chunk .now) (not-false _ (a .before .before .before .if1 .left)) (d .pre .0 .fits)
+          (a .answer-lines .ensures) (a .answer-lines .kept .0) (rw (c .before .before .nothing2 .ensures .same) at (c .hold .ensures)),
+      refl,
+    )
 
 pub go-on-spec : {M : Type 1} → statement M
 go-on-spec =

@@ -1,4 +1,4 @@
--- `stream::hold` meets its contract: the bytes before i are behind those held.
+-- `stream::hold`: the bytes before i are behind those held.
 -- Assumes nothing.
 use mathlib.Core.Path.{_≡_, refl}
 use borrow.Author.Needs.{needs}
@@ -47,10 +47,12 @@ In = tie.After-shared-slice-known2 Inv-loop μ-loop
 fits-piece : (c : In) → c .before .before .loop .i < length (c .before .before .before .before .before .args .piece .now)
 fits-piece c = let m = c .before .before .before .smaller .ensures in omega arith
 
-room : (c : In) → c .before .before .before .before .before .args .held .len + c .before .before .loop .i < length (c .before .before .before .before .before .args .held .bytes)
+room : (c : In)
+    → c .before .before .before .before .before .args .held .len + c .before .before .loop .i
+    < length (c .before .before .before .before .before .args .held .bytes)
 room c =
     let m = c .before .before .before .smaller .ensures in
-    let p = c .before .before .before .before .before .pre in
+    let p = c .before .before .before .before .before .pre .0 in
     omega (arith, p .long, p .few)
 
 loop-again : tie.Need-loop-again Inv-loop μ-loop
@@ -67,7 +69,7 @@ returns c =
     let a = c .before .before .before .before in
     let n = c .before .before .smaller .result in
     let e : c .before .loop .i ≡ n = omega arith in
-    held-more (a .args .piece .now) n (a .pre) (c .before .before .smaller .ensures) refl (rw e at (c .before .loop .inv .1))
+    held-more (a .args .piece .now) n (a .pre .0) (a .pre .1) (c .before .before .smaller .ensures) refl (rw e at (c .before .loop .inv .1))
 
 pub hold-spec : {M : Type 1} → statement M
 hold-spec =

@@ -1,4 +1,4 @@
--- `stream::settle` meets its contract: the settings line lays the book or ends the program.
+-- `stream::settle`: the settings line lays the book or ends the program.
 -- Assumes nothing.
 use Rattle.lines.proofs.Layings.{laid-is, settled-book, settled-refused}
 use borrow.Author.Needs.{needs}
@@ -17,14 +17,11 @@ enum-known-number c = search needs
 put-answer-requires : tie.Need-put-answer-requires
 put-answer-requires c κs = search needs
 
-add-t15 : tie.Need-add-t15
-add-t15 c = search needs
-
 same-length : tie.Need-same-length
 same-length c = search needs
 
 returns : tie.Need-returns
-returns c = settled-book _ _ _ (laid-is (c .before .before .before .before .before .lay-line .ensures) (c .before .size .given .1))
+returns c = settled-book _ _ (laid-is (c .before .before .before .before .before .lay-line .ensures) (c .before .size .given .1))
 
 same-length-2 : tie.Need-same-length-2
 same-length-2 c = search needs
@@ -33,7 +30,11 @@ same-length-3 : tie.Need-same-length-3
 same-length-3 c = search needs
 
 returns-2 : tie.Need-returns-2
-returns-2 c = settled-refused _ _ (laid-is (c .before .before .before .before .before .before .before .before .before .lay-line .ensures) (c .before .before .before .before .before .number .given .1)) (c .before .before .put-answer .ensures)
+returns-2 c =
+    settled-refused _ _
+    (laid-is (c .before .before .before .before .before .before .before .before .before .lay-line .ensures)
+    (c .before .before .before .before .before .number .given .1))
+    (c .before .before .put-answer .ensures)
 
 pub settle-spec : {M : Type 1} → statement M
 settle-spec =
@@ -43,7 +44,6 @@ settle-spec =
     enum-known-size
     enum-known-number
     put-answer-requires
-    add-t15
     same-length
     returns
     same-length-2

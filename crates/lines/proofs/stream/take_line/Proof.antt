@@ -1,12 +1,12 @@
--- `stream::answer_next` meets its contract: a frame is one step, any other whole line is refused, and a line that is not over gives nothing.
+-- `stream::take_line`: a frame is one step, any other whole line is refused, and a line that is not over gives nothing.
 -- Assumes nothing.
 use native.Mathlib.Omega.{arith}
 use Rattle.lines.specs.Post.{NextOf}
 use Rattle.lines.specs.declared.line.Next.the-variants.{Other}
 use Rattle.lines.proofs.Books.{next-is, taken-frame, taken-other, taken-none}
 use borrow.Author.Needs.{needs}
-use Rattle.lines.proofs.stream.answer_next.Statement.{statement}
-use Rattle.lines.proofs.stream.answer_next.Tie as tie
+use Rattle.lines.proofs.stream.take_line.Statement.{statement}
+use Rattle.lines.proofs.stream.take_line.Tie as tie
 
 look-requires : tie.Need-look-requires
 look-requires c κs = search needs
@@ -20,7 +20,8 @@ step-requires c κs = search needs
 enum-known-n : tie.Need-enum-known-n
 enum-known-n c = search needs
 
-next-other : (c : tie.After-known-told2) → NextOf (c .before .before .before .before .before .before .args .chunk .now) (Other (c .before .n .given .0 .0))
+next-other : (c : tie.After-known-told2)
+    → NextOf (c .before .before .before .before .before .before .args .chunk .now) (Other (c .before .n .given .0 .0))
 next-other c = next-is _ (c .before .before .before .look .ensures) (c .before .n .given .1)
 
 add-t11 : tie.Need-add-t11
@@ -33,7 +34,10 @@ same-length : tie.Need-same-length
 same-length c = search needs
 
 returns : tie.Need-returns
-returns c = taken-frame _ (c .before .before .before .before .before .before .before .before .before .before .pre) (next-is _ (c .before .before .before .before .before .before .before .look .ensures) (c .before .before .before .before .before .r .given .1)) (c .before .before .step .ensures)
+returns c =
+    let d = c .before .before .before .before .before in
+    taken-frame _ (d .before .before .before .before .before .pre) (next-is _ (d .before .before .look .ensures) (d .r .given .1))
+    (c .before .before .step .ensures)
 
 returns-2 : tie.Need-returns-2
 returns-2 c = taken-other _ (c .before .before .before .before .before .before .pre) _ (next-other c)
@@ -41,8 +45,8 @@ returns-2 c = taken-other _ (c .before .before .before .before .before .before .
 returns-3 : tie.Need-returns-3
 returns-3 c = taken-none _ (next-is _ (c .before .before .look .ensures) (c .enum-told .given .1))
 
-pub answer-next-spec : {M : Type 1} → statement M
-answer-next-spec =
+pub take-line-spec : {M : Type 1} → statement M
+take-line-spec =
     tie.close
     (tie.spec
     look-requires
