@@ -123,7 +123,9 @@ module _ (g : Grid) (one-word : g .width ≡ 1) where
       ∙ ap (λ (r : ℕ). times (zeroed w) r ((to - from) * g .items) b) p
       ∙ sym (rows-run w from (to - from) b)
 
-pub stretch-is : (g : Grid) (lo hi n : ℕ) → g .width ≡ 1 → lo ≤ hi → hi ≤ g .slots → Fits g n → Stretch g lo hi (g .base + lo * g .items) (g .base + hi * g .items)
+-- the rows of a run of slots lie in the grid
+pub stretch-is : (g : Grid) (lo hi n : ℕ) → g .width ≡ 1 → lo ≤ hi → hi ≤ g .slots → Fits g n
+    → Stretch g lo hi (g .base + lo * g .items) (g .base + hi * g .items)
 stretch-is g lo hi n e l h f =
     let a : lo * g .items ≤ hi * g .items = mul-le-mul-right (g .items) l in
     let b : hi * g .items ≤ g .slots * g .items = mul-le-mul-right (g .items) h in

@@ -1,6 +1,7 @@
 -- `stream::take_line`: a frame is one step, any other whole line is refused, and a line that is not over gives nothing.
 -- Assumes nothing.
 use native.Mathlib.Omega.{arith}
+use Rattle.book.specs.Lent.{reading}
 use Rattle.lines.specs.Post.{NextOf}
 use Rattle.lines.specs.declared.line.Next.the-variants.{Other}
 use Rattle.lines.proofs.Books.{next-is, taken-frame, taken-other, taken-none}
@@ -15,6 +16,7 @@ enum-known-r : tie.Need-enum-known-r
 enum-known-r c = search needs
 
 step-requires : tie.Need-step-requires
+unfolding reading
 step-requires c κs = search needs
 
 enum-known-n : tie.Need-enum-known-n
@@ -34,6 +36,7 @@ same-length : tie.Need-same-length
 same-length c = search needs
 
 returns : tie.Need-returns
+unfolding reading
 returns c =
     let d = c .before .before .before .before .before in
     taken-frame _ (d .before .before .before .before .before .pre) (next-is _ (d .before .before .look .ensures) (d .r .given .1))
