@@ -1,28 +1,22 @@
 -- A removal date by date: the dates one after the other, and a date without leave, on which there is nothing to remove.
 -- Assumes nothing.
-use Prim.Native.Nat.{ℕ, _+_, _≤_, _<_}
+use Prim.Native.Nat.{ℕ, suc, _+_, _≤_, _<_}
 use mathlib.Core.Path.{_≡_, refl, sym, _∙_, ap, subst}
-use mathlib.Core.Logic.{_⊎_, inl, inr}
-use mathlib.Core.Bool.{Bool, true, false, not, _&&_, _||_, or-true}
+use mathlib.Core.Bool.{false}
 use mathlib.Core.List.{List}
-use native.Mathlib.Nat.{eq-or-lt-of-le}
 use native.Mathlib.Omega.{arith}
-use lib.Dec.{eqb}
-use borrow.Author.Tests.{le-leb}
 use Rattle.model.specs.declared.Settings.{Settings}
-use Rattle.model.specs.Bounded.{within}
-use Rattle.model.specs.Site.{dateOfSession, dateOfTime}
 use Rattle.model.specs.State.{State}
-use Rattle.model.specs.Machine.{change, minus}
+use Rattle.model.specs.Kinds.{Kind.removeVisitor}
+use Rattle.model.specs.Machine.{change}
 use Rattle.model.specs.Words.{words}
 use Rattle.model.specs.Reading.{settingsOf, stateOf, readState}
-use Rattle.model.proofs.Search.{bool-eq, and-true, or-cases, within-true}
 use Rattle.model.proofs.Laws.{Sound}
 use Rattle.model.proofs.Sound.{book-sound}
 use Rattle.model.proofs.Keeps.{keep-removeVisitor}
 use Rattle.model.proofs.ReadBack.{stateOf-words}
 use Rattle.model.proofs.Removal.{nothing-removed}
-use Rattle.model.proofs.Sets.{same-state}
+use Rattle.model.proofs.Slots.{changes}
 use Rattle.model.proofs.Shown.{words-stateOf}
 use Rattle.book.specs.Good.{Good}
 use Rattle.book.proofs.Goods.{good-words}
@@ -30,57 +24,12 @@ use Rattle.apply.specs.Removals.{removal, without, Erased}
 use Rattle.apply.proofs.Stages.{carries-all, carries-shown}
 use Rattle.apply.proofs.Erasures.{write-removal}
 
--- a run of dates is its first date and the rest
-first-or : (d e i : ℕ) → d ≤ e → within d e i ≡ within d d i || within (d + 1) e i
-first-or d e i h = bool-eq _ _ there back
-  where
-    there : within d e i ≡ true → within d d i || within (d + 1) e i ≡ true
-    there q = go (eq-or-lt-of-le (w .0))
-      where
-        w : (d ≤ i) × (i ≤ e)
-        w = within-true d e i q
-
-        go : (d ≡ i) ⊎ (d < i) → within d d i || within (d + 1) e i ≡ true
-        go (inl p) = rw (le-leb d i (w .0), le-leb i d (omega (arith, p)))
-        go (inr p) = rw (le-leb (d + 1) i (omega arith), le-leb i e (w .1)) (or-true (within d d i))
-
-    back : within d d i || within (d + 1) e i ≡ true → within d e i ≡ true
-    back q = go (or-cases (within d d i) (within (d + 1) e i) q)
-      where
-        go : (within d d i ≡ true) ⊎ (within (d + 1) e i ≡ true) → within d e i ≡ true
-        go (inl p) = let w = within-true d d i p in and-true (le-leb d i (w .0)) (le-leb i e (omega (arith, w .1)))
-        go (inr p) = let w = within-true (d + 1) e i p in and-true (le-leb d i (omega (arith, w .0))) (le-leb i e (w .1))
-
--- taken out where p or q holds: first where p does, then where q does
-in-turn : (old p q t : Bool) → minus old ((p || q) && t) ≡ minus (minus old (p && t)) (q && t)
-in-turn false p q t = refl
-in-turn true true q false = go q
-  where
-    go : (q : Bool) → true ≡ not (q && false)
-    go true = refl
-    go false = refl
-in-turn true true q true = refl
-in-turn true false q t = refl
-
 module _ (x : State) (v : ℕ) where
   -- a run of dates is its first date and the rest
   pub without-first : (d e : ℕ) → d ≤ e → without x v d e ≡ without (without x v d d) v (d + 1) e
-  unfolding change
   without-first d e h =
-      same-state (without x v d e) (without (without x v d d) v (d + 1) e)
-      (record {
-        settings = refl;
-        leave = λ i u. both i (x .leave i u) (eqb u v);
-        standing = λ i m. refl;
-        hotel = λ i h u. both i (x .hotel i h u) (eqb u v);
-        ride = λ t k u. both (dateOfTime (x .settings) t) (x .ride t k u) (eqb u v);
-        attend = λ i m u. both (dateOfSession (x .settings) i) (x .attend i m u) (eqb u v);
-        conf = λ i c m. refl;
-        lunch = λ i g m. refl;
-      })
-    where
-      both : (i : ℕ) (old t : Bool) → minus old (within d e i && t) ≡ minus (minus old (within d d i && t)) (within (d + 1) e i && t)
-      both i old t = ap (λ (w : Bool). minus old (w && t)) (first-or d e i h) ∙ in-turn old (within d d i) (within (d + 1) e i) t
+      let n : suc d ≡ d + 1 = omega arith in
+      sym (changes x (removal v d e) d e h removeVisitor refl) ∙ ap (λ (n : ℕ). without (without x v d d) v n e) n
 
   -- no dates, and a date without leave
   without-none : Sound x → (d e : ℕ) → e < d → without x v d e ≡ x

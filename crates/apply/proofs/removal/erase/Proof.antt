@@ -70,7 +70,8 @@ fill-requires c κs =
     let e = ap (λ (g : Grids). g .attend) (s .pre .1 .0) in
     let w = wrote-then (leave .turn .ensures) (wrote-then (hotel .sweep-run .ensures) (ride .sweep-run2 .ensures)) in
     let q : Single (a .g .attend) _ _
-    = single-of (a .s) (reading (a .book .now)) (s .pre .0) attendCells (a .g .attend) e _ (w .stays) refl _ (c .before .sessions-on .ensures .ends .most) in
+    = single-of (a .s) (reading (a .book .now)) (s .pre .0) attendCells (a .g .attend) e _ (w .stays) refl _
+    (c .before .sessions-on .ensures .ends .most) in
     (q .lies, (omega (arith, q .narrow), (q .most, item-of (a .s) attendCells (a .g .attend) e (a .v) (s .pre .1 .1 .0))))
 
 same-length : tie.Need-same-length
@@ -89,7 +90,8 @@ returns c =
     let a = s .args in
     let t = c .before .before .before .before .before .before .before .before .before .before .times-on in
     let u = c .before .before .before .before .sessions-on in
-    let w = wrote-then (wrote-then (leave .turn .ensures) (hotel .sweep-run .ensures)) (wrote-then (ride .sweep-run2 .ensures) (c .before .before .fill .ensures)) in
+    let w = wrote-then (wrote-then (leave .turn .ensures) (hotel .sweep-run .ensures))
+    (wrote-then (ride .sweep-run2 .ensures) (c .before .before .fill .ensures)) in
     record {
       lo = t .result .from .0;
       hi = t .result .to .0;

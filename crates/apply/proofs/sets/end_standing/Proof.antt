@@ -13,7 +13,9 @@ add-sweep-run : tie.Need-add-sweep-run
 add-sweep-run c = search needs
 
 add-sweep-run-2 : tie.Need-add-sweep-run-2
-add-sweep-run-2 c = let s = c .before .before .before .before .before .before .before .before in omega (arith, s .pre .0 .slot, s .pre .1 .0 .most, s .good, s .fits)
+add-sweep-run-2 c =
+    let s = c .before .before .before .before .before .before .before .before in
+    omega (arith, s .pre .0 .slot, s .pre .1 .0 .most, s .good, s .fits)
 
 sweep-run-requires : tie.Need-sweep-run-requires
 sweep-run-requires c κs = let p = c .before .before .before .before .before .before .before .before .pre .1 .0 in
