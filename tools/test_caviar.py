@@ -22,8 +22,8 @@ sys.dont_write_bytecode = True
 ROOT = Path(__file__).resolve().parent.parent
 sys.path.insert(0, str(ROOT / "tools"))
 
-from caviar_tool import lines, paper, typed  # noqa: E402
-from caviar_tool.paper import Problem, Raw, Request  # noqa: E402
+from caviar_tool import lines, rules, typed  # noqa: E402
+from caviar_tool.rules import Problem, Raw, Request  # noqa: E402
 
 CAVIAR = ROOT / "tools" / "caviar"
 CARGO_TARGET = Path(os.environ.get("CARGO_TARGET_DIR", ROOT / "target" / "cargo"))
@@ -112,7 +112,7 @@ class Conversations(Tested):
     def test_every_kind_is_done(self):
         said = self.converses("kinds.txt")
         done = re.findall(r"^(\S+) .*\n    Done: ", said, re.MULTILINE)
-        self.assertEqual(sorted(done), sorted(kind.name for kind in paper.KINDS))
+        self.assertEqual(sorted(done), sorted(kind.name for kind in rules.KINDS))
 
     def test_every_refusal_of_a_request(self):
         said = self.converses("refusals.txt")
@@ -120,10 +120,10 @@ class Conversations(Tested):
         refused = {(int(number), name) for name, number in found}
         self.assertEqual({number for number, _ in refused}, set(range(3, 24)))
         for number in range(8, 23):
-            kinds = {paper.BY_NUMBER[kind].name for kind in paper.QUESTIONS[number][1]}
+            kinds = {rules.BY_NUMBER[kind].name for kind in rules.QUESTIONS[number][1]}
             self.assertEqual({name for at, name in refused if at == number}, kinds, f"question {number}")
 
-    def test_the_example_of_the_paper(self):
+    def test_the_example_of_the_rules(self):
         typed_text = SETTINGS + "\nadd-leave visitor 1 dates 0..1\nraw zz\n"
         framed = self.wrote("frame", given=typed_text)
         leave = "00000001000000000000000100000000000000010000000000000000"
@@ -145,7 +145,7 @@ class Conversations(Tested):
             one_more + "\nadd-leave visitor 0 date 0": (one_more, "dining 1 wants as many capacities, and there are 2"),
         }
         for typed_text, (shown, why) in cases.items():
-            self.refused_at_once(typed_text, shown + refused.format(why, paper.QUESTIONS[24][0]))
+            self.refused_at_once(typed_text, shown + refused.format(why, rules.QUESTIONS[24][0]))
 
     def test_settings_of_the_largest_book_and_of_one_too_large(self):
         wide = SETTINGS.replace("visitors 3", "visitors 500").replace("sessions 2", "sessions 16")
@@ -153,7 +153,7 @@ class Conversations(Tested):
         for program in programs():
             self.assertEqual(answered(program, self.wrote("frame", given=largest)), b"")
         why = "the book of these settings has 16,386 words, more than 16,384"
-        self.refused_at_once(over, f"{over}\n    Refused by 25: {why}. [rule 5.25: {paper.QUESTIONS[25][0]}]\n")
+        self.refused_at_once(over, f"{over}\n    Refused by 25: {why}. [rule 5.25: {rules.QUESTIONS[25][0]}]\n")
 
     def refused_at_once(self, typed_text, expected):
         framed = self.wrote("frame", given=typed_text)
@@ -176,7 +176,7 @@ class Frame(Tested):
         self.assertEqual(as_it_stands, b"\n# as it  stands \nraw\n")
 
     def test_names_and_numbers_are_the_same_kinds(self):
-        for kind in paper.KINDS:
+        for kind in rules.KINDS:
             fields = " ".join(f"{word} 1" for word in kind.uses())
             by_name, by_number = (typed.parse_line(f"{head} {fields}", False) for head in (kind.name, kind.number))
             self.assertEqual(by_name, by_number)
@@ -189,7 +189,7 @@ class Frame(Tested):
     def test_every_word_that_a_kind_takes_is_asked_for(self):
         """Each word left out alone, and all of them; information alone may be left out, and is 0."""
         asked = 0
-        for kind in paper.KINDS:
+        for kind in rules.KINDS:
             words = kind.uses()
             for left_out in words:
                 line = " ".join([kind.name] + [f"{word} 1" for word in words if word != left_out])
@@ -199,7 +199,7 @@ class Frame(Tested):
                     asked += 1
                     self.lacks(line, kind, [left_out])
             self.lacks(kind.name, kind, [word for word in words if word != "info"])
-        fields = [(kind.a, kind.b, True, kind.seats) for kind in paper.KINDS]
+        fields = [(kind.a, kind.b, True, kind.seats) for kind in rules.KINDS]
         self.assertEqual(asked, sum(bool(used) for of_kind in fields for used in of_kind))
         self.complains("line 1: add-hotel lacks visitor, dates", "frame", "add-hotel room 9")
         self.complains("line 1: add-lunch lacks last", "frame", "add-lunch dining 0 meeting 0 first 0 seats 1")
@@ -281,7 +281,7 @@ class RoundTrips(Tested):
                 count += len(sentences)
         print(f"seeds {', '.join(map(str, SEEDS))}: {count} answers explained, numbers {sorted(numbers)}", flush=True)
         self.assertEqual(numbers, set(range(3, 26)))
-        self.assertLessEqual({kind.name for kind in paper.KINDS}, kinds)
+        self.assertLessEqual({kind.name for kind in rules.KINDS}, kinds)
 
     def there_and_back(self, stream):
         """The words of a stream of lines give it back, and its answers have their sentences."""
@@ -371,9 +371,9 @@ class Commands(Tested):
     def test_the_tables(self):
         table = self.wrote("table").decode().splitlines()
         self.assertEqual([int(line.split()[0]) for line in table[:25]], list(range(1, 26)))
-        self.assertTrue(all(question in line for line, (question, _) in zip(table, paper.QUESTIONS.values())))
+        self.assertTrue(all(question in line for line, (question, _) in zip(table, rules.QUESTIONS.values())))
         kinds = self.wrote("kinds").decode().splitlines()
-        self.assertEqual([line.split()[:2] for line in kinds], [[str(kind.number), kind.name] for kind in paper.KINDS])
+        self.assertEqual([line.split()[:2] for line in kinds], [[str(kind.number), kind.name] for kind in rules.KINDS])
 
     def test_help(self):
         for arguments in ([], ["frame"], ["words"], ["explain"], ["table"], ["kinds"]):
@@ -394,7 +394,7 @@ class Commands(Tested):
 
     def test_the_length_of_a_book(self):
         self.assertEqual(typed.parse_line(SETTINGS, True).book_length(), 64)
-        largest = paper.settings_of(list(paper.LIMITS.values()) + [1000] * 16)
+        largest = rules.settings_of(list(rules.LIMITS.values()) + [1000] * 16)
         self.assertEqual(largest.book_length(), 9_401_625)
         self.assertEqual(lines.read_first("zz"), Raw("zz"))
         self.assertRaises(Problem, lines.settings_in, "zz")
@@ -411,11 +411,11 @@ class Documents(Tested):
     @staticmethod
     def asked(kind):
         """The questions of a kind past 7."""
-        return [number for number in range(8, 23) if kind.number in paper.QUESTIONS[number][1]]
+        return [number for number in range(8, 23) if kind.number in rules.QUESTIONS[number][1]]
 
     def test_the_table_of_kinds_in_the_rules(self):
         expected = []
-        for kind in paper.KINDS:
+        for kind in rules.KINDS:
             slots = f"one {kind.unit}" if kind.one else f"{kind.unit}s"
             also = ", ".join(["n"] * kind.seats + ["info"] * kind.info)
             nouns = [thing.noun if thing else "" for thing in (kind.a, kind.b)]
@@ -429,12 +429,12 @@ class Documents(Tested):
                               ("include/caviar.h", r"^ \* +(\d+)  [^(\n]*\(([\d, ]+)\)")):
             found = {int(number): tuple(map(int, kinds.split(", "))) for number, kinds in self.rows(path, pattern)}
             found[10] = (10, 12, 14)
-            self.assertEqual(found, {number: paper.QUESTIONS[number][1] for number in range(8, 23)}, path)
+            self.assertEqual(found, {number: rules.QUESTIONS[number][1] for number in range(8, 23)}, path)
 
     def test_the_limits(self):
         for path, pattern in (("docs/RULES.md", r"^\| \d \| [A-Z] \| .* \| 1 \| (\d+) \|$"),
                               ("include/caviar.h", r"^ \*     \d  [A-Z]   .* (\d+)$")):
-            self.assertEqual([int(most) for most in self.rows(path, pattern)], list(paper.LIMITS.values()), path)
+            self.assertEqual([int(most) for most in self.rows(path, pattern)], list(rules.LIMITS.values()), path)
 
     def test_the_tour_of_the_readme(self):
         told = (ROOT / "tools" / "conversations" / "site.txt").read_text().partition("\n")[2]

@@ -1,2 +1,2 @@
-"""The booking book for people: `paper` holds the tables of docs/RULES.md, `lines` hexadecimal, `typed` the words that
+"""The booking book for people: `rules` holds the tables of docs/RULES.md, `lines` hexadecimal, `typed` the words that
 a person types, `explain` the sentences, `main` the commands."""

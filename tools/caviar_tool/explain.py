@@ -1,7 +1,7 @@
 """Answers in sentences."""
 
 from .lines import printable, settings_in
-from .paper import BY_NUMBER, MOST_WORDS, QUESTIONS, Problem, Raw, Settings, has_place
+from .rules import BY_NUMBER, MOST_WORDS, QUESTIONS, Problem, Raw, Settings, has_place
 from .typed import typed
 
 WIDEST_ECHO = 100

@@ -2,7 +2,7 @@
 
 import re
 
-from .paper import Problem, Raw, Request, Settings, settings_of
+from .rules import Problem, Raw, Request, Settings, settings_of
 
 WORDS_OF_REQUEST = 7
 WORDS_OF_ANSWER = 3

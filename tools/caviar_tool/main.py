@@ -8,7 +8,7 @@ from pathlib import Path
 from . import typed as words_typed
 from .explain import explained, sentence_alone
 from .lines import printable, read_answer, read_lines, text_lines, written
-from .paper import INFO, KINDS, QUESTIONS, Problem
+from .rules import INFO, KINDS, QUESTIONS, Problem
 
 BAD_INPUT = 2
 

@@ -3,7 +3,7 @@
     settings dates 2 sessions 2 times 2 visitors 3 meetings 2 rooms 2 dining 1 hotels 2 transports 1 capacities 4
     add-hotel room 0 visitor 1 dates 0..1      # a kind by name or number, then its fields in any order
     4 room 0 visitor 1 date 0                  # one slot
-    add-leave b 1 first 0 last 1               # the paper's own field names do as well
+    add-leave b 1 first 0 last 1               # the request's own field names do as well
 
 Every word that the kind takes must be there; only `info` may be left out, and is then 0.
 Settings come first. `raw TEXT` stands for the line TEXT as it is. Numbers are in base ten, or with 0x in base sixteen.
@@ -14,7 +14,7 @@ import difflib
 import re
 
 from .lines import text_lines
-from .paper import BY_NAME, BY_NUMBER, LIMITS, WORD_LIMIT, Problem, Raw, Request, Settings, settings_of
+from .rules import BY_NAME, BY_NUMBER, LIMITS, WORD_LIMIT, Problem, Raw, Request, Settings, settings_of
 
 FIELDS = ("a", "b", "first", "last", "n", "info")
 UNITS = {"date": "date", "dates": "date", "session": "session", "sessions": "session", "time": "time", "times": "time"}
@@ -154,7 +154,7 @@ def typed_slots(unit, first, last):
 
 
 def typed_request(request):
-    """The request as it would be typed: its kind's words, and by the paper's names whatever else is not 0."""
+    """The request as it would be typed: its kind's words, and by the request's names whatever else is not 0."""
     kind = BY_NUMBER.get(request.kind)
     rest = request._asdict()
     text = kind.name if kind else str(request.kind)

@@ -1,4 +1,4 @@
-//! The trial load of the later paper's request F-12: requests that pass questions 3 to 7, of all
+//! A fixed trial load: requests that pass questions 3 to 7, of all
 //! kinds, from a 32-bit seed.
 
 use crate::site::{Request, Site};

@@ -14,7 +14,7 @@ ghost use Rattle.model.specs.Calls;
 ghost use Rattle.model.specs.Calls.{settingsGood};
 ghost use Rattle.capi.specs.Answers.{wordsOf, requestBy, Tells, TellsList};
 
-// An answer's three words: number and place, both 0 when done, then the value.
+// An answer as three words: a number, which is 0 where the call is done, a place and a value.
 #[repr(C)]
 pub struct AnswerWords {
     pub number: u32,

@@ -6,6 +6,7 @@ use book::grid::Grids;
 use book::units::SessionRun;
 use book::units::TimeRun;
 use book::units::after;
+use book::units::date_of_session;
 use book::units::sessions_on;
 use book::units::times_on;
 use model::Date;
@@ -267,7 +268,7 @@ pub fn dates(book: &[u32], s: Settings, grids: Grids, caps: &[u32; 17]) -> bool
     ensures { λ r. ⌜ Decides r ((d : ℕ) → d < s .dates → Kept s (now (caps .entry)) (reading (now (book .entry))) d) ⌝ }
 {
     let days = s.dates;
-    let mut date = Date(0);
+    let mut date = date_of_session(s, model::Session(0));
     while date.0 < days {
         let sessions = sessions_on(s, date, date);
         let times = times_on(s, date, date);

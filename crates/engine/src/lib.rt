@@ -11,8 +11,8 @@ ghost use Rattle.model.specs.Calls.{call};
 ghost use Rattle.model.specs.Removal.{RemovalKept};
 ghost use Rattle.book.specs.Good.{answered};
 
-// A request on any list of words: questions 1 and 2, then the machine, started in the state that the book shows. An accepted removal
-// takes exactly the visitor's leave and bookings on its dates.
+// A request on any list of words: questions 1 and 2, then one step of the machine from what the book shows. An accepted removal takes
+// exactly the visitor's leave and bookings on its dates.
 pub fn request(book: &mut [u32], r: Request) -> Answer
     ensures call { λ a. ⌜ answered a (now (book .exit)) ≡ call (now (book .entry)) r ⌝ }
     ensures removal { λ a. ⌜ RemovalKept (now (book .entry)) r a (now (book .exit)) ⌝ }

@@ -1,4 +1,4 @@
-// One request on a book that passes questions 1 and 2: every question is answered before the first word is written.
+// One request on a good book: every question is answered before the first word is written.
 use apply::apply;
 use book::grid::grids_of;
 use judge::judge;

@@ -1,4 +1,4 @@
-// The answer of a request on a book that passes questions 1 and 2: reads only.
+// The answer of a request on a good book: reads only.
 pub mod answers;
 
 use book::grid::Grids;

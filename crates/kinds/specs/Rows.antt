@@ -61,7 +61,7 @@ below l w = eqb l 0 || ltb w l
 unfoldable pub slotsFit : ℕ → Bool → ℕ → ℕ → Bool
 slotsFit n one first last = leb first last && ltb last n && (not one || eqb first last)
 
--- the number of the first question answered no, or 0
+-- the number of the first no, or 0
 abbrev pub firstNo : ℕ → Bool → ℕ → ℕ
 firstNo n true next = next
 firstNo n false next = n

@@ -57,7 +57,7 @@ fn slots_fit(slots: u32, one: bool, first: u32, last: u32) -> bool
     first == last
 }
 
-// The number of the first question answered no, or 0.
+// The number of the first no, or 0.
 pub fn first_no(w: Row, r: Request) -> u32
     ensures { λ n. ⌜ n ≡ fieldsNo w r ⌝ }
 {

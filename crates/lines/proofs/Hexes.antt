@@ -1,4 +1,4 @@
--- Digits and words: what the code computes is what the paper's definitions say, and both ways round trip.
+-- Digits and words: what the code computes is what the definitions say, and both ways round trip.
 -- Assumes nothing.
 use Prim.Native.Nat.{ℕ, zero, suc, _+_, _-_, _*_, _/_, _%_, _≤_, _<_}
 use native.Mathlib.Nat.{add-zero, mod-eq-of-lt, eq-or-lt-of-le}

@@ -148,7 +148,7 @@ fn answers_at_once() {
     assert!(child.wait().expect("the program").success());
 }
 
-/// The paper's example; no input; a refused settings line with more input behind it; a last line
+/// The example of the rules (13.4); no input; a refused settings line with more input behind it; a last line
 /// without byte 10; the largest book that fits, and one word more.
 #[test]
 fn edges() {

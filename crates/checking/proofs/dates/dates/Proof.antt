@@ -2,7 +2,9 @@
 -- Assumes nothing.
 use Prim.Native.Nat.{ℕ, _-_, _≤_, _<_}
 use native.Mathlib.Omega.{arith}
-use borrow.Author.Count.{below-none, below-more}
+use mathlib.Core.Path.{_≡_, _∙_}
+use native.Mathlib.Nat.{zero-div}
+use borrow.Author.Count.{below-more}
 use borrow.Author.Tests.{not-true, not-false}
 use Rattle.book.specs.Lent.{reading}
 use Rattle.checking.specs.Kept.{Kept}
@@ -16,18 +18,23 @@ Inv-loop book s grids caps days date₀ date = (date .0 ≤ days) × ((k : ℕ) 
 abbrev μ-loop : tie.MeasureT-loop
 μ-loop book s grids caps days date₀ date = days - date .0
 
+date-of-session-requires : tie.Need-date-of-session-requires Inv-loop μ-loop
+date-of-session-requires c κs = c .before .pre .0 .ranges
+
 loop-holds : tie.Need-loop-holds Inv-loop μ-loop
-loop-holds c = (omega arith, below-none _)
+loop-holds c =
+    let e : c .date-of-session .result .0 ≡ 0 = c .date-of-session .ensures ∙ zero-div _ in
+    (omega (arith, e), λ k h. absurd (omega (arith, e, h)))
 
 sessions-on-requires : tie.Need-sessions-on-requires Inv-loop μ-loop
-sessions-on-requires c κs = (c .before .before .before .before .pre .0 .ranges, (omega arith, omega arith))
+sessions-on-requires c κs = (c .before .before .before .before .before .pre .0 .ranges, (omega arith, omega arith))
 
 times-on-requires : tie.Need-times-on-requires Inv-loop μ-loop
-times-on-requires c κs = (c .before .before .before .before .before .pre .0 .ranges, (omega arith, omega arith))
+times-on-requires c κs = (c .before .before .before .before .before .before .pre .0 .ranges, (omega arith, omega arith))
 
 date-at-requires : tie.Need-date-at-requires Inv-loop μ-loop
 date-at-requires c κs =
-    let p = c .before .before .before .before .before .before .pre in
+    let p = c .before .before .before .before .before .before .before .pre in
     (record { laid = p .0; starts = p .1 .0; date = omega arith; sessions = c .before .sessions-on .ensures; times = c .times-on .ensures }, p .1 .1)
 
 returns : tie.Need-returns Inv-loop μ-loop
@@ -36,7 +43,7 @@ returns c =
     λ all. said-false (c .before .date-at .result) (not-true _ (c .if2 .taken)) (c .before .date-at .ensures) (all (l .date .0) (omega arith))
 
 after-requires : tie.Need-after-requires Inv-loop μ-loop
-after-requires c κs = omega (arith, c .before .before .before .before .before .before .before .before .pre .0 .ranges .dates)
+after-requires c κs = omega (arith, c .before .before .before .before .before .before .before .before .before .pre .0 .ranges .dates)
 
 loop-less : tie.Need-loop-less Inv-loop μ-loop
 loop-less c = omega (arith, c .after .ensures)
@@ -57,6 +64,7 @@ dates-spec =
     (tie.spec
     Inv-loop
     μ-loop
+    date-of-session-requires
     loop-holds
     sessions-on-requires
     times-on-requires
