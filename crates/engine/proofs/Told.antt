@@ -87,5 +87,6 @@ unfolding calls requestsOf answersWords
 one-told {S} {b} good r {a} {b′} {a′} all =
     let e = good-calls good r [] in
     ap₂ answered
-    (ap read (all .answers ∙ ap (λ (c : Calls). answersWords (c .answers) ++ drop 3 a) e) ∙ told-back (stateOf b) r (step (stateOf b) r .answer) (drop 3 a) refl)
+    (ap read (all .answers ∙ ap (λ (c : Calls). answersWords (c .answers) ++ drop 3 a) e)
+    ∙ told-back (stateOf b) r (step (stateOf b) r .answer) (drop 3 a) refl)
     (all .book ∙ ap (λ (c : Calls). c .book) e)

@@ -1,4 +1,4 @@
--- `request` meets its contract: checked, then one step.
+-- `request`: checked, then one step.
 -- Assumes nothing.
 use mathlib.Core.Path.{sym, _∙_}
 use borrow.Author.Needs.{needs}
