@@ -30,7 +30,7 @@ use Rattle.model.proofs.Laws.{Sound, law-by, oneA-by, oneB-by, each-by}
 use Rattle.model.proofs.Shown.{each-cell, some-is}
 use Rattle.model.proofs.Sound.{book-sound, held-some}
 use Rattle.model.specs.Reading.{settingsOf, stateOf}
-use Rattle.model.specs.Laws.{wellLaid, lawful}
+use Rattle.model.specs.Laws.{diaryLaid, lawful}
 use Rattle.checking.specs.Rows.{Decides}
 use Rattle.checking.specs.Days.{Eaten, Caps}
 use Rattle.checking.specs.Kept.{GuestsAt, SessionAt, seatsAt, Kept}
@@ -295,7 +295,7 @@ unfolding lawful cellRules
 rules-of b q = conj-is (cellTests (settingsOf b) b) (and-left (cellRules (settingsOf b) b) _ q)
 
 -- question 2
-pub lawful-said : (b caps : List ℕ) → wellLaid b ≡ true → (S : Settings) → S ≡ settingsOf b → Ranges S → Caps S caps
+pub lawful-said : (b caps : List ℕ) → diaryLaid b ≡ true → (S : Settings) → S ≡ settingsOf b → Ranges S → Caps S caps
     → (answer : Bool) → Decides answer ((d : ℕ) → d < S .dates → Kept S caps b d) → answer ≡ lawful b
 unfolding lawful stateOf
 lawful-said b caps q1 S e r cs true k = sym (ap (λ (T : Settings). cellRules T b && laws (readState T b)) (sym e) ∙ lawful-by S caps b r cs k)

@@ -8,12 +8,12 @@ use book::settings;
 use model::Answer;
 ghost use mathlib.Core.Path.{_≡_};
 ghost use mathlib.Core.Bool.{true};
-ghost use Rattle.model.specs.Laws.{wellLaid, lawful};
+ghost use Rattle.model.specs.Laws.{diaryLaid, lawful};
 ghost use Rattle.model.specs.Calls;
 
 // Question 2, of a book that passes question 1.
 pub fn lawful(book: &[u32]) -> bool
-    requires { ⌜ wellLaid (now book) ≡ true ⌝ }
+    requires { ⌜ diaryLaid (now book) ≡ true ⌝ }
     ensures { λ r. ⌜ r ≡ lawful (now (book .entry)) ⌝ }
 {
     let s = settings::settings(book);

@@ -10,9 +10,9 @@ use lib.ListN.{length}
 use Rattle.model.specs.declared.Request.{Request}
 use Rattle.model.specs.declared.Answer.{Answer}
 use Rattle.model.specs.declared.Answer.the-variants.{Done, Refused}
-use Rattle.model.specs.Words.{bookLength}
+use Rattle.model.specs.Words.{diaryLength}
 use Rattle.model.specs.Reading.{settingsOf, stateOf}
-use Rattle.model.specs.Laws.{wellLaid, lawful}
+use Rattle.model.specs.Laws.{diaryLaid, lawful}
 use Rattle.model.specs.Calls.{Called, call, calls, check, lay, freshBook, settingsGood, requestsOf, answerable, listed, callList, serveList}
 use Rattle.model.proofs.Calls.{from-fresh}
 use Rattle.model.proofs.Shows.{good-valid}
@@ -29,9 +29,9 @@ done-refused e = absurd (let z : _≡_ {A = ℕ} 0 1 = cc in omega arith)
 -- the book after a refusal of question 1 or 2
 pub request-refused : (b : List ℕ) (r : Request) {n p : ℕ} → check b ≡ Refused n p → answered (Refused n p) b ≡ call b r
 unfolding check call
-request-refused b r {n} {p} e = go (wellLaid b) refl (lawful b) refl e
+request-refused b r {n} {p} e = go (diaryLaid b) refl (lawful b) refl e
   where
-    go : (o : Bool) → wellLaid b ≡ o → (t : Bool) → lawful b ≡ t → check b ≡ Refused n p → answered (Refused n p) b ≡ call b r
+    go : (o : Bool) → diaryLaid b ≡ o → (t : Bool) → lawful b ≡ t → check b ≡ Refused n p → answered (Refused n p) b ≡ call b r
     go true q true s e = done-refused (rw (q, s) at e)
     go true q false s e = rw (q, s) (ap (λ (x : Answer). answered x b) (sym (rw (q, s) at e)))
     go false q t s e = rw q (ap (λ (x : Answer). answered x b) (sym (rw q at e)))
@@ -48,9 +48,9 @@ with-removal b r a c e = (e, call-removes b r a c e)
 -- the list on a book that is refused, and on one that passes
 pub requests-refused : (b w a : List ℕ) {n p : ℕ} → check b ≡ Refused n p → asListed (Refused n p) b a ≡ callList b w a
 unfolding check callList
-requests-refused b w a {n} {p} e = go (wellLaid b) refl (lawful b) refl e
+requests-refused b w a {n} {p} e = go (diaryLaid b) refl (lawful b) refl e
   where
-    go : (o : Bool) → wellLaid b ≡ o → (t : Bool) → lawful b ≡ t → check b ≡ Refused n p → asListed (Refused n p) b a ≡ callList b w a
+    go : (o : Bool) → diaryLaid b ≡ o → (t : Bool) → lawful b ≡ t → check b ≡ Refused n p → asListed (Refused n p) b a ≡ callList b w a
     go true q true s e = done-refused (rw (q, s) at e)
     go true q false s e = rw (q, s) (ap (λ (x : Answer). asListed x b a) (sym (rw (q, s) at e)))
     go false q t s e = rw q (ap (λ (x : Answer). asListed x b a) (sym (rw q at e)))
@@ -70,9 +70,9 @@ requests-done b w a {v} e q all = let g = done-good b v e in rw (g .laid, g .law
 module _ (s b : List ℕ) where
   pub serve-refused : (w a : List ℕ) {n p : ℕ} {b′ : List ℕ} → answered (Refused n p) b′ ≡ lay s b → asListed (Refused n p) b′ a ≡ serveList s b w a
   unfolding lay serveList
-  serve-refused w a {n} {p} {b′} e = go (settingsGood s) refl (eqb (length b) (bookLength (settingsOf s))) refl e
+  serve-refused w a {n} {p} {b′} e = go (settingsGood s) refl (eqb (length b) (diaryLength (settingsOf s))) refl e
     where
-      go : (o : Bool) → settingsGood s ≡ o → (t : Bool) → eqb (length b) (bookLength (settingsOf s)) ≡ t → answered (Refused n p) b′ ≡ lay s b
+      go : (o : Bool) → settingsGood s ≡ o → (t : Bool) → eqb (length b) (diaryLength (settingsOf s)) ≡ t → answered (Refused n p) b′ ≡ lay s b
           → asListed (Refused n p) b′ a ≡ serveList s b w a
       go true q true r e = done-refused (sym (ap (λ (c : Called). c .answer) (rw (q, r) at e)))
       go true q false r e = rw (q, r) (ap (λ (c : Called). asListed (c .answer) (c .book) a) (rw (q, r) at e))
@@ -81,14 +81,14 @@ module _ (s b : List ℕ) where
   -- a done laying
   pub record Laying (b′ : List ℕ) : Type 0 where
     pub good : settingsGood s ≡ true
-    pub fits : eqb (length b) (bookLength (settingsOf s)) ≡ true
+    pub fits : eqb (length b) (diaryLength (settingsOf s)) ≡ true
     pub fresh : b′ ≡ freshBook (settingsOf s)
 
   laying : {v : ℕ} {b′ : List ℕ} → answered (Done v) b′ ≡ lay s b → Laying b′
   unfolding lay
-  laying {v} {b′} e = go (settingsGood s) refl (eqb (length b) (bookLength (settingsOf s))) refl e
+  laying {v} {b′} e = go (settingsGood s) refl (eqb (length b) (diaryLength (settingsOf s))) refl e
     where
-      go : (o : Bool) → settingsGood s ≡ o → (t : Bool) → eqb (length b) (bookLength (settingsOf s)) ≡ t → answered (Done v) b′ ≡ lay s b → Laying b′
+      go : (o : Bool) → settingsGood s ≡ o → (t : Bool) → eqb (length b) (diaryLength (settingsOf s)) ≡ t → answered (Done v) b′ ≡ lay s b → Laying b′
       go true q true r e = record { good = q; fits = r; fresh = ap (λ (c : Called). c .book) (rw (q, r) at e) }
       go true q false r e = done-refused (ap (λ (c : Called). c .answer) (rw (q, r) at e))
       go false q t r e = done-refused (ap (λ (c : Called). c .answer) (rw q at e))
