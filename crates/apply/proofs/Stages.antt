@@ -18,7 +18,7 @@ use Rattle.model.specs.Questions.{always, further}
 use Rattle.model.specs.Machine.{slot}
 use Rattle.model.specs.Words.{Region, slots, items, width, order, diaryLength, word, words, blocks}
 use Rattle.model.specs.Reading.{at, settingsOf, readState, stateOf}
-use Rattle.model.specs.Laws.{diaryLaid, lawful}
+use Rattle.model.specs.Laws.{diaryLaid, diaryLawful}
 use Rattle.model.proofs.Search.{bool-eq}
 use Rattle.model.proofs.Places.{Seated, Cell, words-at, words-ext, length-words, length-settings}
 use Rattle.model.proofs.Keeps.{Yes, slots-fit}
@@ -49,7 +49,7 @@ carries-words x s =
     }
 
 -- a book that passes questions 1 and 2 has the words of the state that it shows
-pub carries-shown : (b : List ℕ) → diaryLaid b ≡ true → lawful b ≡ true → Carries (settingsOf b) (stateOf b) b
+pub carries-shown : (b : List ℕ) → diaryLaid b ≡ true → diaryLawful b ≡ true → Carries (settingsOf b) (stateOf b) b
 unfolding stateOf readState
 carries-shown b q1 q2 =
     subst (λ (l : List ℕ). Carries (settingsOf b) (stateOf b) l) (words-stateOf b q1 q2)

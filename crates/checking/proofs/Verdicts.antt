@@ -1,34 +1,66 @@
--- The three answers of the model's check, and what the answer done leaves to know.
+-- The three answers of the model's check, what the answer done leaves to know, and question 2 by the two parts of a book.
 -- Assumes nothing.
-use Prim.Native.Nat.{ℕ}
-use mathlib.Core.Path.{_≡_, refl}
+use Prim.Native.Nat.{ℕ, _-_, _≤_}
+use mathlib.Core.Path.{_≡_, refl, sym, _∙_, ap}
 use mathlib.Core.Bool.{Bool, true, false}
 use mathlib.Core.List.{List}
 use native.Mathlib.Omega.{arith}
+use lib.ListN.{length, take, drop, length-drop}
+use lib.Seq.{take-all}
+use Rattle.model.specs.declared.Settings.{Settings}
 use Rattle.model.specs.declared.Answer.the-variants.{Done, Refused}
+use Rattle.model.specs.Words.{diaryLength}
 use Rattle.model.specs.Reading.{settingsOf}
-use Rattle.model.specs.Laws.{diaryLaid, lawful}
+use Rattle.model.specs.Tail.{tailKept}
+use Rattle.model.specs.Ledger.{bookLength, diaryOf, behindOf}
+use Rattle.model.specs.Laws.{wellLaid, diaryLaid, lawful, diaryLawful}
+use Rattle.model.proofs.Ledger.{laid-long, laid-diary}
 use Rattle.model.specs.Calls.{check}
-use Rattle.book.specs.Good.{Good}
+use Rattle.book.specs.Good.{GoodBook}
 
 module _ (b : List ℕ) where
-  pub check-one : diaryLaid b ≡ false → check b ≡ Refused 1 0
+  pub check-one : wellLaid b ≡ false → check b ≡ Refused 1 0
   unfolding check
   check-one e = rw e
 
-  pub check-two : diaryLaid b ≡ true → lawful b ≡ false → check b ≡ Refused 2 0
+  pub check-two : wellLaid b ≡ true → lawful b ≡ false → check b ≡ Refused 2 0
   unfolding check
   check-two e f = rw (e, f)
 
-  pub check-done : diaryLaid b ≡ true → lawful b ≡ true → check b ≡ Done 0
+  pub check-done : wellLaid b ≡ true → lawful b ≡ true → check b ≡ Done 0
   unfolding check
   check-done e f = rw (e, f)
 
   -- done: the book passes questions 1 and 2
-  pub done-good : (n : ℕ) → check b ≡ Done n → Good (settingsOf b) b
-  done-good n e = go (diaryLaid b) refl (lawful b) refl
+  pub done-good : (n : ℕ) → check b ≡ Done n → GoodBook (settingsOf b) b
+  done-good n e = go (wellLaid b) refl (lawful b) refl
     where
-      go : (p : Bool) → diaryLaid b ≡ p → (q : Bool) → lawful b ≡ q → Good (settingsOf b) b
+      go : (p : Bool) → wellLaid b ≡ p → (q : Bool) → lawful b ≡ q → GoodBook (settingsOf b) b
       go true p true q = record { read = refl; laid = p; lawful = q }
       go true p false q = let h = check-two p q in let z : _≡_ {A = ℕ} 0 1 = cc in absurd (omega arith)
       go false p q r = let h = check-one p in let z : _≡_ {A = ℕ} 0 1 = cc in absurd (omega arith)
+
+-- question 2 of a book that passes question 1, by its first n words and those behind them, where the diary has n
+module _ (b : List ℕ) (one : wellLaid b ≡ true) (S : Settings) (is : S ≡ settingsOf b) (n : ℕ) (here : n ≡ diaryLength S) where
+  first : diaryOf b ≡ take n b
+  unfolding diaryOf
+  first = ap (λ (k : ℕ). take k b) (ap diaryLength (sym is) ∙ sym here)
+
+  behind : behindOf b ≡ drop n b
+  unfolding behindOf
+  behind = ap (λ (k : ℕ). drop k b) (ap diaryLength (sym is) ∙ sym here)
+
+  pub diary-fits : n ≤ length b
+  unfolding bookLength
+  diary-fits = omega (arith, laid-long b one ∙ ap bookLength (sym is), here)
+
+  pub first-laid : diaryLaid (take n b) ≡ true
+  first-laid = rw (← first) (laid-diary b one)
+
+  pub two-no : diaryLawful (take n b) ≡ false → lawful b ≡ false
+  unfolding lawful
+  two-no e = rw (first, e)
+
+  pub two-yes : diaryLawful (take n b) ≡ true → tailKept (take (length b - n) (drop n b)) ≡ lawful b
+  unfolding lawful
+  two-yes e = rw (first, e, behind) (ap tailKept (take-all (length b - n) (drop n b) (omega (arith, length-drop n b))))
