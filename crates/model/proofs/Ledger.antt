@@ -2,7 +2,7 @@
 -- and the ledger that it shows are read from each other.
 -- Assumes nothing.
 use Prim.Native.Nat.{ℕ, _+_, _≤_, _<_}
-use mathlib.Core.Path.{_≡_, refl, _∙_, ap, ap₂}
+use mathlib.Core.Path.{_≡_, refl, sym, _∙_, ap, ap₂}
 use mathlib.Core.Bool.{Bool, true, false, _&&_, cond}
 use mathlib.Core.List.{List, _++_}
 use native.Mathlib.Omega.{arith}
@@ -71,6 +71,16 @@ diary-settings b =
 pub diary-behind : (b : List ℕ) → diaryOf b ++ behindOf b ≡ b
 unfolding diaryOf behindOf
 diary-behind b = take-append-drop (diaryLength (settingsOf b)) b
+
+-- the two parts by the number of the diary's words
+module _ (b : List ℕ) {S : Settings} {n : ℕ} (is : S ≡ settingsOf b) (e : n ≡ diaryLength S) where
+  pub first-part : diaryOf b ≡ take n b
+  unfolding diaryOf
+  first-part = ap (λ (k : ℕ). take k b) (ap diaryLength (sym is) ∙ sym e)
+
+  pub part-behind : behindOf b ≡ drop n b
+  unfolding behindOf
+  part-behind = ap (λ (k : ℕ). drop k b) (ap diaryLength (sym is) ∙ sym e)
 
 -- question 1 of the book
 module _ (b : List ℕ) (one : wellLaid b ≡ true) where
