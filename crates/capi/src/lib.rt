@@ -8,8 +8,8 @@ use model::Request;
 ghost use mathlib.Core.Path.{_≡_};
 ghost use mathlib.Core.Bool.{cond};
 ghost use Rattle.model.specs.Machine.{answerWords};
-ghost use Rattle.model.specs.Words.{diaryLength};
 ghost use Rattle.model.specs.Reading.{settingsOf};
+ghost use Rattle.model.specs.Ledger.{bookLength};
 ghost use Rattle.model.specs.Calls;
 ghost use Rattle.model.specs.Calls.{settingsGood};
 ghost use Rattle.capi.specs.Answers.{wordsOf, requestBy, Tells, TellsList};
@@ -68,7 +68,7 @@ fn told(a: Answer) -> AnswerWords
 // How many words the book of these settings has, and 0 for settings that question 24 refuses.
 #[no_mangle]
 pub extern "C" fn caviar_book_len(settings: &[u32]) -> u64
-    ensures { λ r. ⌜ r ≡ cond (settingsGood (now (settings .entry))) (diaryLength (settingsOf (now (settings .entry)))) 0 ⌝ }
+    ensures { λ r. ⌜ r ≡ cond (settingsGood (now (settings .entry))) (bookLength (settingsOf (now (settings .entry)))) 0 ⌝ }
 {
     book_len(settings) as u64
 }
