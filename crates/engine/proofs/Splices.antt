@@ -8,7 +8,6 @@ use lib.ListN.{length, set, take, drop, length-append, length-take, length-drop,
 use lib.Seq.{take-at, drop-at, drop-drop, sets-eq}
 use Rattle.model.specs.declared.Settings.{Settings}
 use Rattle.model.specs.declared.Request.{Request}
-use Rattle.model.specs.declared.Answer.{Answer}
 use Rattle.model.specs.declared.Answer.the-variants.{Done, Refused}
 use Rattle.model.specs.Machine.{Call, request, Reply, told, replyWords, perform, requestOf}
 use Rattle.model.specs.Ledger.{ledgerOf}
@@ -66,8 +65,8 @@ left-start w n b a =
       behind = refl;
     }
 
-module _ (S : Settings) (w : List ℕ) (n : ℕ) (b₀ a₀ : List ℕ) (i : ℕ) (b a b′ a′ : List ℕ) (good : GoodBook S b) (h : i < n) (room : n * 3 ≤ length a₀)
-    (l : Left w n b₀ a₀ i b a) (one : One w i b a b′ a′) where
+module _ (S : Settings) (w : List ℕ) (n : ℕ) (b₀ a₀ : List ℕ) (i : ℕ) (b a b′ a′ : List ℕ) (good : GoodBook S b) (h : i < n)
+    (room : n * 3 ≤ length a₀) (l : Left w n b₀ a₀ i b a) (one : One w i b a b′ a′) where
   r : Request
   r = requestOf (drop (i * 7) w)
 
@@ -87,7 +86,8 @@ module _ (S : Settings) (w : List ℕ) (n : ℕ) (b₀ a₀ : List ℕ) (i : ℕ
   unfolding r
   taken =
       ap (calls b) first ∙ good-calls good r rest
-      ∙ ap (λ (v : List ℕ). record { replies = perform (ledgerOf b) (request r) .reply ∷ calls v rest .replies; book = calls v rest .book }) (sym (one .book))
+      ∙ ap (λ (v : List ℕ). record { replies = perform (ledgerOf b) (request r) .reply ∷ calls v rest .replies; book = calls v rest .book })
+      (sym (one .book))
 
   fits : i * 3 + 3 ≤ length a
   fits = omega (arith, l .long)
@@ -117,7 +117,8 @@ module _ (S : Settings) (w : List ℕ) (n : ℕ) (b₀ a₀ : List ℕ) (i : ℕ
       record {
         most = omega arith;
         long = ap length (one .answers)
-            ∙ spliced-length a (i * 3) fits (replyWords (perform (ledgerOf b) (request r) .reply)) (three (perform (ledgerOf b) (request r) .reply)) ∙ l .long;
+            ∙ spliced-length a (i * 3) fits (replyWords (perform (ledgerOf b) (request r) .reply)) (three (perform (ledgerOf b) (request r) .reply))
+            ∙ l .long;
         book = sym (ap (λ (c : Calls). c .book) taken) ∙ l .book;
         answers =
             ap (λ (v : List ℕ). v ++ repliesWords (calls b′ rest .replies)) written

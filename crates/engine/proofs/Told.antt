@@ -82,7 +82,8 @@ told-refused (suc n) p v h = refl
 
 -- a list of one request on a good book is one step
 pub one-told : {S : Settings} {b : List ℕ} → GoodBook S b → (r : Request) {a b′ a′ : List ℕ}
-    → All (r .kind ∷ r .a ∷ r .b ∷ r .first ∷ r .last ∷ r .n ∷ r .info ∷ []) 1 b a b′ a′ → answered (read a′) b′ ≡ called (perform (ledgerOf b) (request r))
+    → All (r .kind ∷ r .a ∷ r .b ∷ r .first ∷ r .last ∷ r .n ∷ r .info ∷ []) 1 b a b′ a′
+    → answered (read a′) b′ ≡ called (perform (ledgerOf b) (request r))
 unfolding calls requestsOf repliesWords
 one-told {S} {b} good r {a} {b′} {a′} all =
     let e = good-calls good r [] in
