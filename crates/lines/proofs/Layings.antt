@@ -14,7 +14,7 @@ use Rattle.model.specs.declared.Answer.{Answer}
 use Rattle.model.specs.declared.Answer.the-variants as A
 use Rattle.model.specs.Site.{validSettings}
 use Rattle.model.specs.State.{State, emptyState}
-use Rattle.model.specs.Words.{diaryLength}
+use Rattle.model.specs.Words.{bookLength}
 use Rattle.model.specs.Reading.{settingsOf, stateOf}
 use Rattle.model.specs.Calls.{Called, settingsGood, freshBook, laid, lay}
 use Rattle.model.specs.Lines.{wholeWords, lineWords, answerLine, programWords}
@@ -42,25 +42,25 @@ layable-24 : (w : List ℕ) → layable false w ≡ Refused 24
 unfolding layable
 layable-24 w = refl
 
-layable-25 : (w : List ℕ) → programWords < diaryLength (settingsOf w) → layable true w ≡ Refused 25
+layable-25 : (w : List ℕ) → programWords < bookLength (settingsOf w) → layable true w ≡ Refused 25
 unfolding layable
-layable-25 w h = simp (lt-leb (diaryLength (settingsOf w)) programWords h)
+layable-25 w h = simp (lt-leb (bookLength (settingsOf w)) programWords h)
 
-layable-book : (w : List ℕ) → diaryLength (settingsOf w) ≤ programWords → layable true w ≡ Book (diaryLength (settingsOf w))
+layable-book : (w : List ℕ) → bookLength (settingsOf w) ≤ programWords → layable true w ≡ Book (bookLength (settingsOf w))
 unfolding layable
-layable-book w h = simp (le-leb (diaryLength (settingsOf w)) programWords h)
+layable-book w h = simp (le-leb (bookLength (settingsOf w)) programWords h)
 
-long : (S : Settings) → 9 ≤ diaryLength S
-unfolding diaryLength
+long : (S : Settings) → 9 ≤ bookLength S
+unfolding bookLength
 long S = omega arith
 
 -- the length that a list of words asks for
-needed-by : (w : List ℕ) (t : Bool) → settingsGood w ≡ t → neededLength w ≡ cond t (diaryLength (settingsOf w)) 0
+needed-by : (w : List ℕ) (t : Bool) → settingsGood w ≡ t → neededLength w ≡ cond t (bookLength (settingsOf w)) 0
 unfolding neededLength
 needed-by w t h = rw h
 
 module _ (w : List ℕ) {size : ℕ} (e : size ≡ neededLength w) where
-  good-by : (t : Bool) → settingsGood w ≡ t → (size ≡ 0 → ⊥) → (settingsGood w ≡ true) × (size ≡ diaryLength (settingsOf w))
+  good-by : (t : Bool) → settingsGood w ≡ t → (size ≡ 0 → ⊥) → (settingsGood w ≡ true) × (size ≡ bookLength (settingsOf w))
   good-by true h n = (h, e ∙ needed-by w true h)
   good-by false h n = absurd (n (e ∙ needed-by w false h))
 
@@ -82,10 +82,10 @@ module _ (w : List ℕ) {size : ℕ} (e : size ≡ neededLength w) where
         refused = λ n q. refl;
       }
 
-lay-good : (w b : List ℕ) → settingsGood w ≡ true → length b ≡ diaryLength (settingsOf w)
+lay-good : (w b : List ℕ) → settingsGood w ≡ true → length b ≡ bookLength (settingsOf w)
     → lay w b ≡ record { answer = A.Done 0; book = freshBook (settingsOf w) }
 unfolding lay
-lay-good w b h e = simp (h, eq-eqb (length b) (diaryLength (settingsOf w)) e)
+lay-good w b h e = simp (h, eq-eqb (length b) (bookLength (settingsOf w)) e)
 
 pub laid-good : (w b : List ℕ) {last : List ℕ} {a : Answer} {size : ℕ} → size ≡ neededLength w → (size ≡ 0 → ⊥) → size ≤ 16384 → 16384 ≤ length b
     → answered a last ≡ lay w (take size b) → length last ≡ length (take size b) → LaidOf w b (Book size) (last ++ drop size b)
@@ -135,26 +135,26 @@ module _ (l : List ℕ) where
   unfolding opened
   opened-24 h = simp h
 
-  opened-25 : wholeWords l && settingsGood (lineWords l) ≡ true → leb (diaryLength S) programWords ≡ false
+  opened-25 : wholeWords l && settingsGood (lineWords l) ≡ true → leb (bookLength S) programWords ≡ false
       → opened l ≡ record { out = answerLine (A.Refused 25 0); point = over }
   unfolding opened
   opened-25 h k = simp (h, k)
 
-  opened-book : wholeWords l && settingsGood (lineWords l) ≡ true → leb (diaryLength S) programWords ≡ true
+  opened-book : wholeWords l && settingsGood (lineWords l) ≡ true → leb (bookLength S) programWords ≡ true
       → opened l ≡ silent (later (emptyState S) [])
   unfolding opened
   opened-book h k = simp (h, k)
 
   -- what was found of a line that lays a book, and of one that is refused
-  book-by : {n : ℕ} (t u : Bool) → wholeWords l && settingsGood (lineWords l) ≡ t → leb (diaryLength S) programWords ≡ u
-      → Book n ≡ cond t (cond u (Book (diaryLength S)) (Refused 25)) (Refused 24)
+  book-by : {n : ℕ} (t u : Bool) → wholeWords l && settingsGood (lineWords l) ≡ t → leb (bookLength S) programWords ≡ u
+      → Book n ≡ cond t (cond u (Book (bookLength S)) (Refused 25)) (Refused 24)
       → (validSettings S ≡ true) × (opened l ≡ silent (later (emptyState S) []))
   book-by true true h k e = (good-valid (lineWords l) (and-right (wholeWords l) _ h), opened-book h k)
   book-by true false h k e = no-book (sym e)
   book-by false u h k e = no-book (sym e)
 
-  number-by : {n : ℕ} (t u : Bool) → wholeWords l && settingsGood (lineWords l) ≡ t → leb (diaryLength S) programWords ≡ u
-      → Refused n ≡ cond t (cond u (Book (diaryLength S)) (Refused 25)) (Refused 24)
+  number-by : {n : ℕ} (t u : Bool) → wholeWords l && settingsGood (lineWords l) ≡ t → leb (bookLength S) programWords ≡ u
+      → Refused n ≡ cond t (cond u (Book (bookLength S)) (Refused 25)) (Refused 24)
       → opened l ≡ record { out = answerLine (A.Refused n 0); point = over }
   number-by true true h k e = no-book e
   number-by {n} true false h k e = let q : 25 ≡ n = cc in opened-25 h k ∙ ap (λ (m : ℕ). record { out = answerLine (A.Refused m 0); point = over }) q

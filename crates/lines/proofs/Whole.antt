@@ -17,7 +17,7 @@ use Rattle.model.proofs.Search.{and-left, and-right}
 use Rattle.model.proofs.ReadBack.{valid-is}
 use Rattle.model.specs.State.{State, emptyState}
 use Rattle.model.specs.Machine.{Outcome}
-use Rattle.model.specs.Words.{diaryLength}
+use Rattle.model.specs.Words.{bookLength}
 use Rattle.model.specs.Reading.{settingsOf}
 use Rattle.model.specs.Calls.{settingsGood}
 use Rattle.model.specs.declared.Answer.the-variants.{Refused}
@@ -206,7 +206,7 @@ abbrev isSettings : List ℕ → Bool
 isSettings l = wholeWords l && settingsGood (lineWords l)
 
 abbrev fitting : List ℕ → Bool
-fitting l = leb (diaryLength (settingsOf (lineWords l))) programWords
+fitting l = leb (bookLength (settingsOf (lineWords l))) programWords
 
 settings-by : (l bs : List ℕ) (t u : Bool) → isSettings l ≡ t → fitting l ≡ u
     → opened l .out ++ whole (opened l .point) bs .out ≡ output (l ∷ linesOf bs)

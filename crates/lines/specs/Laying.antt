@@ -6,7 +6,7 @@ use mathlib.Core.Bool.{Bool, _&&_, cond}
 use mathlib.Core.List.{List}
 use lib.Dec.{leb}
 use lib.ListN.{length, take, drop}
-use Rattle.model.specs.Words.{diaryLength}
+use Rattle.model.specs.Words.{bookLength}
 use Rattle.model.specs.Reading.{settingsOf}
 use Rattle.model.specs.Calls.{settingsGood, freshBook}
 use Rattle.model.specs.Lines.{wholeWords, lineWords, programWords}
@@ -17,7 +17,7 @@ use Rattle.lines.specs.declared.lay.Laid.the-variants.{Book, Refused}
 unfoldable pub layable : Bool → List ℕ → Laid
 layable good w =
     cond good
-    (cond (leb (diaryLength (settingsOf w)) programWords) (Book (diaryLength (settingsOf w))) (Refused 25))
+    (cond (leb (bookLength (settingsOf w)) programWords) (Book (bookLength (settingsOf w))) (Refused 25))
     (Refused 24)
 
 -- the words w were laid at the front of b₀, or refused, which changes nothing

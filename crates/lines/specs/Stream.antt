@@ -8,7 +8,7 @@ use lib.ListN.{take}
 use Rattle.model.specs.declared.Answer.the-variants.{Refused}
 use Rattle.model.specs.State.{State, emptyState}
 use Rattle.model.specs.Machine.{Outcome}
-use Rattle.model.specs.Words.{diaryLength}
+use Rattle.model.specs.Words.{bookLength}
 use Rattle.model.specs.Reading.{settingsOf}
 use Rattle.model.specs.Calls.{settingsGood}
 use Rattle.model.specs.Lines.{wholeWords, lineWords, answerLine, lineOutcome, programWords}
@@ -47,7 +47,7 @@ behind o t = record { out = o ++ t .out; point = t .point }
 unfoldable pub opened : List ℕ → Turn
 opened l =
     cond (wholeWords l && settingsGood (lineWords l))
-    (cond (leb (diaryLength (settingsOf (lineWords l))) programWords)
+    (cond (leb (bookLength (settingsOf (lineWords l))) programWords)
     (silent (later (emptyState (settingsOf (lineWords l))) []))
     (record { out = answerLine (Refused 25 0); point = over }))
     (record { out = answerLine (Refused 24 0); point = over })
