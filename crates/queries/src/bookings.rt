@@ -87,8 +87,8 @@ pub fn bookings(book: &[u32], s: Settings, visitor: u32, first: Date, last: Date
     n
 }
 
-// Has the visitor an entry on the date? What costs least is asked first: leave, without which there is none, a hotel room, a meeting,
-// and a ride, whose times are many.
+// Has the visitor an entry on the date? What costs least is asked first: leave, without which there is none, a meeting, whose cell is the
+// visitor's own, a hotel room, which is searched for in a row, and a ride, searched for in a row of each time.
 pub fn has_bookings(book: &[u32], s: Settings, g: Grids, visitor: u32, date: Date) -> bool
     requires { ⌜ Good s (reading (now book)) ⌝ }
     requires { ⌜ g ≡ gridsOf s ⌝ }
@@ -99,11 +99,11 @@ pub fn has_bookings(book: &[u32], s: Settings, g: Grids, visitor: u32, date: Dat
     if !on_leave(book, s, g, date, visitor) {
         return false;
     }
-    if row_count(book, g.hotel, date.0, visitor + 1) != 0 {
-        return true;
-    }
     let sessions = sessions_on(s, date, date);
     if column_count(book, g.attend, visitor, sessions.from.0, sessions.to.0) != 0 {
+        return true;
+    }
+    if row_count(book, g.hotel, date.0, visitor + 1) != 0 {
         return true;
     }
     let times = times_on(s, date, date);
