@@ -49,6 +49,23 @@ fn column_count(book: &[u32], g: Grid, item: u32, lo: u32, hi: u32) -> u32
     n
 }
 
+// Is the item's cell full in one of them? The rows lie far apart, so that the search ends with the first.
+fn column_has(book: &[u32], g: Grid, item: u32, lo: u32, hi: u32) -> bool
+    requires { ⌜ Lies g (reading (now book)) ⌝ }
+    requires { ⌜ item < g .items ⌝ }
+    requires { ⌜ hi ≤ g .slots ⌝ }
+    ensures { λ r. ⌜ r ≡ not (eqb (columnCount g (reading (now (book .entry))) item lo hi) 0) ⌝ }
+{
+    let mut i = lo;
+    while i < hi {
+        if cell(book, g, i, item) != 0 {
+            return true;
+        }
+        i += 1;
+    }
+    false
+}
+
 // The entries of the visitor on the date: there are none without leave, and else they are searched for in every slot of the date.
 fn entries_on(book: &[u32], s: Settings, g: Grids, visitor: u32, date: Date) -> u32
     requires { ⌜ Good s (reading (now book)) ⌝ }
@@ -100,7 +117,7 @@ pub fn has_bookings(book: &[u32], s: Settings, g: Grids, visitor: u32, date: Dat
         return false;
     }
     let sessions = sessions_on(s, date, date);
-    if column_count(book, g.attend, visitor, sessions.from.0, sessions.to.0) != 0 {
+    if column_has(book, g.attend, visitor, sessions.from.0, sessions.to.0) {
         return true;
     }
     if row_count(book, g.hotel, date.0, visitor + 1) != 0 {
