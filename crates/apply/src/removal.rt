@@ -55,7 +55,14 @@ fn remove_on(book: &mut [u32], s: Settings, g: Grids, v: u32, date: Date) -> u32
 }
 
 // The dates first..last, both included; how many bookings are erased.
-pub fn remove_visitor(book: &mut [u32], s: Settings, g: Grids, v: u32, first: Date, last: Date) -> u32
+pub fn remove_visitor(
+    book: &mut [u32],
+    s: Settings,
+    g: Grids,
+    v: u32,
+    first: Date,
+    last: Date,
+) -> u32
     requires { ⌜ Good s (reading (now book)) ⌝ }
     requires { ⌜ g ≡ gridsOf s ⌝ }
     requires { ⌜ v < s .visitors ⌝ }
