@@ -73,11 +73,13 @@ pub record Kept (S : Settings) (h : Region) (b c : List ℕ) : Type 0 where
   pub cell : (i j : ℕ) → i < slots S h → j < items S h → cellAt (gridOf S h) c i j ≡ cellAt (gridOf S h) b i j
 
 module _ {S : Settings} {h : Region} {b c : List ℕ} where
-  pub kept-by : {g : Region} {d : ℕ → ℕ → Bool} {f : ℕ → ℕ → ℕ → ℕ} {F : List ℕ → List ℕ} → Writes S g d f F → eqb (index h) (index g) ≡ false → c ≡ F b
-      → Kept S h b c
+  pub kept-by : {g : Region} {d : ℕ → ℕ → Bool} {f : ℕ → ℕ → ℕ → ℕ} {F : List ℕ → List ℕ} → Writes S g d f F → eqb (index h) (index g) ≡ false
+      → c ≡ F b → Kept S h b c
   unfolding cellAt address
   kept-by w e q =
-      record { cell = λ i j a k. ap (λ (c : List ℕ). at S c h i j 0) q ∙ w .other b h i j 0 (record { slot = a; item = k; word = width-le h .0 }) (rw e) }
+      record {
+        cell = λ i j a k. ap (λ (c : List ℕ). at S c h i j 0) q ∙ w .other b h i j 0 (record { slot = a; item = k; word = width-le h .0 }) (rw e);
+      }
 
   pub rows-kept : Kept S h b c → (w lo hi : ℕ) → hi ≤ slots S h → rowsCount (gridOf S h) c w lo hi ≡ rowsCount (gridOf S h) b w lo hi
   unfolding rowsCount rowCount
@@ -86,7 +88,8 @@ module _ {S : Settings} {h : Region} {b c : List ℕ} where
       (λ i p q. count-same (λ j. eqb (cellAt (gridOf S h) c i j) w) (λ j. eqb (cellAt (gridOf S h) b i j) w) (items S h)
       (λ j r. ap (λ (v : ℕ). eqb v w) (k .cell i j (omega arith) r)))
 
-  pub column-kept : Kept S h b c → (j lo hi : ℕ) → j < items S h → hi ≤ slots S h → columnCount (gridOf S h) c j lo hi ≡ columnCount (gridOf S h) b j lo hi
+  pub column-kept : Kept S h b c → (j lo hi : ℕ) → j < items S h → hi ≤ slots S h
+      → columnCount (gridOf S h) c j lo hi ≡ columnCount (gridOf S h) b j lo hi
   unfolding columnCount
   column-kept k j lo hi hj l =
       sum-agree (λ i. one (not (eqb (cellAt (gridOf S h) c i j) 0))) (λ i. one (not (eqb (cellAt (gridOf S h) b i j) 0))) lo (hi - lo)

@@ -79,7 +79,8 @@ module _ (g : Grid) (lo hi : ℕ) (e : g .width ≡ 1) (b row : List ℕ) (p : P
   unfolding partCount
   part-counts w =
       ap (count (λ j. eqb (getD row j 0) w)) part-long
-      ∙ count-same (λ j. eqb (getD row j 0) w) (λ j. eqb (getD b (start + j) 0) w) ((hi - lo) * g .items) (λ j t. ap (λ (v : ℕ). eqb v w) (part-at j t))
+      ∙ count-same (λ j. eqb (getD row j 0) w) (λ j. eqb (getD b (start + j) 0) w) ((hi - lo) * g .items)
+      (λ j t. ap (λ (v : ℕ). eqb v w) (part-at j t))
       ∙ sum-on (λ n. one (eqb (getD b n 0) w)) start 0 ((hi - lo) * g .items)
       ∙ ap (λ (n : ℕ). sumFrom (λ n. one (eqb (getD b n 0) w)) n ((hi - lo) * g .items)) (let z : start + 0 ≡ start = omega arith in z)
       ∙ rows-words g e b w lo hi

@@ -317,8 +317,9 @@ returns-10 : tie.Need-returns-10
 unfolding kindOf
 returns-10 c = let s = c .before .before .before .before .before .before in
     let a = s .args in
+    let m = c .before .before .before .before .match in
     let w : Known (a .s) (reading (a .book .now)) (a .g) (a .r) eraseAttend
-    = record { good = s .pre .0; grids = s .pre .1 .0; done = s .pre .1 .1 .0; kind = ap kindOf (c .before .before .before .before .match .keys10) } in
+    = record { good = s .pre .0; grids = s .pre .1 .0; done = s .pre .1 .1 .0; kind = ap kindOf (m .keys10) } in
     c .before .before .take3 .ensures .is
     ∙ arm w (λ S g. filled (g .attend) (a .r .b) empty (a .r .first) (a .r .last + 1) (reading (a .book .now)))
     (λ x _ z l y. write-eraseAttend x z (a .r) (reading (a .book .now)) l y)
@@ -330,8 +331,9 @@ returns-11 : tie.Need-returns-11
 unfolding kindOf
 returns-11 c = let s = c .before .before .before .before .before .before in
     let a = s .args in
+    let m = c .before .before .before .before .match in
     let w : Known (a .s) (reading (a .book .now)) (a .g) (a .r) addConf
-    = record { good = s .pre .0; grids = s .pre .1 .0; done = s .pre .1 .1 .0; kind = ap kindOf (c .before .before .before .before .match .keys11) } in
+    = record { good = s .pre .0; grids = s .pre .1 .0; done = s .pre .1 .1 .0; kind = ap kindOf (m .keys11) } in
     c .before .before .add4 .ensures .is
     ∙ arm w (λ S g. filled (g .conf) (a .r .a) (full (a .r .b) (a .r .info) 0) (a .r .first) (a .r .last + 1) (reading (a .book .now)))
     (λ x _ z l y. write-addConf x z (a .r) (reading (a .book .now)) l y)
@@ -343,8 +345,9 @@ returns-12 : tie.Need-returns-12
 unfolding kindOf
 returns-12 c = let s = c .before .before .before .before .before .before in
     let a = s .args in
+    let m = c .before .before .before .before .match in
     let w : Known (a .s) (reading (a .book .now)) (a .g) (a .r) eraseConf
-    = record { good = s .pre .0; grids = s .pre .1 .0; done = s .pre .1 .1 .0; kind = ap kindOf (c .before .before .before .before .match .keys12) } in
+    = record { good = s .pre .0; grids = s .pre .1 .0; done = s .pre .1 .1 .0; kind = ap kindOf (m .keys12) } in
     c .before .before .drop .ensures .is
     ∙ arm w (λ S g. swept (g .conf) (a .r .b + 1) (a .r .first) (a .r .last + 1) (reading (a .book .now)))
     (λ x _ z l y. write-eraseConf x z (a .r) (reading (a .book .now)) l y)
@@ -356,8 +359,9 @@ returns-13 : tie.Need-returns-13
 unfolding kindOf
 returns-13 c = let s = c .before .before .before .before .before .before in
     let a = s .args in
+    let m = c .before .before .before .before .match in
     let w : Known (a .s) (reading (a .book .now)) (a .g) (a .r) addLunch
-    = record { good = s .pre .0; grids = s .pre .1 .0; done = s .pre .1 .1 .0; kind = ap kindOf (c .before .before .before .before .match .keys13) } in
+    = record { good = s .pre .0; grids = s .pre .1 .0; done = s .pre .1 .1 .0; kind = ap kindOf (m .keys13) } in
     c .before .before .add5 .ensures .is
     ∙ arm w (λ S g. filled (g .lunch) (a .r .b) (full (a .r .a) (a .r .n) (a .r .info)) (a .r .first) (a .r .last + 1) (reading (a .book .now)))
     (λ x _ z l y. write-addLunch x z (a .r) (reading (a .book .now)) l y)
@@ -369,8 +373,9 @@ returns-14 : tie.Need-returns-14
 unfolding kindOf
 returns-14 c = let s = c .before .before .before .before .before .before in
     let a = s .args in
+    let m = c .before .before .before .before .match in
     let w : Known (a .s) (reading (a .book .now)) (a .g) (a .r) eraseLunch
-    = record { good = s .pre .0; grids = s .pre .1 .0; done = s .pre .1 .1 .0; kind = ap kindOf (c .before .before .before .before .match .keys14) } in
+    = record { good = s .pre .0; grids = s .pre .1 .0; done = s .pre .1 .1 .0; kind = ap kindOf (m .keys14) } in
     c .before .before .take4 .ensures .is
     ∙ arm w (λ S g. filled (g .lunch) (a .r .b) empty (a .r .first) (a .r .last + 1) (reading (a .book .now)))
     (λ x _ z l y. write-eraseLunch x z (a .r) (reading (a .book .now)) l y)
@@ -382,8 +387,9 @@ returns-15 : tie.Need-returns-15
 unfolding kindOf
 returns-15 c = let s = c .before .before .before .before .before .before in
     let a = s .args in
+    let m = c .before .before .before .before .match in
     let w : Known (a .s) (reading (a .book .now)) (a .g) (a .r) eraseConfAndLunch
-    = record { good = s .pre .0; grids = s .pre .1 .0; done = s .pre .1 .1 .0; kind = ap kindOf (c .before .before .before .before .match .keys15) } in
+    = record { good = s .pre .0; grids = s .pre .1 .0; done = s .pre .1 .1 .0; kind = ap kindOf (m .keys15) } in
     c .before .before .erase-conf-and-lunch .ensures .is
     ∙ arm w (λ S g. filled (g .lunch) (a .r .b) empty (dateOfSession S (a .r .first)) (dateOfSession S (a .r .last) + 1)
     (swept (g .conf) (a .r .b + 1) (a .r .first) (a .r .last + 1) (reading (a .book .now))))

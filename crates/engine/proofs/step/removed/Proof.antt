@@ -41,7 +41,8 @@ returns-2 c =
     let f = c .before .before .before .before .before .before in
     let s = f .before .before .before in
     let e = c .before .before .remove-visitor .ensures in
-    removal-done (s .pre .0) (s .args .r) (s .pre .1) _ (f .first-no .ensures ∙ ap (λ (w : Row). fieldsNo w (s .args .r)) (f .before .row-of .ensures))
+    removal-done (s .pre .0) (s .args .r) (s .pre .1) _
+    (f .first-no .ensures ∙ ap (λ (w : Row). fieldsNo w (s .args .r)) (f .before .row-of .ensures))
     (c .before .before .before .before .before .if1 .left) _ _ (e .0) (e .1)
 
 pub removed-spec : {M : Type 1} → statement M
