@@ -41,7 +41,7 @@ items-le S h confPairs = omega (arith, h .rooms)
 items-le S h lunchTriples = omega (arith, h .meetings)
 items-le S h rideCells = omega (arith, h .transports)
 
-width-le : (g : Region) → (1 ≤ width g) × (width g ≤ 3)
+pub width-le : (g : Region) → (1 ≤ width g) × (width g ≤ 3)
 width-le leaves = (omega arith, omega arith)
 width-le hotelCells = (omega arith, omega arith)
 width-le standings = (omega arith, omega arith)

@@ -24,7 +24,8 @@ ghost use Rattle.book.specs.Good.{Good};
 ghost use Rattle.queries.specs.Shown.{columnCount};
 ghost use Rattle.book.specs.Lent.{reading, Lies};
 
-fn full(w: u32) -> u32
+// 1 for a cell with an entry, whose first word is not 0.
+pub fn full(w: u32) -> u32
     ensures { λ r. ⌜ r ≡ one (not (eqb w 0)) ⌝ }
 {
     if w == 0 {
