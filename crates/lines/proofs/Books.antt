@@ -22,7 +22,7 @@ use Rattle.model.proofs.ReadBack.{stateOf-words}
 use Rattle.model.proofs.Frame.{step-settings}
 use Rattle.model.proofs.Calls.{step-sound, empty-sound, fresh-words}
 use native.Mathlib.Omega.{arith}
-use Rattle.lines.specs.Digits.{frameDigits}
+use Rattle.lines.specs.Frame.{frameDigits}
 use Rattle.lines.specs.Post.{Free, NextOf, TakenOf}
 use Rattle.lines.specs.declared.line.Next.{Next}
 use Rattle.lines.specs.declared.line.Next.the-variants.{Frame, Other}

@@ -13,11 +13,13 @@ use Rattle.model.specs.declared.Request.{Request}
 use Rattle.model.specs.declared.Answer.{Answer}
 use Rattle.model.specs.declared.Answer.the-variants.{Done, Refused}
 use Rattle.model.specs.Machine.{answerWords, requestOf}
-use Rattle.model.specs.Lines.{isFrame, wordDigits, hexadecimal, lineWords, shown, wholeWords}
+use Rattle.model.specs.Text.{wordDigits, hexadecimal, shown}
+use Rattle.model.specs.Lines.{isFrame, lineWords, wholeWords}
 use Rattle.model.proofs.Search.{and-left, and-right}
 pub use Rattle.model.proofs.Search.{never as not-so}
 use Rattle.model.proofs.Places.{length-list, getD-list}
-use Rattle.lines.specs.Digits.{frameDigits, digitsOnly}
+use Rattle.text.specs.Digits.{digitsOnly}
+use Rattle.lines.specs.Frame.{frameDigits}
 
 -- the words of a line
 pub words-length : (l : List ℕ) → length (lineWords l) ≡ length l / 8

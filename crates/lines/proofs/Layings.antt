@@ -22,7 +22,7 @@ use Rattle.model.proofs.Search.{never, and-right, both}
 use Rattle.model.proofs.Shows.{good-valid}
 use Rattle.book.specs.Good.{answered}
 use Rattle.book.specs.Heads.{neededLength}
-use Rattle.lines.specs.Digits.{Put}
+use Rattle.text.specs.Put.{Put}
 use Rattle.lines.specs.Stream.{settingsMost, later, over, silent, opened}
 use Rattle.lines.specs.Laying.{layable, LaidOf, LaidBy}
 use Rattle.lines.specs.Post.{EndedOf}

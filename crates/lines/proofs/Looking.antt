@@ -11,8 +11,8 @@ use lib.Seq.{getD-take, length-take-le, take-length}
 use borrow.Author.Tests.{ltb-true, lt-ltb, le-ltb, eqb-true, eq-eqb, ne-eqb}
 use Rattle.model.specs.Lines.{isFrame}
 use Rattle.model.proofs.Search.{and-left, and-right, both}
-use Rattle.lines.specs.Digits.{frameDigits, isDigit, digitsOnly, LineEnd}
-use Rattle.lines.specs.Frame.{frameAhead}
+use Rattle.text.specs.Digits.{isDigit, digitsOnly}
+use Rattle.lines.specs.Frame.{frameDigits, LineEnd, frameAhead}
 use Rattle.lines.specs.Post.{Free, Leads}
 use Rattle.lines.proofs.Framing.{is-frame, no-frame, frame-parts}
 

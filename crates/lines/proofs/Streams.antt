@@ -15,7 +15,7 @@ use Rattle.model.specs.Reading.{settingsOf, stateOf}
 use Rattle.model.specs.Lines.{lineOutcome}
 use Rattle.model.proofs.Search.{both}
 use Rattle.book.specs.Good.{Good}
-use Rattle.lines.specs.Digits.{LineEnd}
+use Rattle.lines.specs.Frame.{LineEnd}
 use Rattle.lines.specs.Stream.{heldMost, kept, Turn, opening, later, over, silent, behind, opened, told, ended, longer, byte, run, closed}
 use Rattle.lines.specs.Post.{Free, heldOf, Holds, pointAt, pointOf, Going, Moved, Begun, endPoint, EndedOf, isLater, Told}
 use Rattle.lines.specs.declared.stream.Held.{Held}
@@ -27,7 +27,7 @@ use Rattle.lines.proofs.Looking.{all-free, end-leads}
 use Rattle.lines.proofs.Whole.{byte-end, byte-in}
 use Rattle.lines.proofs.Turns.{grown, Kept, later-kept, run-free, run-leads, run-alone, run-out, rest-none, ends-le, ends-one, tail-is}
 use Rattle.lines.proofs.Keeping.{holds-own}
-use Rattle.lines.proofs.Puts.{drop-behind}
+use Rattle.text.proofs.Puts.{drop-behind}
 
 -- a good book by its own settings
 own : {S : Settings} {b : List ℕ} → Good S b → Good (settingsOf b) b

@@ -17,13 +17,14 @@ use Rattle.model.specs.declared.Answer.the-variants.{Done, Refused}
 use Rattle.model.specs.State.{State}
 use Rattle.model.specs.Reading.{stateOf}
 use Rattle.model.specs.Calls.{Called, called}
-use Rattle.model.specs.Lines.{hexadecimal, answerLine, lineOutcome}
+use Rattle.model.specs.Text.{hexadecimal}
+use Rattle.model.specs.Lines.{answerLine, lineOutcome}
 use Rattle.book.specs.Good.{Good, answered}
 use Rattle.lines.specs.Stream.{kept, Point, opening, later, over, Turn, silent, behind, told, ended, longer, byte, run}
-use Rattle.lines.specs.Digits.{Put}
+use Rattle.text.specs.Put.{Put}
 use Rattle.lines.specs.Post.{Free, ends, Leads, TakenOf, Told}
 use Rattle.lines.specs.declared.stream.Taken.{Taken}
-use Rattle.lines.proofs.Puts.{drop-further}
+use Rattle.text.proofs.Puts.{drop-further}
 use Rattle.lines.proofs.Keeping.{kept-append}
 use Rattle.lines.proofs.Whole.{byte-end, byte-in, run-append, ended-later}
 use Rattle.lines.proofs.Books.{after-line}

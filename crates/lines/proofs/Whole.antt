@@ -21,8 +21,8 @@ use Rattle.model.specs.Words.{bookLength}
 use Rattle.model.specs.Reading.{settingsOf}
 use Rattle.model.specs.Calls.{settingsGood}
 use Rattle.model.specs.declared.Answer.the-variants.{Refused}
-use Rattle.model.specs.Lines.{digitValue, wholeWords, lineWords, linesOf, answerLine, lineOutcome, answerLines}
-use Rattle.model.specs.Lines.{programWords, output, frames}
+use Rattle.model.specs.Text.{digitValue}
+use Rattle.model.specs.Lines.{wholeWords, lineWords, linesOf, answerLine, lineOutcome, answerLines, programWords, output, frames}
 use Rattle.lines.proofs.Framing.{words-length, not-so, frame-parts, no-frame}
 use Rattle.lines.proofs.Keeping.{kept-append}
 use Rattle.lines.specs.Post.{Free}

@@ -13,7 +13,7 @@ use Rattle.model.specs.Machine.{requestOf}
 use Rattle.model.specs.Calls.{called}
 use Rattle.model.specs.Lines.{isFrame, lineWords, lineOutcome}
 use Rattle.book.specs.Good.{Good, answered}
-use Rattle.lines.specs.Digits.{frameDigits}
+use Rattle.lines.specs.Frame.{frameDigits}
 use Rattle.lines.specs.Stream.{heldMost, Point, opening, later, over, Turn, behind, run}
 use Rattle.lines.specs.declared.line.Next.{Next}
 use Rattle.lines.specs.declared.line.Next.the-variants.{Frame, Other, Partial}

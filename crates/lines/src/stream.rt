@@ -1,8 +1,8 @@
 // The stream: a chunk of input in, answer lines out, and what is held of a line that the chunk's end cuts.
+use crate::frame::FRAME_LINE;
 use crate::lay::Laid;
 use crate::lay::SETTINGS_WORDS;
 use crate::lay::lay_line;
-use crate::line::FRAME_LINE;
 use crate::line::Next;
 use crate::line::line_end;
 use crate::line::look;

@@ -1,0 +1,3 @@
+pub mod Puts
+pub mod Hexes
+pub mod Trips

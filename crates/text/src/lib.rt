@@ -1,0 +1,3 @@
+// Text: bytes behind what was written, and numbers as bytes.
+pub mod hex;
+pub mod store;
