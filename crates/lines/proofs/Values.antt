@@ -12,7 +12,7 @@ use lib.Seq.{getD-set-same, getD-set-other}
 use Rattle.model.specs.Text.{shownFrom, shown}
 use Rattle.text.specs.Digits.{valueOf, digitsOnly}
 use Rattle.text.proofs.Hexes.{value-is, digit-at, shown-more, shown-none}
-use Rattle.lines.specs.Frame.{frameDigits, Values, wordOf}
+use Rattle.lines.specs.Frame.{Values, wordOf}
 
 -- one value more
 pub values-more : (s d : List ℕ) (i v : ℕ) → i < length d → ((k : ℕ) → k < i → getD d k 0 ≡ valueOf (getD s k 0)) → v ≡ valueOf (getD s i 0)
@@ -33,7 +33,7 @@ eight-is : (a b c d e f g h : ℕ)
 eight-is a b c d e f g h = omega arith
 
 -- the word of eight values is the one that the digits show
-module _ (s d : List ℕ) (n : length s ≡ frameDigits) (g : digitsOnly s ≡ true) (v : Values s d) (at : ℕ) (h : at + 8 ≤ frameDigits) where
+module _ (s d : List ℕ) (g : digitsOnly s ≡ true) (v : Values s d) (at : ℕ) (h : at + 8 ≤ length s) where
   digit-of : (j k : ℕ) → k ≡ at + j → j < 8 → (getD d k 0 ≡ valueOf (getD s (at + j) 0)) × (valueOf (getD s (at + j) 0) < 16)
   digit-of j k e l = (
     rw e (v .at (at + j) (omega arith)),
@@ -44,7 +44,7 @@ module _ (s d : List ℕ) (n : length s ≡ frameDigits) (g : digitsOnly s ≡ t
   next w j = w * 16 + valueOf (getD s (at + j) 0)
 
   more : (j w : ℕ) → j < 8 → shownFrom w (take (8 - j) (drop (at + j) s)) ≡ shownFrom (next w j) (take (8 - (j + 1)) (drop (at + (j + 1)) s))
-  more j w k = shown-more s at j w k (omega arith)
+  more j w k = shown-more s at j w k h
 
   eight : shown (take 8 (drop at s)) ≡ next (next (next (next (next (next (next (next 0 0) 1) 2) 3) 4) 5) 6) 7
   eight =

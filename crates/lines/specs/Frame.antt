@@ -6,20 +6,24 @@ use mathlib.Core.Bool.{Bool, _&&_}
 use mathlib.Core.List.{List}
 use lib.Dec.{ltb, eqb}
 use lib.ListN.{length, take, getD}
+use Rattle.model.specs.Lines.{requestWords}
 use Rattle.text.specs.Digits.{valueOf, digitsOnly}
 
--- the digits of a frame line: seven words of eight
-abbrev pub frameDigits : ℕ
-frameDigits = 56
+-- the digits of a request's words, and the most that a frame has
+abbrev pub requestDigits : ℕ
+requestDigits = 8 * requestWords
 
--- the input begins with a frame line: its digits and byte 10
-unfoldable pub frameAhead : List ℕ → Bool
-frameAhead l = ltb frameDigits (length l) && eqb (getD l frameDigits 0) 10 && digitsOnly (take frameDigits l)
+abbrev pub frameMost : ℕ
+frameMost = requestDigits
+
+-- the input begins with a line of n digits
+unfoldable pub digitsAhead : List ℕ → ℕ → Bool
+digitsAhead l n = ltb n (length l) && eqb (getD l n 0) 10 && digitsOnly (take n l)
 
 -- d are the values of the digits s
 pub record Values (s d : List ℕ) : Type 0 where
-  pub long : length d ≡ frameDigits
-  pub at : (k : ℕ) → k < frameDigits → getD d k 0 ≡ valueOf (getD s k 0)
+  pub long : length d ≡ frameMost
+  pub at : (k : ℕ) → k < length s → getD d k 0 ≡ valueOf (getD s k 0)
 
 -- the number of four values, and the word of eight
 abbrev pub halfOf : List ℕ → ℕ → ℕ

@@ -13,7 +13,6 @@ use Rattle.model.specs.Machine.{requestOf}
 use Rattle.model.specs.Calls.{called}
 use Rattle.model.specs.Lines.{isFrame, lineWords, lineOutcome}
 use Rattle.book.specs.Good.{Good, answered}
-use Rattle.lines.specs.Frame.{frameDigits}
 use Rattle.lines.specs.Stream.{heldMost, Point, opening, later, over, Turn, behind, run}
 use Rattle.lines.specs.declared.line.Next.{Next}
 use Rattle.lines.specs.declared.line.Next.the-variants.{Frame, Other, Partial}
@@ -108,9 +107,14 @@ pub record Leads (l : List ℕ) (n : ℕ) : Type 0 where
   pub free : Free (take n l)
   pub ends : getD l n 0 ≡ 10
 
+-- n are the digits of the frame that is the first line of l, or 0: it is no frame
+pub record FrameAhead (l : List ℕ) (n : ℕ) : Type 0 where
+  pub some : 0 < n → Leads l n × (isFrame (take n l) ≡ true)
+  pub none : n ≡ 0 → (k : ℕ) → Leads l k → isFrame (take k l) ≡ false
+
 -- what stands at the front of l
 abbrev pub NextOf : List ℕ → Next → Type 0
-NextOf l (Frame r) = Leads l frameDigits × (isFrame (take frameDigits l) ≡ true) × (r ≡ requestOf (lineWords (take frameDigits l)))
+NextOf l (Frame n r) = Leads l n × (isFrame (take n l) ≡ true) × (r ≡ requestOf (lineWords (take n l)))
 NextOf l (Other n) = Leads l n × (isFrame (take n l) ≡ false)
 NextOf l Partial = Free l
 

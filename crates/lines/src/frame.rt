@@ -6,38 +6,50 @@ ghost use mathlib.Core.Bool.{true};
 ghost use Prim.Native.Nat.{_+_, _<_, _≤_};
 ghost use lib.ListN.{length};
 ghost use Rattle.model.specs.Machine.{requestOf};
-ghost use Rattle.model.specs.Lines.{lineWords};
+ghost use Rattle.model.specs.Lines.{isFrame, lineWords};
 ghost use Rattle.text.specs.Digits.{digitsOnly};
-ghost use Rattle.lines.specs.Frame.{frameDigits, Values, halfOf, wordOf, frameAhead};
+ghost use Rattle.lines.specs.Frame.{frameMost, Values, halfOf, wordOf, digitsAhead};
+ghost use Rattle.lines.specs.Post.{FrameAhead};
 
-// The digits of a frame line: seven words of eight.
-pub const FRAME_DIGITS: usize = 56;
+// The digits of a request's seven words.
+const REQUEST_DIGITS: usize = 56;
 
-// The same with the byte 10 that ends it.
-pub const FRAME_LINE: usize = FRAME_DIGITS + 1;
+// The most digits that a frame has.
+const FRAME_MOST: usize = REQUEST_DIGITS;
 
-// Whether the input begins with a frame line: its digits and byte 10.
-pub fn frame_ahead(s: &[u8]) -> bool
-    ensures { λ r. ⌜ r ≡ frameAhead (now (s .entry)) ⌝ }
+// Whether the input begins with a line of n digits.
+fn digits_ahead(s: &[u8], n: usize) -> bool
+    ensures { λ r. ⌜ r ≡ digitsAhead (now (s .entry)) n ⌝ }
 {
-    if s.len() <= FRAME_DIGITS {
+    if s.len() <= n {
         return false;
     }
-    if s[FRAME_DIGITS] != 10 {
+    if s[n] != 10 {
         return false;
     }
-    digits_only(&s[..FRAME_DIGITS])
+    digits_only(&s[..n])
+}
+
+// How many digits the frame line at the front of the input has, 0 where no frame stands there. Only this function knows the numbers of
+// words that a frame has, and it looks for byte 10 there alone.
+pub fn frame_ahead(s: &[u8]) -> usize
+    ensures { λ r. ⌜ FrameAhead (now (s .entry)) r ⌝ }
+{
+    if digits_ahead(s, REQUEST_DIGITS) {
+        return REQUEST_DIGITS;
+    }
+    0
 }
 
 // The values of the digits of a frame. The compiler takes many bytes at a time.
-pub fn values(s: &[u8]) -> [u8; FRAME_DIGITS]
+pub fn values(s: &[u8]) -> [u8; FRAME_MOST]
     requires { ⌜ digitsOnly (now s) ≡ true ⌝ }
-    requires { ⌜ length (now s) ≡ frameDigits ⌝ }
+    requires { ⌜ length (now s) ≤ frameMost ⌝ }
     ensures { λ r. ⌜ Values (now (s .entry)) r ⌝ }
 {
-    let mut d = [0u8; FRAME_DIGITS];
-    let mut i: usize = 0;
-    while i < FRAME_DIGITS {
+    let mut d = [0u8; FRAME_MOST];
+    let mut i = 0;
+    while i < s.len() {
         let b = s[i];
         d[i] = b % 16 + b / 64 * 9;
         i += 1;
@@ -52,25 +64,24 @@ fn wide(b: u8) -> u32
 }
 
 // The number of four values.
-fn half_of(d: &[u8; FRAME_DIGITS], at: usize) -> u32
-    requires { ⌜ at + 4 ≤ frameDigits ⌝ }
+fn half_of(d: &[u8; FRAME_MOST], at: usize) -> u32
+    requires { ⌜ at + 4 ≤ frameMost ⌝ }
     ensures { λ r. ⌜ r ≡ halfOf (now (d .entry)) at ⌝ }
 {
     wide(d[at]) * 0x1000 + wide(d[at + 1]) * 0x100 + wide(d[at + 2]) * 0x10 + wide(d[at + 3])
 }
 
 // The word of eight values.
-pub fn word_of(d: &[u8; FRAME_DIGITS], at: usize) -> u32
-    requires { ⌜ at + 8 ≤ frameDigits ⌝ }
+pub fn word_of(d: &[u8; FRAME_MOST], at: usize) -> u32
+    requires { ⌜ at + 8 ≤ frameMost ⌝ }
     ensures { λ r. ⌜ r ≡ wordOf (now (d .entry)) at ⌝ }
 {
     half_of(d, at) % 0x1_0000 * 0x1_0000 + half_of(d, at + 4) % 0x1_0000
 }
 
-// The request of a frame line.
+// The request of a frame line: its first seven words.
 pub fn request(line: &[u8]) -> Request
-    requires { ⌜ digitsOnly (now line) ≡ true ⌝ }
-    requires { ⌜ length (now line) ≡ frameDigits ⌝ }
+    requires { ⌜ isFrame (now line) ≡ true ⌝ }
     ensures { λ r. ⌜ r ≡ requestOf (lineWords (now (line .entry))) ⌝ }
 {
     let d = values(line);

@@ -1,5 +1,4 @@
 // Lines: what stands at the front of the input, the words of a settings line, and the line of an answer.
-use crate::frame::FRAME_DIGITS;
 use crate::frame::frame_ahead;
 use crate::frame::request;
 use model::Answer;
@@ -34,9 +33,9 @@ pub fn line_end(s: &[u8]) -> usize
     i
 }
 
-// What stands at the front of the input: a frame line, another line of some length, or a line that is not over.
+// What stands at the front of the input: a frame line of some length, another line of some length, or a line that is not over.
 pub enum Next {
-    Frame(Request),
+    Frame { len: usize, request: Request },
     Other(usize),
     Partial,
 }
@@ -45,8 +44,12 @@ pub enum Next {
 pub fn look(s: &[u8]) -> Next
     ensures { λ r. ⌜ NextOf (now (s .entry)) r ⌝ }
 {
-    if frame_ahead(s) {
-        return Next::Frame(request(&s[..FRAME_DIGITS]));
+    let len = frame_ahead(s);
+    if len > 0 {
+        return Next::Frame {
+            len,
+            request: request(&s[..len]),
+        };
     }
     let n = line_end(s);
     if n == s.len() {

@@ -1,5 +1,4 @@
 // The stream: a chunk of input in, answer lines out, and what is held of a line that the chunk's end cuts.
-use crate::frame::FRAME_LINE;
 use crate::lay::Laid;
 use crate::lay::SETTINGS_WORDS;
 use crate::lay::lay_line;
@@ -102,9 +101,9 @@ fn take_line(book: &mut [u32], s: Settings, chunk: &[u8]) -> Taken
     ensures { λ r. ⌜ TakenOf (now (chunk .entry)) (now (book .entry)) r (now (book .exit)) ⌝ }
 {
     match look(chunk) {
-        Next::Frame(r) => Taken {
-            used: FRAME_LINE,
-            answer: step(book, s, r),
+        Next::Frame { len, request } => Taken {
+            used: len + 1,
+            answer: step(book, s, request),
         },
         Next::Other(n) => Taken {
             used: n + 1,

@@ -1,39 +1,19 @@
--- `frame::frame_ahead`: the digits of a frame and byte 10 stand in front.
+-- `frame::frame_ahead`: a frame of a length that frames have stands in front, or none.
 -- Assumes nothing.
 use mathlib.Core.Path.{sym, _∙_}
-use native.Mathlib.Omega.{arith}
-use lib.Seq.{length-take-le}
-use Rattle.lines.specs.Frame.{frameDigits}
-use Rattle.lines.proofs.Looking.{ahead-by, ahead-short, ahead-other}
+use Rattle.lines.proofs.Looking.{ahead-frame, ahead-none}
 use borrow.Author.Needs.{needs}
 use Rattle.lines.proofs.frame.frame_ahead.Statement.{statement}
 use Rattle.lines.proofs.frame.frame_ahead.Tie as tie
 
-returns : tie.Need-returns
-returns c = ahead-short _ (c .if1 .taken)
+digits-ahead-requires : tie.Need-digits-ahead-requires
+digits-ahead-requires c κs = search needs
 
-shared-slice-read-if2 : tie.Need-shared-slice-read-if2
-shared-slice-read-if2 c = search needs
+returns : tie.Need-returns
+returns c = ahead-frame _ (sym (c .before .digits-ahead .ensures) ∙ c .if1 .taken)
 
 returns-2 : tie.Need-returns-2
-returns-2 c = ahead-other _ (search needs) (c .if2 .taken)
-
-slice-aggregate-digits-only : tie.Need-slice-aggregate-digits-only
-slice-aggregate-digits-only c = sym (length-take-le frameDigits (c .before .before .before .before .before .args .s .now) (omega arith))
-
-digits-only-requires : tie.Need-digits-only-requires
-digits-only-requires c κs = search needs
-
-returns-3 : tie.Need-returns-3
-returns-3 c = c .digits-only .ensures ∙ sym (ahead-by _ (search needs) (search needs))
+returns-2 c = ahead-none _ (sym (c .before .digits-ahead .ensures) ∙ c .if1 .left)
 
 pub frame-ahead-spec : {M : Type 1} → statement M
-frame-ahead-spec =
-    tie.close
-    (tie.spec
-    returns
-    shared-slice-read-if2
-    returns-2
-    slice-aggregate-digits-only
-    digits-only-requires
-    returns-3)
+frame-ahead-spec = tie.close (tie.spec digits-ahead-requires returns returns-2)

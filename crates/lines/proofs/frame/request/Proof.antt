@@ -1,15 +1,15 @@
--- `frame::request`: the seven words of the line.
+-- `frame::request`: the first seven words of the line.
 -- Assumes nothing.
 use mathlib.Core.Path.{_∙_}
 use native.Mathlib.Omega.{arith}
-use Rattle.lines.proofs.Framing.{request-is}
+use Rattle.lines.proofs.Framing.{request-is, frame-digits, frame-least, frame-most}
 use Rattle.lines.proofs.Values.{word-values}
 use borrow.Author.Needs.{needs}
 use Rattle.lines.proofs.frame.request.Statement.{statement}
 use Rattle.lines.proofs.frame.request.Tie as tie
 
 values-requires : tie.Need-values-requires
-values-requires c κs = search needs
+values-requires c κs = let h = c .before .pre in (frame-digits _ h, frame-most _ h)
 
 word-of-requires : tie.Need-word-of-requires
 word-of-requires c κs = search needs
@@ -34,12 +34,12 @@ word-of-requires-7 c κs = search needs
 
 returns : tie.Need-returns
 returns c =
-    let d = c .before .before .before .before .before .before .before .before .before .before .before .before .before .before .before .before in
-    let w = word-values (d .args .line .now)
-    (c .before .before .before .before .before .before .before .before .before .before .before .before .before .before .values .result) (d .pre .1)
-    (d .pre .0) (c .before .before .before .before .before .before .before .before .before .before .before .before .before .before .values .ensures)
-    in
-    request-is (d .args .line .now) (d .pre .1)
+    let v = c .before .before .before .before .before .before .before .before .before .before .before .before .before .before in
+    let d = v .before .before in
+    let l = d .args .line .now in
+    let n = frame-least l (d .pre) in
+    let w = word-values l (v .values .result) (frame-digits l (d .pre)) (v .values .ensures) in
+    request-is l n
     ((c .before .before .before .before .before .before .before .before .before .before .before .before .word-of .ensures) ∙ w 0 (omega arith))
     ((c .before .before .before .before .before .before .before .before .before .before .word-of2 .ensures) ∙ w 8 (omega arith))
     ((c .before .before .before .before .before .before .before .before .word-of3 .ensures) ∙ w 16 (omega arith))

@@ -5,7 +5,7 @@ use mathlib.Core.Path.{_≡_, refl}
 use native.Mathlib.Omega.{arith}
 use lib.ListN.{length, getD, length-set}
 use Rattle.text.specs.Digits.{valueOf}
-use Rattle.lines.specs.Frame.{frameDigits}
+use Rattle.lines.specs.Frame.{frameMost}
 use Rattle.lines.proofs.Values.{values-more}
 use Rattle.text.proofs.Hexes.{value-is, digit-at}
 use borrow.Author.Needs.{needs}
@@ -13,10 +13,10 @@ use Rattle.lines.proofs.frame.values.Statement.{statement}
 use Rattle.lines.proofs.frame.values.Tie as tie
 
 abbrev Inv-loop : tie.InvT-loop
-Inv-loop s d₀ i₀ d i = (i ≤ frameDigits) × (length d ≡ frameDigits) × ((k : ℕ) → k < i → getD d k 0 ≡ valueOf (getD s k 0))
+Inv-loop s d₀ i₀ d i = (i ≤ length s) × (length d ≡ frameMost) × ((k : ℕ) → k < i → getD d k 0 ≡ valueOf (getD s k 0))
 
 abbrev μ-loop : tie.MeasureT-loop
-μ-loop s d₀ i₀ d i = frameDigits - i
+μ-loop s d₀ i₀ d i = length s - i
 
 loop-holds : tie.Need-loop-holds Inv-loop μ-loop
 loop-holds c = (omega arith, refl, λ k h. absurd (omega arith))
