@@ -14,7 +14,7 @@ use Rattle.model.specs.declared.Answer.{Answer}
 use Rattle.model.specs.declared.Answer.the-variants.{Done, Refused}
 use Rattle.model.specs.Machine.{answerWords, requestOf}
 use Rattle.model.specs.Text.{wordDigits, hexadecimal, shown}
-use Rattle.model.specs.Lines.{requestWords, isFrame, lineWords, wholeWords}
+use Rattle.model.specs.Lines.{requestWords, answerDigits, isFrame, lineWords, wholeWords}
 use Rattle.model.proofs.Search.{and-left, and-right}
 pub use Rattle.model.proofs.Search.{never as not-so}
 use Rattle.model.proofs.Places.{length-list, getD-list}
@@ -94,7 +94,7 @@ pub refused-line : {a : Answer} {n p : ℕ} → a ≡ Refused n p → wordDigits
 unfolding hexadecimal
 refused-line {a} {n} {p} e = sym (ap (λ (b : Answer). hexadecimal (answerWords b)) e)
 
-pub words-line : (a : Answer) → length (hexadecimal (answerWords a)) ≡ 24
+pub words-line : (a : Answer) → length (hexadecimal (answerWords a)) ≡ answerDigits
 unfolding hexadecimal
 words-line (Done v) = refl
 words-line (Refused n p) = refl

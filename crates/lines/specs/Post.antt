@@ -11,7 +11,7 @@ use Rattle.model.specs.State.{State}
 use Rattle.model.specs.Reading.{settingsOf, stateOf}
 use Rattle.model.specs.Machine.{requestOf}
 use Rattle.model.specs.Calls.{called}
-use Rattle.model.specs.Lines.{isFrame, lineWords, lineOutcome}
+use Rattle.model.specs.Lines.{answerBytes, isFrame, lineWords, lineOutcome}
 use Rattle.book.specs.Good.{Good, answered}
 use Rattle.lines.specs.Stream.{heldMost, Point, opening, later, over, Turn, behind, run}
 use Rattle.lines.specs.declared.line.Next.{Next}
@@ -93,9 +93,9 @@ pub record EndSized (e : Ended) (b : List ℕ) : Type 0 where
   pub none : e .more ≡ false → e .size ≡ 0
   pub good : e .more ≡ true → Good (settingsOf (take (e .size) b)) (take (e .size) b)
 
--- the same of the end of a line
-pub record EndedOf (t : Turn) (e : Ended) (b₀ b out₀ out : List ℕ) (room : ℕ) : Type 0 where
-  pub short : e .wrote ≤ room
+-- the same of the end of a line, which writes one answer line at most
+pub record EndedOf (t : Turn) (e : Ended) (b₀ b out₀ out : List ℕ) : Type 0 where
+  pub short : e .wrote ≤ answerBytes
   pub sized : EndSized e b
   pub same : record { out = take (e .wrote) out; point = endPoint e b } ≡ t
   pub book-past : drop (e .size) b ≡ drop (e .size) b₀
@@ -127,7 +127,7 @@ pub record TakenOf (l b₀ : List ℕ) (t : Taken) (b : List ℕ) : Type 0 where
 pub record Told (s : Settings) (b₀ c out₀ : List ℕ) (at : ℕ) (b out : List ℕ) (used wrote : ℕ) : Type 0 where
   pub within : used ≤ length c
   pub more : at ≤ wrote
-  pub short : wrote ≤ at + 25 * ends c
+  pub short : wrote ≤ at + answerBytes * ends c
   pub good : Good s b
   pub past : drop wrote out ≡ drop wrote out₀
   pub free : Free (drop used c)

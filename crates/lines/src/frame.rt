@@ -12,7 +12,7 @@ ghost use Rattle.lines.specs.Frame.{frameMost, Values, halfOf, wordOf, d
 ghost use Rattle.lines.specs.Post.{FrameAhead};
 
 // The digits of a request's seven words.
-const REQUEST_DIGITS: usize = 56;
+const REQUEST_DIGITS: usize = 8 * 7;
 
 // The most digits that a frame has.
 const FRAME_MOST: usize = REQUEST_DIGITS;

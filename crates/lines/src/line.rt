@@ -13,11 +13,16 @@ ghost use Prim.Native.Nat.{_+_, _*_, _/_, _<_, _≤_};
 ghost use lib.ListN.{length, take};
 ghost use Rattle.model.specs.Machine.{answerWords};
 ghost use Rattle.model.specs.Text.{hexadecimal};
-ghost use Rattle.model.specs.Lines.{wholeWords, lineWords, answerLine};
+ghost use Rattle.model.specs.Lines.{wholeWords, lineWords, answerLine, answerDigits, answerBytes};
 ghost use Rattle.text.specs.Digits.{digitsOnly};
 ghost use Rattle.text.specs.Put.{Put};
 ghost use Rattle.lines.specs.Frame.{LineEnd};
 ghost use Rattle.lines.specs.Post.{NextOf};
+
+// The digits of an answer's three words, and the bytes of its line.
+const ANSWER_DIGITS: usize = 8 * 3;
+
+pub const ANSWER_BYTES: usize = ANSWER_DIGITS + 1;
 
 // The index of the first byte 10, or the length where there is none.
 pub fn line_end(s: &[u8]) -> usize
@@ -81,7 +86,7 @@ pub fn line_words(line: &[u8], words: &mut [u32])
 
 // The three words of an answer behind what was written.
 fn put_words(out: &mut [u8], at: usize, a: Answer)
-    requires { ⌜ at + 24 ≤ length (now out) ⌝ }
+    requires { ⌜ at + answerDigits ≤ length (now out) ⌝ }
     ensures { λ _. ⌜ Put (now (out .entry)) (now (out .exit)) at (hexadecimal (answerWords a)) ⌝ }
 {
     match a {
@@ -99,9 +104,9 @@ fn put_words(out: &mut [u8], at: usize, a: Answer)
 
 // An answer line behind what was written.
 pub fn put_answer(out: &mut [u8], at: usize, a: Answer)
-    requires { ⌜ at + 25 ≤ length (now out) ⌝ }
+    requires { ⌜ at + answerBytes ≤ length (now out) ⌝ }
     ensures { λ _. ⌜ Put (now (out .entry)) (now (out .exit)) at (answerLine a) ⌝ }
 {
     put_words(out, at, a);
-    put(out, at + 24, b"\n");
+    put(out, at + ANSWER_DIGITS, b"\n");
 }
