@@ -1,13 +1,13 @@
 -- Writing behind what was written.
 -- Assumes nothing.
-use Prim.Native.Nat.{ℕ, _+_, _-_, _≤_, _<_}
+use Prim.Native.Nat.{ℕ, suc, _+_, _-_, _≤_, _<_}
 use native.Mathlib.Nat.{add-assoc, add-zero}
 use native.Mathlib.Numerals.{add-one}
 use native.Mathlib.Omega.{arith}
 use mathlib.Core.Path.{_≡_, refl, sym, _∙_, ap}
 use mathlib.Core.List.{List, [], _∷_, _++_, append-assoc, append-nil}
 use lib.ListN.{length, take, drop, getD, set, length-append, length-set}
-use lib.Seq.{take-suc, take-suc-set, take-length, length-take-le, drop-drop, drop-set-lt}
+use lib.Seq.{take-suc, take-suc-set, take-set-lt, take-length, length-take-le, drop-drop, drop-set-lt, set-append-left}
 use Rattle.text.specs.Put.{Put}
 
 -- what is the same behind some bytes is the same behind more of them
@@ -40,6 +40,26 @@ put-none out at = record { kept = refl; wrote = ap (λ (n : ℕ). take n out) (a
 pub put-one : (out : List ℕ) (at b : ℕ) → at < length out → Put out (set out at b) at (b ∷ [])
 put-one out at b h =
     record { kept = length-set out at b; wrote = rw (add-one, take-suc-set out at b h); past = drop-set-lt (at + 1) out at b (omega arith) }
+
+-- one more byte before those that were written
+pub put-before : {out₀ out : List ℕ} {at : ℕ} {bytes : List ℕ} (b : ℕ) → at < length out₀ → Put out₀ out (at + 1) bytes
+    → Put out₀ (set out at b) at (b ∷ bytes)
+put-before {out₀} {out} {at} {bytes} b h p =
+    let k = length bytes in
+    let e : at + suc k ≡ at + 1 + k = omega arith in
+    let t = length-take-le (at + 1) out₀ (omega arith) in
+    let f : take (at + 1) (set out₀ at b) ≡ take at out₀ ++ (b ∷ []) = rw add-one (take-suc-set out₀ at b h) in
+    record {
+      kept = length-set out at b ∙ p .kept;
+      wrote =
+          ap (λ (n : ℕ). take n (set out at b)) e
+          ∙ take-set-lt (at + 1 + k) out at b (omega arith)
+          ∙ ap (λ (l : List ℕ). set l at b) (p .wrote)
+          ∙ set-append-left (take (at + 1) out₀) bytes at b (omega arith)
+          ∙ ap (λ (l : List ℕ). l ++ bytes) (sym (take-set-lt (at + 1) out₀ at b (omega arith)) ∙ f)
+          ∙ append-assoc (take at out₀) (b ∷ []) bytes;
+      past = drop-set-lt (at + suc k) out at b (omega arith) ∙ rw e (p .past);
+    }
 
 -- one more of the bytes
 pub put-more : {out₀ out : List ℕ} {at : ℕ} (bytes : List ℕ) (i : ℕ) → i < length bytes → at + i < length out₀

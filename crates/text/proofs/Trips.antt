@@ -1,13 +1,12 @@
 -- Round trips: every word comes back from its eight digits, and every eight digits from their word.
 -- Assumes nothing.
 use Prim.Native.Nat.{ℕ, zero, suc, _+_, _-_, _*_, _/_, _%_, _^_, _<_}
-use native.Mathlib.Nat.{pow-suc, pow-succ', mod-one, mod-eq-of-lt, one-le-pow, add-mul, mul-assoc, add-assoc, div-one, div-div-eq-div-mul}
+use native.Mathlib.Nat.{mod-one, mod-eq-of-lt, div-one}
 use native.Mathlib.Omega.{arith}
 use mathlib.Core.Path.{_≡_, refl, sym, _∙_, ap, ap₂}
 use mathlib.Core.Bool.{Bool, true, false, cond}
 use mathlib.Core.Option.{none, some}
 use mathlib.Core.List.{List, [], _∷_}
-use lib.Arith.{mod-mul}
 use lib.Dec.{leb}
 use lib.ListN.{length}
 use borrow.Author.Tests.{leb-true, leb-false, le-leb, lt-leb}
@@ -15,6 +14,7 @@ use Rattle.model.specs.Bounded.{isSome, found, within}
 use Rattle.model.specs.Text.{digit, wordDigits, shownFrom, shown}
 use Rattle.model.proofs.Search.{and-left, and-right, both}
 use Rattle.text.specs.Digits.{isDigit, valueOf, digitsOnly}
+use Rattle.text.proofs.Places.{next-place, next-left}
 use Rattle.text.proofs.Hexes.{value-is, within-is, shown-none}
 
 -- one digit there and back
@@ -56,14 +56,7 @@ there-and-back (suc n) acc w =
     shown-cons acc (digit d) (digits n w)
     ∙ ap (λ (x : ℕ). shownFrom (acc * 16 + x) (digits n w)) (value-digit d (omega arith))
     ∙ there-and-back n (acc * 16 + d) w
-    ∙ regroup acc d (16 ^ n) (w % 16 ^ n)
-    ∙ sym (ap₂ (λ (x y : ℕ). acc * x + y) (pow-succ' 16 n) (ap (λ (p : ℕ). w % p) (pow-succ' 16 n) ∙ split-mod))
-  where
-    regroup : (a d p r : ℕ) → (a * 16 + d) * p + r ≡ a * (16 * p) + (d * p + r)
-    regroup a d p r = simp (add-mul, mul-assoc, add-assoc)
-
-    split-mod : w % (16 * 16 ^ n) ≡ (w / 16 ^ n % 16) * 16 ^ n + w % 16 ^ n
-    split-mod = mod-mul w {m = 16} {c = 16 ^ n} (omega arith) (one-le-pow n 16 (omega arith))
+    ∙ next-place 16 n acc w (omega arith)
 
 back-and-there : (bs : List ℕ) (acc : ℕ) → digitsOnly bs ≡ true
     → (shownFrom acc bs / 16 ^ length bs ≡ acc) × (digits (length bs) (shownFrom acc bs) ≡ bs)
@@ -77,8 +70,7 @@ back-and-there (b ∷ bs) acc h =
     let i1 : digits (length bs) w ≡ bs = rw e (ih .1) in
     let v = value-is b one .1 in
     let q : (w / 16 ^ length bs) % 16 ≡ valueOf b = omega arith in
-    let d : w / 16 ^ suc (length bs) ≡ w / 16 ^ length bs / 16 = ap (λ (p : ℕ). w / p) (pow-suc 16 (length bs))
-    ∙ sym (div-div-eq-div-mul w (16 ^ length bs) 16) in
+    let d = next-left 16 (length bs) w in
     (omega arith, ap₂ _∷_ (ap digit q ∙ digit-value b one) i1)
 
 -- every word below 2^32
