@@ -21,9 +21,9 @@ use Rattle.model.specs.Words.{bookLength}
 use Rattle.model.specs.Reading.{settingsOf}
 use Rattle.model.specs.Calls.{settingsGood}
 use Rattle.model.specs.declared.Answer.the-variants.{Refused}
-use Rattle.model.specs.Lines.{digitValue, wholeWords, lineWords, linesOf, answerLine, lineOutcome, answerLines}
-use Rattle.model.specs.Lines.{programWords, output, frames}
-use Rattle.lines.proofs.Framing.{words-length, not-so, frame-parts, no-frame}
+use Rattle.model.specs.Text.{digitValue}
+use Rattle.model.specs.Lines.{wholeWords, lineWords, linesOf, answerLine, lineOutcome, answerLines, programWords, output, frames}
+use Rattle.lines.proofs.Framing.{words-length, not-so, frame-most, no-frame}
 use Rattle.lines.proofs.Keeping.{kept-append}
 use Rattle.lines.specs.Post.{Free}
 use Rattle.lines.specs.Stream.{heldMost, kept, Point, opening, later, over, Turn, silent, behind, opened, told}
@@ -76,7 +76,7 @@ module _ (l : List ℕ) where
   outcome-kept x =
       ⊎-elim (λ e. ap (lineOutcome x) e)
       (λ h.
-      simp (no-frame (kept l) (λ e. omega (arith, frame-parts (kept l) e .0)), no-frame l (λ e. omega (arith, frame-parts l e .0))))
+      simp (no-frame (kept l) (λ e. omega (arith, frame-most (kept l) e)), no-frame l (λ e. omega (arith, frame-most l e))))
       same-or-long
 
   pub opened-kept : opened (kept l) ≡ opened l
