@@ -31,8 +31,8 @@ use Rattle.model.proofs.Shown.{each-cell, some-is}
 use Rattle.model.proofs.Sound.{book-sound, held-some}
 use Rattle.model.specs.Reading.{settingsOf, stateOf}
 use Rattle.model.specs.Laws.{wellLaid, lawful}
-use Rattle.checking.specs.Rows.{Decides}
-use Rattle.checking.specs.Days.{Eaten, Caps}
+use Rattle.rules.specs.Rows.{Decides, Caps}
+use Rattle.checking.specs.Days.{Eaten}
 use Rattle.checking.specs.Kept.{GuestsAt, SessionAt, seatsAt, Kept}
 use Rattle.checking.proofs.Slots.{held, holds-by, within-by, one-a-cell, one-a-row}
 
