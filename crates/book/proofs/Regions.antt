@@ -14,6 +14,7 @@ use Rattle.book.specs.Lent.{Lies}
 use Rattle.model.specs.declared.Settings.{Settings}
 use Rattle.book.specs.Ranges.{Ranges}
 use Rattle.model.specs.Site.{allSessions, allTimes}
+use Rattle.model.proofs.Places.{settings-length}
 use Rattle.model.specs.Words.{Region, leaves, hotelCells, standings, attendCells, confPairs, lunchTriples, rideCells}
 use Rattle.model.specs.Words.{base, slots, items, width, size, bookLength}
 
@@ -59,6 +60,7 @@ unfolding bookLength
 book-le S h =
     omega (
       arith,
+      settings-length S,
       h .dining,
       size-le S h leaves,
       size-le S h hotelCells,

@@ -19,6 +19,7 @@ use Rattle.model.specs.Reading.{settingsOf, stateOf}
 use Rattle.model.specs.Calls.{Called, settingsGood, freshBook, laid, lay}
 use Rattle.model.specs.Lines.{wholeWords, lineWords, answerLine, answerBytes, programWords}
 use Rattle.model.proofs.Search.{never, and-right, both}
+use Rattle.model.proofs.Places.{settings-length}
 use Rattle.model.proofs.Shows.{good-valid}
 use Rattle.book.specs.Good.{answered}
 use Rattle.book.specs.Heads.{neededLength}
@@ -52,7 +53,7 @@ layable-book w h = simp (le-leb (bookLength (settingsOf w)) programWords h)
 
 long : (S : Settings) → 9 ≤ bookLength S
 unfolding bookLength
-long S = omega arith
+long S = omega (arith, settings-length S)
 
 -- the length that a list of words asks for
 needed-by : (w : List ℕ) (t : Bool) → settingsGood w ≡ t → neededLength w ≡ cond t (bookLength (settingsOf w)) 0

@@ -14,6 +14,7 @@ use borrow.Author.Tests.{eqb-true, eqb-false, ne-eqb}
 use Rattle.model.specs.Bounded.{every, isSome}
 use Rattle.model.specs.Site.{settingsLength, validSettings}
 use Rattle.model.proofs.Search.{and-left, and-right}
+use Rattle.model.proofs.Places.{settings-length}
 use Rattle.model.proofs.ReadBack.{valid-is}
 use Rattle.model.specs.State.{State, emptyState}
 use Rattle.model.specs.Machine.{Outcome}
@@ -60,7 +61,7 @@ settings-short l h =
     let valid = valid-is (settingsOf w) (and-right (leb 9 (length w) && eqb (length w) (settingsLength (settingsOf w))) _ good) in
     let long = eqb-true (length w) (settingsLength (settingsOf w)) (and-right (leb 9 (length w)) _ (and-left _ (validSettings (settingsOf w)) good))
     in
-    omega (arith, words-length l, valid .few)
+    omega (arith, words-length l, settings-length (settingsOf w), valid .few)
 
 -- what a line gives is what is kept of it gives
 module _ (l : List ℕ) where
