@@ -26,7 +26,7 @@ use Rattle.model.specs.Reading.{settingsOf, readState, stateOf}
 use Rattle.model.proofs.Laws.{Sound}
 use Rattle.model.proofs.Shown.{words-stateOf}
 use Rattle.model.proofs.Sound.{book-sound}
-use Rattle.model.proofs.Keeps.{Yes, judged, yes, slots-fit}
+use Rattle.model.proofs.Keeps.{Yes, said, judged, yes, slots-fit}
 use Rattle.model.proofs.Frame.{settings-change}
 use Rattle.model.proofs.Done.{Accepted, accepted-step, done-of}
 use Rattle.book.specs.declared.grid.Grid.{Grid}
@@ -80,13 +80,13 @@ module _ {S : Settings} {b : List ℕ} {G : Grids} {r : Request} {k : Kind} (w :
   -- the bounds of its fields and slots
   pub slots-ok : r .last < slotsOf S (row k .unit)
   unfolding stateOf readState
-  slots-ok = subst (λ (S : Settings). r .last < slotsOf S (row k .unit)) (sym (w .good .read)) (slots-fit (stateOf b) r k (answers .1 .1 .1 .0) .1)
+  slots-ok = subst (λ (S : Settings). r .last < slotsOf S (row k .unit)) (sym (w .good .read)) (slots-fit (stateOf b) r k (said (stateOf b) r k 7 answers) .1)
 
   pub a-ok : (n : ℕ) → limit S (row k .a) ≡ some n → r .a < n
   unfolding test stateOf readState
   a-ok n q =
       let t : below (limit S (row k .a)) (r .a) ≡ true
-      = subst (λ (S : Settings). below (limit S (row k .a)) (r .a) ≡ true) (sym (w .good .read)) (yes (stateOf b) r k aBelow refl (answers .1 .0)) in
+      = subst (λ (S : Settings). below (limit S (row k .a)) (r .a) ≡ true) (sym (w .good .read)) (yes (stateOf b) r k aBelow refl (said (stateOf b) r k 5 answers)) in
       ltb-true (r .a) n (subst (λ (o : Option ℕ). below o (r .a) ≡ true) q t)
 
   pub b-ok : (n : ℕ) → limit S (row k .b) ≡ some n → r .b < n
@@ -94,7 +94,7 @@ module _ {S : Settings} {b : List ℕ} {G : Grids} {r : Request} {k : Kind} (w :
   b-ok n q =
       let t : below (limit S (row k .b)) (r .b) ≡ true
       = subst (λ (S : Settings). below (limit S (row k .b)) (r .b) ≡ true) (sym (w .good .read))
-      (yes (stateOf b) r k bBelow refl (answers .1 .1 .0)) in
+      (yes (stateOf b) r k bBelow refl (said (stateOf b) r k 6 answers)) in
       ltb-true (r .b) n (subst (λ (o : Option ℕ). below o (r .b) ≡ true) q t)
 
   -- one of the grids, and an item of it

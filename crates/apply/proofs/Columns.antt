@@ -22,7 +22,7 @@ use Rattle.model.specs.Words.{Region, hotelCells, attendCells, confPairs, lunch
 use Rattle.model.proofs.Search.{and-left, and-right}
 use Rattle.model.proofs.Laws.{Sound}
 use Rattle.model.proofs.Places.{Cell}
-use Rattle.model.proofs.Keeps.{Yes, yes, yes-slot, was-present, is-free, not-elsewhere}
+use Rattle.model.proofs.Keeps.{Yes, said, yes, yes-slot, was-present, is-free, not-elsewhere}
 use Rattle.book.specs.Grids.{gridOf}
 use Rattle.book.specs.declared.puts.Content.{Content}
 use Rattle.book.specs.Stores.{wordIn, empty}
@@ -111,32 +111,32 @@ module _ (x : State) (s : Sound x) (r : Request) (b : List ℕ) (a : Carries (x 
   unfolding change test word
   write-addHotel y =
       put-one addHotel y hotelCells refl refl (x .hotel) _ (S .visitors) (r .a) (r .b) (change x r addHotel) (hotel-frame x _)
-      (ltb-true _ _ (yes x r addHotel aBelow refl (y .1 .0))) (λ i j m. refl) (λ i j m. refl) (λ i j u. refl)
-      (ltb-true _ _ (yes x r addHotel bBelow refl (y .1 .1 .0))) (λ i u h. is-free x r addHotel s hotels (y .1 .1 .1 .1 .1 .1 .0) i u h)
+      (ltb-true _ _ (yes x r addHotel aBelow refl (said x r addHotel 5 y))) (λ i j m. refl) (λ i j m. refl) (λ i j u. refl)
+      (ltb-true _ _ (yes x r addHotel bBelow refl (said x r addHotel 6 y))) (λ i u h. is-free x r addHotel s hotels (said x r addHotel 12 y) i u h)
 
   pub write-eraseHotel : Yes x r eraseHotel (always ++ further eraseHotel)
       → Carries S (change x r eraseHotel) (filled (gridOf S hotelCells) (r .a) empty (r .first) (r .last + 1) b)
   unfolding change test word
   write-eraseHotel y =
       take-one eraseHotel y hotelCells refl refl (x .hotel) _ (S .visitors) (r .a) (r .b) (change x r eraseHotel) (hotel-frame x _)
-      (ltb-true _ _ (yes x r eraseHotel aBelow refl (y .1 .0))) (λ i j m. refl) (λ i j m. refl) (λ i j u. refl)
-      (λ i u h e. s .oneB hotels refl i (r .a) u (r .b) e (was-present x r eraseHotel hotels (y .1 .1 .1 .1 .0) i h))
+      (ltb-true _ _ (yes x r eraseHotel aBelow refl (said x r eraseHotel 5 y))) (λ i j m. refl) (λ i j m. refl) (λ i j u. refl)
+      (λ i u h e. s .oneB hotels refl i (r .a) u (r .b) e (was-present x r eraseHotel hotels (said x r eraseHotel 15 y) i h))
 
   pub write-addRide : Yes x r addRide (always ++ further addRide)
       → Carries S (change x r addRide) (filled (gridOf S rideCells) (r .a) (full (r .b) 0 0) (r .first) (r .last + 1) b)
   unfolding change test word
   write-addRide y =
       put-one addRide y rideCells refl refl (x .ride) _ (S .visitors) (r .a) (r .b) (change x r addRide) (ride-frame x _)
-      (ltb-true _ _ (yes x r addRide aBelow refl (y .1 .0))) (λ i j m. refl) (λ i j m. refl) (λ i j u. refl)
-      (ltb-true _ _ (yes x r addRide bBelow refl (y .1 .1 .0))) (λ i u h. is-free x r addRide s rides (y .1 .1 .1 .1 .1 .1 .0) i u h)
+      (ltb-true _ _ (yes x r addRide aBelow refl (said x r addRide 5 y))) (λ i j m. refl) (λ i j m. refl) (λ i j u. refl)
+      (ltb-true _ _ (yes x r addRide bBelow refl (said x r addRide 6 y))) (λ i u h. is-free x r addRide s rides (said x r addRide 12 y) i u h)
 
   pub write-eraseRide : Yes x r eraseRide (always ++ further eraseRide)
       → Carries S (change x r eraseRide) (filled (gridOf S rideCells) (r .a) empty (r .first) (r .last + 1) b)
   unfolding change test word
   write-eraseRide y =
       take-one eraseRide y rideCells refl refl (x .ride) _ (S .visitors) (r .a) (r .b) (change x r eraseRide) (ride-frame x _)
-      (ltb-true _ _ (yes x r eraseRide aBelow refl (y .1 .0))) (λ i j m. refl) (λ i j m. refl) (λ i j u. refl)
-      (λ i u h e. s .oneB rides refl i (r .a) u (r .b) e (was-present x r eraseRide rides (y .1 .1 .1 .1 .0) i h))
+      (ltb-true _ _ (yes x r eraseRide aBelow refl (said x r eraseRide 5 y))) (λ i j m. refl) (λ i j m. refl) (λ i j u. refl)
+      (λ i u h e. s .oneB rides refl i (r .a) u (r .b) e (was-present x r eraseRide rides (said x r eraseRide 15 y) i h))
 
   -- kinds 10 and 11: the item is b, and its cells hold a
   pub write-addAttend : Yes x r addAttend (always ++ further addAttend)
@@ -144,10 +144,10 @@ module _ (x : State) (s : Sound x) (r : Request) (b : List ℕ) (a : Carries (x 
   unfolding change test word
   write-addAttend y =
       put-one addAttend y attendCells refl refl (λ i j m. x .attend i m j) _ (S .meetings) (r .b) (r .a) (change x r addAttend) (attend-frame x _)
-      (ltb-true _ _ (yes x r addAttend bBelow refl (y .1 .1 .0))) (λ i j m. refl) (λ i j m. refl)
+      (ltb-true _ _ (yes x r addAttend bBelow refl (said x r addAttend 6 y))) (λ i j m. refl) (λ i j m. refl)
       (λ i j u. ap (λ (t : Bool). x .attend i u j || t) (swap (slot r i) (eqb u (r .a)) (eqb j (r .b))))
-      (ltb-true _ _ (yes x r addAttend aBelow refl (y .1 .0)))
-      (λ i u h. alone addAttend attends (y .1 .1 .1 .1 .1 .1 .0) (y .1 .1 .1 .1 .1 .1 .1 .0) i u h)
+      (ltb-true _ _ (yes x r addAttend aBelow refl (said x r addAttend 5 y)))
+      (λ i u h. alone addAttend attends (said x r addAttend 11 y) (said x r addAttend 13 y) i u h)
 
   pub write-eraseAttend : Yes x r eraseAttend (always ++ further eraseAttend)
       → Carries S (change x r eraseAttend) (filled (gridOf S attendCells) (r .b) empty (r .first) (r .last + 1) b)
@@ -155,9 +155,9 @@ module _ (x : State) (s : Sound x) (r : Request) (b : List ℕ) (a : Carries (x 
   write-eraseAttend y =
       take-one eraseAttend y attendCells refl refl (λ i j m. x .attend i m j) _ (S .meetings) (r .b) (r .a) (change x r eraseAttend)
       (attend-frame x _)
-      (ltb-true _ _ (yes x r eraseAttend bBelow refl (y .1 .1 .0))) (λ i j m. refl) (λ i j m. refl)
+      (ltb-true _ _ (yes x r eraseAttend bBelow refl (said x r eraseAttend 6 y))) (λ i j m. refl) (λ i j m. refl)
       (λ i j u. ap (λ (t : Bool). x .attend i u j && not t) (swap (slot r i) (eqb u (r .a)) (eqb j (r .b))))
-      (λ i u h e. s .oneA attends refl i (r .b) u (r .a) e (was-present x r eraseAttend attends (y .1 .1 .1 .1 .0) i h))
+      (λ i u h e. s .oneA attends refl i (r .b) u (r .a) e (was-present x r eraseAttend attends (said x r eraseAttend 15 y) i h))
 
   -- kind 12: a pair, the item a, holding b with its information
   pub write-addConf : Yes x r addConf (always ++ further addConf)
@@ -166,10 +166,10 @@ module _ (x : State) (s : Sound x) (r : Request) (b : List ℕ) (a : Carries (x 
   write-addConf y =
       column a confPairs (slot r) (r .first) (r .last + 1) (last-slot x r addConf y) (λ i _. in-slots r i) (change x r addConf) (conf-frame x _)
       (r .a) _
-      (ltb-true _ _ (yes x r addConf aBelow refl (y .1 .0))) here
+      (ltb-true _ _ (yes x r addConf aBelow refl (said x r addConf 5 y))) here
     where
       hb : r .b < S .meetings
-      hb = ltb-true _ _ (yes x r addConf bBelow refl (y .1 .1 .0))
+      hb = ltb-true _ _ (yes x r addConf bBelow refl (said x r addConf 6 y))
 
       C : ℕ → ℕ → ℕ → Option ℕ
       C i j m = cond (slot r i && eqb j (r .a) && eqb m (r .b)) (some (r .info)) (x .conf i j m)
@@ -181,7 +181,7 @@ module _ (x : State) (s : Sound x) (r : Request) (b : List ℕ) (a : Carries (x 
       new i e = rw (e, eq-eqb (r .a) (r .a) refl, eq-eqb (r .b) (r .b) refl)
 
       free : (i u : ℕ) → slot r i ≡ true → isSome (x .conf i (r .a) u) ≡ true → ⊥
-      free i u h = is-free x r addConf s confs (y .1 .1 .1 .1 .1 .1 .0) i u h
+      free i u h = is-free x r addConf s confs (said x r addConf 12 y) i u h
 
       here : (i j k : ℕ) → Cell S confPairs i j k
           → word (change x r addConf) confPairs i j k ≡ cond (slot r i && eqb j (r .a)) (wordIn (full (r .b) (r .info) 0) k) (word x confPairs i j k)
@@ -240,10 +240,10 @@ module _ (x : State) (s : Sound x) (r : Request) (b : List ℕ) (a : Carries (x 
       new = some (record { seats = r .n; info = r .info })
 
       hb : r .b < S .meetings
-      hb = ltb-true _ _ (yes x r addLunch bBelow refl (y .1 .1 .0))
+      hb = ltb-true _ _ (yes x r addLunch bBelow refl (said x r addLunch 6 y))
 
       ha : r .a < S .dining
-      ha = ltb-true _ _ (yes x r addLunch aBelow refl (y .1 .0))
+      ha = ltb-true _ _ (yes x r addLunch aBelow refl (said x r addLunch 5 y))
 
       p : ℕ → ℕ → ℕ → Bool
       p i j g = isSome (x .lunch i g j)
@@ -256,7 +256,7 @@ module _ (x : State) (s : Sound x) (r : Request) (b : List ℕ) (a : Carries (x 
           ∙ ap (λ (t : Bool). p i j u || t) (swap (slot r i) (eqb u (r .a)) (eqb j (r .b)))
 
       free : (i u : ℕ) → slot r i ≡ true → p i (r .b) u ≡ true → ⊥
-      free i u h = alone addLunch lunches (y .1 .1 .1 .1 .1 .1 .0) (y .1 .1 .1 .1 .1 .1 .1 .0) i u h
+      free i u h = alone addLunch lunches (said x r addLunch 11 y) (said x r addLunch 13 y) i u h
 
       beside : (f : Option Lunch → ℕ) (w : ℕ) → f new ≡ w → (i j : ℕ) → found (lowest (q i j) 0 (S .dining)) (λ g. f (U addLunch y refl hb new i g j))
           ≡ cond (slot r i && eqb j (r .b)) w (found (lowest (p i j) 0 (S .dining)) (λ g. f (x .lunch i g j)))
@@ -272,7 +272,7 @@ module _ (x : State) (s : Sound x) (r : Request) (b : List ℕ) (a : Carries (x 
       (pair-erased r p q (S .dining) (λ i j. suc) (λ i j. suc) (r .b) (r .a) (λ i j _ u. refl) is only) (beside seatsOf) (beside lunchInfo)
     where
       hb : r .b < S .meetings
-      hb = ltb-true _ _ (yes x r eraseLunch bBelow refl (y .1 .1 .0))
+      hb = ltb-true _ _ (yes x r eraseLunch bBelow refl (said x r eraseLunch 6 y))
 
       p : ℕ → ℕ → ℕ → Bool
       p i j g = isSome (x .lunch i g j)
@@ -285,7 +285,7 @@ module _ (x : State) (s : Sound x) (r : Request) (b : List ℕ) (a : Carries (x 
           ∙ ap (λ (t : Bool). p i j u && not t) (swap (slot r i) (eqb u (r .a)) (eqb j (r .b)))
 
       only : (i u : ℕ) → slot r i ≡ true → p i (r .b) u ≡ true → u ≡ r .a
-      only i u h e = s .oneA lunches refl i (r .b) u (r .a) e (was-present x r eraseLunch lunches (y .1 .1 .1 .1 .0) i h)
+      only i u h e = s .oneA lunches refl i (r .b) u (r .a) e (was-present x r eraseLunch lunches (said x r eraseLunch 15 y) i h)
 
       beside : (f : Option Lunch → ℕ) (i j : ℕ) → found (lowest (q i j) 0 (S .dining)) (λ g. f (U eraseLunch y refl hb none i g j))
           ≡ cond (slot r i && eqb j (r .b)) 0 (found (lowest (p i j) 0 (S .dining)) (λ g. f (x .lunch i g j)))

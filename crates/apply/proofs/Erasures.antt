@@ -22,7 +22,7 @@ use Rattle.model.specs.Words.{Region, leaves, hotelCells, standings, attendCell
 use Rattle.model.specs.Words.{lunchInfo}
 use Rattle.model.proofs.Laws.{Sound}
 use Rattle.model.proofs.Places.{Cell}
-use Rattle.model.proofs.Keeps.{Yes, yes, slots-fit}
+use Rattle.model.proofs.Keeps.{Yes, said, yes, slots-fit}
 use Rattle.book.specs.Grids.{gridOf}
 use Rattle.book.proofs.Regions.{group-lt, date-lt}
 use Rattle.book.proofs.Goods.{ranges-by}
@@ -155,19 +155,19 @@ module _ (x : State) (s : Sound x) (r : Request) (b : List ℕ) (a : Carries (x 
   pub write-addLeave : Yes x r addLeave (always ++ further addLeave)
       → Carries S (change x r addLeave) (markedAll (gridOf S leaves) true (r .b) (r .first) (r .last + 1) b)
   unfolding change test
-  write-addLeave y = leave-bits x a (slot r) (r .first) (r .last + 1) true (r .b) (ltb-true _ _ (yes x r addLeave bBelow refl (y .1 .1 .0)))
+  write-addLeave y = leave-bits x a (slot r) (r .first) (r .last + 1) true (r .b) (ltb-true _ _ (yes x r addLeave bBelow refl (said x r addLeave 6 y)))
       (last-slot x r addLeave y) (λ i _. in-slots r i)
 
   pub write-endLeave : Yes x r endLeave (always ++ further endLeave)
       → Carries S (change x r endLeave) (markedAll (gridOf S leaves) false (r .b) (r .first) (r .last + 1) b)
   unfolding change test
-  write-endLeave y = leave-bits x a (slot r) (r .first) (r .last + 1) false (r .b) (ltb-true _ _ (yes x r endLeave bBelow refl (y .1 .1 .0)))
+  write-endLeave y = leave-bits x a (slot r) (r .first) (r .last + 1) false (r .b) (ltb-true _ _ (yes x r endLeave bBelow refl (said x r endLeave 6 y)))
       (last-slot x r endLeave y) (λ i _. in-slots r i)
 
   pub write-addStanding : Yes x r addStanding (always ++ further addStanding)
       → Carries S (change x r addStanding) (markedAll (gridOf S standings) true (r .a) (r .first) (r .last + 1) b)
   unfolding change test
-  write-addStanding y = standing-bits x a (slot r) (r .first) (r .last + 1) true (r .a) (ltb-true _ _ (yes x r addStanding aBelow refl (y .1 .0)))
+  write-addStanding y = standing-bits x a (slot r) (r .first) (r .last + 1) true (r .a) (ltb-true _ _ (yes x r addStanding aBelow refl (said x r addStanding 5 y)))
       (last-slot x r addStanding y) (λ i _. in-slots r i)
 
   -- kind 9: the standing, then the meeting's entries in the attend rows
@@ -177,7 +177,7 @@ module _ (x : State) (s : Sound x) (r : Request) (b : List ℕ) (a : Carries (x 
   unfolding change test
   write-endStanding y =
       attend-rows (withStanding x _)
-      (standing-bits x a (slot r) (r .first) (r .last + 1) false (r .a) (ltb-true _ _ (yes x r endStanding aBelow refl (y .1 .0)))
+      (standing-bits x a (slot r) (r .first) (r .last + 1) false (r .a) (ltb-true _ _ (yes x r endStanding aBelow refl (said x r endStanding 5 y)))
       (last-slot x r endStanding y) (λ i _. in-slots r i))
       (slot r) (r .first) (r .last + 1) (r .a) (last-slot x r endStanding y) (λ i _. in-slots r i) (s .oneA attends refl)
 
@@ -197,11 +197,11 @@ module _ (x : State) (s : Sound x) (r : Request) (b : List ℕ) (a : Carries (x 
       lunch-column (withConf x _)
       (conf-rows x a (slot r) (r .first) (r .last + 1) (r .b) (last-slot x r eraseConfAndLunch y) (λ i _. in-slots r i) (s .oneB confs refl))
       (within (dateOfSession S (r .first)) (dateOfSession S (r .last))) (dateOfSession S (r .first)) (dateOfSession S (r .last) + 1) (r .b)
-      (ltb-true _ _ (yes x r eraseConfAndLunch bBelow refl (y .1 .1 .0))) last-date
+      (ltb-true _ _ (yes x r eraseConfAndLunch bBelow refl (said x r eraseConfAndLunch 6 y))) last-date
       (λ i _. up-to (dateOfSession S (r .first)) (dateOfSession S (r .last)) i)
     where
       last-date : dateOfSession S (r .last) + 1 ≤ S .dates
-      last-date = omega (arith, date-lt S (ranges-by S (s .valid)) sessions (r .last) (slots-fit x r eraseConfAndLunch (y .1 .1 .1 .0) .1))
+      last-date = omega (arith, date-lt S (ranges-by S (s .valid)) sessions (r .last) (slots-fit x r eraseConfAndLunch (said x r eraseConfAndLunch 7 y) .1))
 
 -- kind 3: leave, hotel rows of the dates, ride rows of the times and the attend column of the sessions on those dates
 module _ (x : State) (s : Sound x) (b : List ℕ) (a : Carries (x .settings) x b) (v first last : ℕ) (hv : v < x .settings .visitors)

@@ -21,7 +21,7 @@ use Rattle.model.specs.Reading.{at, settingsOf, readState, stateOf}
 use Rattle.model.specs.Laws.{diaryLaid, diaryLawful}
 use Rattle.model.proofs.Search.{bool-eq}
 use Rattle.model.proofs.Places.{Seated, Cell, words-at, words-ext, length-words, length-settings}
-use Rattle.model.proofs.Keeps.{Yes, slots-fit}
+use Rattle.model.proofs.Keeps.{Yes, said, slots-fit}
 use Rattle.model.proofs.ReadBack.{valid-is, seated}
 use Rattle.model.proofs.Shown.{valid-settings, words-stateOf}
 use Rattle.book.specs.Grids.{gridOf}
@@ -123,4 +123,4 @@ pub in-slots : (r : Request) (i : ℕ) → slot r i ≡ leb (r .first) i && ltb 
 in-slots r i = up-to (r .first) (r .last) i
 
 pub last-slot : (x : State) (r : Request) (k : Kind) → Yes x r k (always ++ further k) → r .last + 1 ≤ slotsOf (x .settings) (row k .unit)
-last-slot x r k y = omega (arith, slots-fit x r k (y .1 .1 .1 .0))
+last-slot x r k y = omega (arith, slots-fit x r k (said x r k 7 y))

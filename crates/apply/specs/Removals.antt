@@ -11,9 +11,9 @@ use Rattle.model.specs.Kinds.{sessions, times, Kind.removeVisitor}
 use Rattle.model.specs.Machine.{change}
 use Rattle.model.specs.Words.{leaves, hotelCells, attendCells, rideCells}
 use Rattle.book.specs.Grids.{gridOf}
-use Rattle.book.specs.Stores.{empty, swept}
+use Rattle.book.specs.Stores.{Wrote, Swept}
 use Rattle.book.specs.Units.{OnDates}
-use Rattle.apply.specs.Stores.{filled, markedAll}
+use Rattle.apply.specs.Stores.{markedAll, Emptied}
 
 -- the request, and the state after it
 abbrev pub removal : ℕ → ℕ → ℕ → Request
@@ -22,14 +22,22 @@ removal v first last = record { kind = 3; a = 0; b = v; first = first; last = la
 abbrev pub without : State → ℕ → ℕ → ℕ → State
 without x v first last = change x (removal v first last) removeVisitor
 
--- on the date d, from b to c, by its times and its sessions
-pub record Erased (S : Settings) (v d : ℕ) (b c : List ℕ) : Type 0 where
+-- on the date d, from b to c: its leave, then the hotel row, the rides at its times and the meetings in its sessions, r bookings in all
+pub record Erased (S : Settings) (v d : ℕ) (b c : List ℕ) (r : ℕ) : Type 0 where
   pub lo : ℕ
   pub hi : ℕ
   pub from : ℕ
   pub to : ℕ
   pub rides : OnDates S times d d lo hi
   pub meetings : OnDates S sessions d d from to
-  pub is : c
-      ≡ filled (gridOf S attendCells) v empty from to
-      (swept (gridOf S rideCells) (v + 1) lo hi (swept (gridOf S hotelCells) (v + 1) d (d + 1) (markedAll (gridOf S leaves) false v d (d + 1) b)))
+  pub b1 : List ℕ
+  pub b2 : List ℕ
+  pub b3 : List ℕ
+  pub r1 : ℕ
+  pub r2 : ℕ
+  pub r3 : ℕ
+  pub leave : Wrote (markedAll (gridOf S leaves) false v d (d + 1)) b b1
+  pub hotel : Swept (gridOf S hotelCells) (v + 1) d (d + 1) b1 b2 r1
+  pub ride : Swept (gridOf S rideCells) (v + 1) lo hi b2 b3 r2
+  pub attend : Emptied (gridOf S attendCells) v from to b3 c r3
+  pub count : r ≡ r1 + r2 + r3

@@ -11,7 +11,8 @@ use Rattle.model.specs.declared.Settings.{Settings}
 use Rattle.model.specs.Site.{dateOfSession}
 use Rattle.book.specs.Grids.{cellAt}
 use Rattle.book.specs.Lent.{Lies}
-use Rattle.book.specs.Stores.{over, empty, stored, replaced, swept}
+use Rattle.book.specs.Stores.{Wrote, over, empty, stored, replaced, swept}
+use Rattle.queries.specs.Shown.{columnCount}
 use Rattle.pool.specs.Pool.{put, clear}
 
 -- an entry: the number plus 1, and the words beside it
@@ -21,6 +22,11 @@ full who second third = record { entry = who + 1; second = second; third = third
 -- a column filled
 unfoldable pub filled : Grid → ℕ → Content → ℕ → ℕ → List ℕ → List ℕ
 filled g j c from to b = over (λ i. stored g c i j) from to b
+
+-- from b to c a column is emptied, and r of its cells were full
+pub record Emptied (g : Grid) (j from to : ℕ) (b c : List ℕ) (r : ℕ) : Type 0 where
+  pub wrote : Wrote (filled g j empty from to) b c
+  pub count : r ≡ columnCount g b j from to
 
 -- a pool word with bit k set or cleared; the bit of member v in a slot, and in some slots
 abbrev pub flipped : Bool → ℕ → ℕ → ℕ

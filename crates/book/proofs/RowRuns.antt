@@ -42,6 +42,24 @@ block-few g b lo hi f h =
     let a : (hi - lo) * across g ≤ g .slots * across g = mul-le-mul-right (across g) (omega (arith, h)) in
     omega (arith, a, mul-assoc (g .slots) (g .items) (g .width), f .ends, f .small)
 
+-- cells of one word stand one behind the other, and so do their rows
+module _ (g : Grid) (e : g .width ≡ 1) where
+  place-at : (i j : ℕ) → place g i j 0 ≡ g .base + (i * g .items + j)
+  place-at i j = ap (λ (v : ℕ). g .base + ((i * g .items + j) * v + 0)) e ∙ omega (arith, mul-one (i * g .items + j))
+
+  pub rows-words : (b : List ℕ) (w lo hi : ℕ)
+      → sumFrom (λ n. one (eqb (getD b n 0) w)) (g .base + lo * g .items) ((hi - lo) * g .items) ≡ rowsCount g b w lo hi
+  unfolding rowsCount rowCount cellAt
+  rows-words b w lo hi =
+      sym (sum-on (λ n. one (eqb (getD b n 0) w)) (g .base) (lo * g .items) ((hi - lo) * g .items))
+      ∙ sym (sum-blocks f (g .items) lo (hi - lo))
+      ∙ sum-agree (λ i. sumFrom (λ j. f (i * g .items + j)) 0 (g .items)) (λ i. count (λ j. eqb (getD b (place g i j 0) 0) w) (g .items)) lo (hi - lo)
+      (λ i s t. count-same (λ j. eqb (getD b (g .base + (i * g .items + j)) 0) w) (λ j. eqb (getD b (place g i j 0) 0) w) (g .items)
+      (λ j u. ap (λ (n : ℕ). eqb (getD b n 0) w) (sym (place-at i j))))
+    where
+      f : ℕ → ℕ
+      f n = one (eqb (getD b (g .base + n) 0) w)
+
 -- a block of one-word cells
 module _ (g : Grid) (lo hi : ℕ) (e : g .width ≡ 1) (b row : List ℕ) (p : Part row ((hi - lo) * across g) (blockOf g b lo hi)) where
   narrow : across g ≡ g .items
@@ -50,31 +68,25 @@ module _ (g : Grid) (lo hi : ℕ) (e : g .width ≡ 1) (b row : List ℕ) (p : P
   pub part-long : length row ≡ (hi - lo) * g .items
   part-long = p .long ∙ ap (λ (n : ℕ). (hi - lo) * n) narrow
 
-  part-at : (j : ℕ) → j < (hi - lo) * g .items → getD row j 0 ≡ getD b (g .base + (lo * g .items + j)) 0
+  part-at : (j : ℕ) → j < (hi - lo) * g .items → getD row j 0 ≡ getD b (g .base + lo * g .items + j) 0
   part-at j h =
       ap (λ (r : List ℕ). getD r j 0) (p .is)
       ∙ getD-take ((hi - lo) * across g) (drop (g .base + lo * across g) b) j 0 (omega (arith, h, ap (λ (n : ℕ). (hi - lo) * n) narrow))
       ∙ getD-drop (g .base + lo * across g) b j 0
       ∙ ap (λ (n : ℕ). getD b n 0) (omega (arith, ap (λ (n : ℕ). lo * n) narrow))
 
-  place-at : (i j : ℕ) → place g i j 0 ≡ g .base + (i * g .items + j)
-  place-at i j = ap (λ (v : ℕ). g .base + ((i * g .items + j) * v + 0)) e ∙ omega (arith, mul-one (i * g .items + j))
-
   pub part-counts : (w : ℕ) → partCount row w ≡ rowsCount g b w lo hi
-  unfolding partCount rowsCount rowCount cellAt
+  unfolding partCount
   part-counts w =
       ap (count (λ j. eqb (getD row j 0) w)) part-long
-      ∙ count-same (λ j. eqb (getD row j 0) w) (λ j. eqb (getD b (g .base + (lo * g .items + j)) 0) w) ((hi - lo) * g .items)
+      ∙ count-same (λ j. eqb (getD row j 0) w) (λ j. eqb (getD b (start + j) 0) w) ((hi - lo) * g .items)
       (λ j t. ap (λ (v : ℕ). eqb v w) (part-at j t))
-      ∙ sum-on f (lo * g .items) 0 ((hi - lo) * g .items)
-      ∙ ap (λ (n : ℕ). sumFrom f n ((hi - lo) * g .items)) (let z : lo * g .items + 0 ≡ lo * g .items = omega arith in z)
-      ∙ sym (sum-blocks f (g .items) lo (hi - lo))
-      ∙ sum-agree (λ i. sumFrom (λ j. f (i * g .items + j)) 0 (g .items)) (λ i. count (λ j. eqb (getD b (place g i j 0) 0) w) (g .items)) lo (hi - lo)
-      (λ i s t. count-same (λ j. eqb (getD b (g .base + (i * g .items + j)) 0) w) (λ j. eqb (getD b (place g i j 0) 0) w) (g .items)
-      (λ j u. ap (λ (n : ℕ). eqb (getD b n 0) w) (sym (place-at i j))))
+      ∙ sum-on (λ n. one (eqb (getD b n 0) w)) start 0 ((hi - lo) * g .items)
+      ∙ ap (λ (n : ℕ). sumFrom (λ n. one (eqb (getD b n 0) w)) n ((hi - lo) * g .items)) (let z : start + 0 ≡ start = omega arith in z)
+      ∙ rows-words g e b w lo hi
     where
-      f : ℕ → ℕ
-      f n = one (eqb (getD b (g .base + n) 0) w)
+      start : ℕ
+      start = g .base + lo * g .items
 
   -- one row of a pool
   pub part-members : hi ≡ lo + 1 → count (member row) (length row * 32) ≡ rowMembers g b lo
@@ -85,7 +97,8 @@ module _ (g : Grid) (lo hi : ℕ) (e : g .width ≡ 1) (b row : List ℕ) (p : P
       ap (λ (n : ℕ). count (member row) (n * 32)) m
       ∙ count-same (member row) (λ v. bit (getD b (place g lo (v / 32) 0) 0) (v % 32)) (g .items * 32)
       (λ v t. ap (λ (w : ℕ). bit w (v % 32))
-      (part-at (v / 32) (omega (arith, part-long, m, t)) ∙ ap (λ (n : ℕ). getD b n 0) (sym (place-at lo (v / 32)))))
+      (part-at (v / 32) (omega (arith, part-long, m, t))
+      ∙ ap (λ (n : ℕ). getD b n 0) (omega (arith, place-at g e lo (v / 32)))))
 
 -- one row
 pub one-row : (g : Grid) (b : List ℕ) (w i : ℕ) → rowsCount g b w i (i + 1) ≡ rowCount g b i w
@@ -97,7 +110,7 @@ module _ (row : List ℕ) (w : ℕ) where
   abbrev pub here : ℕ → Bool
   here j = eqb (getD row j 0) w
 
-  part-from : (i n : ℕ) → i + n ≤ length row → partCount (take n (drop i row)) w ≡ sumFrom (λ j. one (here j)) i n
+  pub part-from : (i n : ℕ) → i + n ≤ length row → partCount (take n (drop i row)) w ≡ sumFrom (λ j. one (here j)) i n
   unfolding partCount
   part-from i n h =
       let m : length (take n (drop i row)) ≡ n = omega (arith, length-take n (drop i row), length-drop i row) in

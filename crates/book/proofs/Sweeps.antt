@@ -1,22 +1,25 @@
 -- The words of a cell, and rows of one-word cells as one run of words.
 -- Assumes nothing.
 use Prim.Native.Nat.{ℕ, zero, suc, _+_, _*_, _-_, _≤_, _<_}
-use mathlib.Core.Path.{_≡_, refl, sym, _∙_, ap}
+use mathlib.Core.Path.{_≡_, refl, sym, _∙_, ap, ap₂}
 use mathlib.Core.Bool.{Bool, true, false, not, cond}
 use mathlib.Core.List.{List}
 use native.Mathlib.Nat.{add-mul, mul-one, mul-le-mul-right}
 use native.Mathlib.Omega.{arith}
 use lib.Dec.{eqb}
 use lib.ListN.{length, set, getD, take, drop, length-set, length-take, length-drop}
-use lib.Seq.{set-getD, getD-drop, getD-take}
+use lib.Seq.{set-getD, getD-set-other, getD-drop, getD-take}
+use Rattle.model.specs.Bounded.{one, sumFrom}
 use Rattle.model.proofs.Search.{any-false}
+use Rattle.model.proofs.Sums.{sum-agree, sum-split}
 use Rattle.book.specs.declared.grid.Grid.{Grid}
 use Rattle.book.specs.declared.puts.Content.{Content}
 use Rattle.book.specs.Grids.{Fits, place, cellAt}
-use Rattle.book.specs.Rows.{partCount}
-use Rattle.book.specs.Stores.{Stretch, times, over, wordIn, empty, puts, stored, cleared, sweptRow, swept, zeroed}
-use Rattle.book.proofs.Counts.{any-count}
-use Rattle.book.proofs.Turns.{times-none, times-add, times-from, times-long}
+use Rattle.book.specs.Rows.{partCount, wordsCount, rowsCount}
+use Rattle.book.specs.Stores.{Stretch, Cleared, times, over, wordIn, empty, puts, stored, cleared, sweptRow, swept, zeroed}
+use Rattle.book.proofs.Counts.{any-count, count-le}
+use Rattle.book.proofs.RowRuns.{part-from, rows-words}
+use Rattle.book.proofs.Turns.{times-none, times-add, times-from, times-long, over-end, over-split}
 
 -- a width that is neither 1 nor 2
 pub three-left : (w : ℕ) → 1 ≤ w → w ≤ 3 → (w ≡ 1 → ⊥) → (w ≡ 2 → ⊥) → w ≡ 3
@@ -70,6 +73,47 @@ run-kept w n m b l h z = times-none (zeroed w) n (m - n) b (λ j a k. word-kept 
         ∙ any-false (λ j. eqb (getD part j 0) w) (length part)
         (any-count (λ j. eqb (getD part j 0) w) (length part) ∙ ap (λ (n : ℕ). not (eqb n 0)) z) (j - n) q
 
+-- the words behind a run stay
+run-later : (w n m j : ℕ) (b : List ℕ) → n + m ≤ j → getD (times (zeroed w) n m b) j 0 ≡ getD b j 0
+unfolding zeroed
+run-later w n zero j b h = refl
+run-later w n (suc m) j b h =
+    run-later w (suc n) m j (zeroed w n b) (omega arith) ∙ getD-set-other b n j (cond (eqb (getD b n 0) w) 0 (getD b n 0)) 0 (λ e. omega (arith, e))
+
+-- a run cleared with a count: none of it, a block of it, and one part after another
+pub cleared-none : (w n : ℕ) (b : List ℕ) → Cleared w n n b b 0
+unfolding wordsCount
+cleared-none w n b =
+    let z : n - n ≡ 0 = omega arith in
+    record { is = sym (over-end (zeroed w) n n b (omega arith)); count = sym (ap (sumFrom (λ j. one (eqb (getD b j 0) w)) n) z) }
+
+pub cleared-block : (w n m : ℕ) (b c : List ℕ) (r : ℕ) → n ≤ m → m ≤ length b → c ≡ over (zeroed w) n m b
+    → r ≡ partCount (take (m - n) (drop n b)) w → Cleared w n m b c r
+unfolding wordsCount
+cleared-block w n m b c r l h e k = record { is = e; count = k ∙ part-from b w n (m - n) (omega arith) }
+
+pub cleared-then : {w n m k : ℕ} {b c d : List ℕ} {r q : ℕ} → n ≤ m → m ≤ k → Cleared w n m b c r → Cleared w m k c d q → Cleared w n k b d (r + q)
+unfolding wordsCount
+cleared-then {w} {n} {m} {k} {b} {c} {d} {r} {q} l h e f =
+    let len : k - n ≡ (m - n) + (k - m) = omega arith in
+    let mid : n + (m - n) ≡ m = omega arith in
+    record {
+      is = f .is ∙ ap (over (zeroed w) m k) (e .is) ∙ sym (over-split (zeroed w) n m k b l h);
+      count = ap₂ _+_ (e .count) (f .count
+          ∙ sum-agree (λ j. one (eqb (getD c j 0) w)) here m (k - m)
+          (λ j a _. ap (λ (v : ℕ). one (eqb v w)) (ap (λ (c : List ℕ). getD c j 0) (e .is) ∙ run-later w n (m - n) j b (omega arith))))
+          ∙ ap (λ (i : ℕ). sumFrom here n (m - n) + sumFrom here i (k - m)) (sym mid)
+          ∙ sym (sum-split here n (m - n) (k - m))
+          ∙ sym (ap (sumFrom here n) len);
+    }
+  where
+    here : ℕ → ℕ
+    here j = one (eqb (getD b j 0) w)
+
+pub cleared-few : {w n m : ℕ} {b c : List ℕ} {r : ℕ} → Cleared w n m b c r → r ≤ m - n
+unfolding wordsCount
+cleared-few {w} {n} {m} {b} e = omega (arith, e .count, count-le (λ j. eqb (getD b j 0) w) n (m - n))
+
 module _ (g : Grid) (one-word : g .width ≡ 1) where
   single : (n : ℕ) → n * g .width ≡ n
   single n = ap (λ (w : ℕ). n * w) one-word ∙ mul-one n
@@ -111,17 +155,27 @@ module _ (g : Grid) (one-word : g .width ≡ 1) where
       ∙ ap (λ (k : ℕ). times (zeroed w) (place g from 0 0) k b) z
 
   -- the rows from `from` to before `to` are the words from `start` to before `end`
+  run-long : (from to start end : ℕ) → Stretch g from to start end → from ≤ to → end - start ≡ (to - from) * g .items
+  run-long from to start end x l =
+      let k : from + (to - from) ≡ to = omega arith in
+      let e : from * g .items + (to - from) * g .items ≡ to * g .items = sym (add-mul from (to - from) (g .items)) ∙ ap (λ (n : ℕ). n * g .items) k in
+      omega (arith, x .from, x .to, e)
+
   pub run-is : (from to start end : ℕ) → Stretch g from to start end → from ≤ to → (w : ℕ) (b : List ℕ) → over (zeroed w) start end b
       ≡ swept g w from to b
   unfolding swept
   run-is from to start end x l w b =
-      let k : from + (to - from) ≡ to = omega arith in
-      let e : from * g .items + (to - from) * g .items ≡ to * g .items = sym (add-mul from (to - from) (g .items)) ∙ ap (λ (n : ℕ). n * g .items) k in
-      let n : end - start ≡ (to - from) * g .items = omega (arith, x .from, x .to, e) in
+      let n = run-long from to start end x l in
       let p : start ≡ place g from 0 0 = omega (arith, x .from, single (from * g .items + 0)) in
       ap (λ (n : ℕ). times (zeroed w) start n b) n
       ∙ ap (λ (r : ℕ). times (zeroed w) r ((to - from) * g .items) b) p
       ∙ sym (rows-run w from (to - from) b)
+
+  pub run-count : (from to start end : ℕ) → Stretch g from to start end → from ≤ to → (w : ℕ) (b : List ℕ) → wordsCount b w start end
+      ≡ rowsCount g b w from to
+  unfolding wordsCount
+  run-count from to start end x l w b =
+      ap₂ (λ (s n : ℕ). sumFrom (λ j. one (eqb (getD b j 0) w)) s n) (x .from) (run-long from to start end x l) ∙ rows-words g one-word b w from to
 
 -- the rows of a run of slots lie in the grid
 pub stretch-is : (g : Grid) (lo hi n : ℕ) → g .width ≡ 1 → lo ≤ hi → hi ≤ g .slots → Fits g n

@@ -10,6 +10,7 @@ use Rattle.book.specs.declared.grid.Grid.{Grid}
 use Rattle.book.specs.declared.puts.Content.{Content}
 use Rattle.book.specs.Grids.{place, cellAt}
 use Rattle.book.specs.Lent.{Lies}
+use Rattle.book.specs.Rows.{wordsCount, rowsCount}
 
 -- from the words b to c by F, and every grid that lies in b lies in c
 pub record Wrote (F : List ℕ → List ℕ) (b c : List ℕ) : Type 0 where
@@ -58,6 +59,17 @@ swept g w from to b = over (λ i. sweptRow g w i) from to b
 -- a word that is w becomes 0
 unfoldable pub zeroed : ℕ → ℕ → List ℕ → List ℕ
 zeroed w n b = set b n (cond (eqb (getD b n 0) w) 0 (getD b n 0))
+
+-- from b to c those words become 0, and r of them were w
+pub record Cleared (w start end : ℕ) (b c : List ℕ) (r : ℕ) : Type 0 where
+  pub is : c ≡ over (zeroed w) start end b
+  pub count : r ≡ wordsCount b w start end
+
+-- from b to c the rows of some slots are swept of w, and r of their cells held it
+pub record Swept (g : Grid) (w from to : ℕ) (b c : List ℕ) (r : ℕ) : Type 0 where
+  pub wrote : Wrote (swept g w from to) b c
+  pub count : r ≡ rowsCount g b w from to
+  pub few : r ≤ 1000000000
 
 -- the rows of the slots from lo to before hi, cells of one word one behind the other, are the words from `start` to before `end`
 pub record Stretch (g : Grid) (lo hi start end : ℕ) : Type 0 where

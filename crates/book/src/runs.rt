@@ -8,7 +8,7 @@ ghost use lib.Dec.{eqb};
 ghost use lib.ListN.{length};
 ghost use Rattle.book.specs.Lent.{reading, Lies};
 ghost use Rattle.book.specs.Grids.{Fits};
-ghost use Rattle.book.specs.Stores.{Stretch, over, zeroed, swept, Wrote};
+ghost use Rattle.book.specs.Stores.{Stretch, over, zeroed, Cleared, Swept};
 
 // How many words are looked at before any of them is written.
 const BLOCK: usize = 64;
@@ -36,28 +36,31 @@ fn clear_words(book: &mut [u32], w: u32, start: usize, end: usize)
     }
 }
 
-// The same of a short run, which is only read where no word is w.
-fn clear_block(book: &mut [u32], w: u32, start: usize, end: usize)
+// The same of a short run, which is only read where no word is w; how many there were.
+fn clear_block(book: &mut [u32], w: u32, start: usize, end: usize) -> u32
     requires { ⌜ (start ≤ end) × (end ≤ length (now book)) × (length (now book) ≤ 1000000000) ⌝ }
-    ensures { λ _. ⌜ now (book .exit) ≡ over (zeroed w) start end (now (book .entry)) ⌝ }
+    ensures { λ r. ⌜ Cleared w start end (now (book .entry)) (now (book .exit)) r ⌝ }
 {
-    if part_count(&book[start..end], w) == 0 {
-        return;
+    let here = part_count(&book[start..end], w);
+    if here == 0 {
+        return 0;
     }
     clear_words(book, w, start, end);
+    here
 }
 
 // The same of a run of any length, block by block.
-fn clear_run(book: &mut [u32], w: u32, start: usize, end: usize)
+fn clear_run(book: &mut [u32], w: u32, start: usize, end: usize) -> u32
     requires { ⌜ (start ≤ end) × (end ≤ length (now book)) × (length (now book) ≤ 1000000000) ⌝ }
-    ensures { λ _. ⌜ now (book .exit) ≡ over (zeroed w) start end (now (book .entry)) ⌝ }
+    ensures { λ r. ⌜ Cleared w start end (now (book .entry)) (now (book .exit)) r ⌝ }
 {
+    let mut cleared: u32 = 0;
     let mut n = start;
     while BLOCK <= end - n {
-        clear_block(book, w, n, n + BLOCK);
+        cleared += clear_block(book, w, n, n + BLOCK);
         n += BLOCK;
     }
-    clear_block(book, w, n, end);
+    cleared + clear_block(book, w, n, end)
 }
 
 // The words from `start` to before `end`.
@@ -80,18 +83,18 @@ fn rows_extent(g: Grid, lo: u32, hi: u32) -> Extent
     }
 }
 
-// Every cell that holds w in the slots from `from` to before `to`, of one-word cells.
-pub fn sweep_run(book: &mut [u32], g: Grid, w: u32, from: u32, to: u32)
+// Every cell that holds w in the slots from `from` to before `to`, of one-word cells; how many there were.
+pub fn sweep_run(book: &mut [u32], g: Grid, w: u32, from: u32, to: u32) -> u32
     requires { ⌜ Lies g (reading (now book)) ⌝ }
     requires { ⌜ g .width ≡ 1 ⌝ }
     requires { ⌜ to ≤ g .slots ⌝ }
-    ensures { λ _. ⌜ Wrote (swept g w from to) (reading (now (book .entry))) (reading (now (book .exit))) ⌝ }
+    ensures { λ r. ⌜ Swept g w from to (reading (now (book .entry))) (reading (now (book .exit))) r ⌝ }
 {
     if to <= from {
-        return;
+        return 0;
     }
     let run = rows_extent(g, from, to);
     let start = run.start;
     let end = run.end;
-    clear_run(book, w, start, end);
+    clear_run(book, w, start, end)
 }

@@ -18,8 +18,8 @@ use Rattle.book.specs.Blocks.{Part, across, blockOf}
 use Rattle.book.specs.Lent.{Lies}
 use Rattle.book.proofs.Regions.{fits, lies}
 use Rattle.book.proofs.Spans.{block-by}
-use Rattle.checking.specs.Rows.{rowAt}
-use Rattle.checking.proofs.Parts.{row-inside}
+use Rattle.rules.specs.Rows.{rowAt}
+use Rattle.rules.proofs.Parts.{row-inside}
 
 -- the words of a slot in a region
 abbrev pub rowOf : Settings → Region → ℕ

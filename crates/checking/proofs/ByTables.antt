@@ -9,10 +9,10 @@ use native.Mathlib.Numerals.{add-one}
 use native.Mathlib.Omega.{arith}
 use lib.ListN.{length, getD}
 use borrow.Author.Tests.{not-false}
-use Rattle.checking.specs.Rows.{Barred, BarredDate, Most, Guests, Session, Triple, Lunches}
+use Rattle.rules.specs.Rows.{Barred, BarredDate, Most, Guests, Triple, Lunches}
 use Rattle.pool.specs.Pool.{member}
-use Rattle.checking.specs.Days.{Guested, Met, Eaten, standsIn}
-use Rattle.checking.proofs.Barring.{cell-member, member-cell, most-low}
+use Rattle.checking.specs.Days.{Session, Guested, Met, Eaten, standsIn}
+use Rattle.rules.proofs.Barring.{cell-member, member-cell, most-low}
 
 module _ (leave : List ℕ) (limit : ℕ) (t : List Bool) (b : Barred leave limit t) where
   pub guested : (row : List ℕ) → Guests row limit t → Guested row leave limit

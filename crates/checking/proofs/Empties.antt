@@ -11,10 +11,10 @@ use borrow.Author.Tests.{ltb-true, ltb-false}
 use Rattle.model.specs.declared.Settings.{Settings}
 use Rattle.model.specs.Bounded.{sum}
 use Rattle.model.specs.Words.{groups}
-use Rattle.checking.specs.Rows.{Blank, Padded, rowAt, seatsIn}
+use Rattle.rules.specs.Rows.{Blank, Padded, rowAt, seatsIn}
 use Rattle.checking.specs.Days.{Guested, Met, Day, Empty}
 use Rattle.checking.proofs.Addresses.{row-at}
-use Rattle.checking.proofs.Parts.{row-long}
+use Rattle.rules.proofs.Parts.{row-long}
 use Rattle.model.proofs.Sums.{sum-empty}
 
 row-blank : (cells : List ℕ) → Blank cells → (width i : ℕ) → Blank (rowAt width i cells)

@@ -21,12 +21,12 @@ use Rattle.model.proofs.Sums.{sum-agree}
 use Rattle.pool.specs.Pool.{member}
 use Rattle.book.specs.Grids.{Laid}
 use Rattle.book.specs.Units.{OnDates}
-use Rattle.checking.specs.Rows.{rowAt, seatsIn}
+use Rattle.rules.specs.Rows.{rowAt, seatsIn}
 use Rattle.checking.specs.Days.{Met, Day, standsIn}
 use Rattle.checking.specs.Kept.{GuestsAt, SessionAt, seatsAt, Kept}
 use Rattle.checking.proofs.Addresses.{runOf, run-long, day-long}
 use Rattle.checking.proofs.Addresses.{leave-at, hotel-at, lunch-at, stand-word, stand-at, attend-at, ride-at, conf-at}
-use Rattle.checking.proofs.Parts.{row-long-is}
+use Rattle.rules.proofs.Parts.{row-long-is}
 use Rattle.checking.proofs.Runs.{run-order, run-slot, run-date, run-from, run-inside}
 use Rattle.checking.proofs.Slots.{slot-by, by-slot, bit-is}
 

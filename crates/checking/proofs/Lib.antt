@@ -1,12 +1,4 @@
-pub mod Answers
-pub mod Zeros
-pub mod Parts
-pub mod Limits
-pub mod Copying
-pub mod Passing
-pub mod Barring
-pub mod Cells
-pub mod Seating
+pub mod Sessions
 pub mod ByTables
 pub mod Addresses
 pub mod Empties

@@ -23,16 +23,16 @@ use Rattle.model.specs.Laws.{eachCell, cellsWithin, confRule, lunchRule, cellTe
 use Rattle.model.specs.Laws.{Law.oneVisitorARoom, Law.oneRoomAVisitor, Law.oneVisitorARide, Law.oneRideAVisitor, Law.oneMeetingAVisitor}
 use Rattle.model.specs.Laws.{Law.oneMeetingARoom, Law.oneRoomALunch}
 use Rattle.model.specs.Laws.{Law.attendedStands, Law.confStands, Law.lunchStands, Law.hotelLeave, Law.rideLeave, Law.attendLeave, Law.seatsWithin}
-use Rattle.model.proofs.Search.{Each, conj-is, conj-by, and-left, and-right, and-true, true-all, within-true, true-within}
+use Rattle.model.proofs.Search.{conj-by, and-left, and-right, and-true, true-all, within-true, true-within}
 use Rattle.model.proofs.ReadBack.{inside-by}
 use Rattle.model.proofs.Sums.{sum-agree, sum-empty}
 use Rattle.model.proofs.Laws.{Sound, law-by, oneA-by, oneB-by, each-by}
-use Rattle.model.proofs.Shown.{each-cell, some-is}
+use Rattle.model.proofs.Shown.{CellRules, cell-rules-is, each-cell, some-is}
 use Rattle.model.proofs.Sound.{book-sound, held-some}
 use Rattle.model.specs.Reading.{settingsOf, stateOf}
 use Rattle.model.specs.Laws.{diaryLaid, diaryLawful}
-use Rattle.checking.specs.Rows.{Decides}
-use Rattle.checking.specs.Days.{Eaten, Caps}
+use Rattle.rules.specs.Rows.{Decides, Caps}
+use Rattle.checking.specs.Days.{Eaten}
 use Rattle.checking.specs.Kept.{GuestsAt, SessionAt, seatsAt, Kept}
 use Rattle.checking.proofs.Slots.{held, holds-by, within-by, one-a-cell, one-a-row}
 
@@ -164,7 +164,7 @@ module _ (S : Settings) (caps b : List ℕ) (r : Ranges S) (cs : Caps S caps) wh
     lawful-by = and-true rules-by laws-by
 
   -- a sound state that keeps the cell rules gives the facts
-  module _ (s : Sound (readState S b)) (rules : Each (cellTests S b)) where
+  module _ (s : Sound (readState S b)) (rules : CellRules S b) where
     range-is : (g : Region) (n : ℕ) → cellsWithin S b g n ≡ true → (i j : ℕ) → i < slots S g → j < items S g → at S b g i j 0 ≤ n
     range-is g n e i j h l = leb-true _ n (each-cell S g (λ i j. leb (at S b g i j 0) n) e i j h l)
 
@@ -179,7 +179,7 @@ module _ (S : Settings) (caps b : List ℕ) (r : Ranges S) (cs : Caps S caps) wh
     hotel-is : (d : ℕ) → d < S .dates → GuestsAt S b hotelCells (S .visitors) d d
     unfolding readState
     hotel-is d h = record {
-      range = λ j l. range-is hotelCells (S .visitors) (rules .1 .0) d j h l;
+      range = λ j l. range-is hotelCells (S .visitors) (rules .hotel-cells) d j h l;
       onLeave = λ j v l e. s .guests hotels refl d j v (holds-by S b hotelCells d j v h l e);
       once = once-is hotelCells d h (λ v j k e q. s .oneA hotels refl d v j k e q);
     }
@@ -187,7 +187,7 @@ module _ (S : Settings) (caps b : List ℕ) (r : Ranges S) (cs : Caps S caps) wh
     ride-is : (t : ℕ) → t < allTimes S → GuestsAt S b rideCells (S .visitors) t (dateOfTime S t)
     unfolding readState
     ride-is t h = record {
-      range = λ j l. range-is rideCells (S .visitors) (rules .1 .1 .1 .1 .1 .1 .1 .1 .0) t j h l;
+      range = λ j l. range-is rideCells (S .visitors) (rules .ride-cells) t j h l;
       onLeave = λ j v l e. s .guests rides refl t j v (holds-by S b rideCells t j v h l e);
       once = once-is rideCells t h (λ v j k e z. s .oneA rides refl t v j k e z);
     }
@@ -196,15 +196,15 @@ module _ (S : Settings) (caps b : List ℕ) (r : Ranges S) (cs : Caps S caps) wh
     unfolding readState
     session-is i h = record {
       pad = λ j l.
-          ltb-true _ _ (each-cell S standings (λ i j. ltb (at S b standings i j 0) (2 ^ min 32 (S .meetings - j * 32))) (rules .1 .1 .0) i j h l);
-      range = λ j l. range-is attendCells (S .meetings) (rules .1 .1 .1 .0) i j h l;
+          ltb-true _ _ (each-cell S standings (λ i j. ltb (at S b standings i j 0) (2 ^ min 32 (S .meetings - j * 32))) (rules .standing-bits) i j h l);
+      range = λ j l. range-is attendCells (S .meetings) (rules .attend-cells) i j h l;
       onLeave = λ j l n.
           let w : at S b attendCells i j 0 ≡ suc (at S b attendCells i j 0 - 1) = omega (arith, n) in
           s .guests attends refl i (at S b attendCells i j 0 - 1) j (holds-by S b attendCells i j _ h l w);
       attended = λ j m l e. s .attended i m j (holds-by S b attendCells i j m h l e);
-      within = λ j l. range-is confPairs (S .meetings) (rules .1 .1 .1 .1 .0) i j h l;
+      within = λ j l. range-is confPairs (S .meetings) (rules .conf-cells) i j h l;
       stands = λ j m l e. s .held i j m (some-is (holds S b confPairs i j m) _ ∙ holds-by S b confPairs i j m h l e);
-      beside = λ j l e. eqb-true _ 0 (rw (eq-eqb _ 0 e) at (each-cell S confPairs (confRule S b) (rules .1 .1 .1 .1 .1 .0) i j h l));
+      beside = λ j l e. eqb-true _ 0 (rw (eq-eqb _ 0 e) at (each-cell S confPairs (confRule S b) (rules .conf-beside) i j h l));
     }
 
     lunch-is : (d j : ℕ) → d < S .dates → j < S .meetings
@@ -212,8 +212,8 @@ module _ (S : Settings) (caps b : List ℕ) (r : Ranges S) (cs : Caps S caps) wh
     unfolding readState
     lunch-is d j h l =
         go (at S b lunchTriples d j 0) (at S b lunchTriples d j 1) (at S b lunchTriples d j 2) refl
-        (range-is lunchTriples (S .dining) (rules .1 .1 .1 .1 .1 .1 .0) d j h l)
-        (each-cell S lunchTriples (lunchRule S b) (rules .1 .1 .1 .1 .1 .1 .1 .0) d j h l)
+        (range-is lunchTriples (S .dining) (rules .lunch-cells) d j h l)
+        (each-cell S lunchTriples (lunchRule S b) (rules .lunch-beside) d j h l)
       where
         go : (w n i : ℕ) → at S b lunchTriples d j 0 ≡ w → w ≤ S .dining
             → cond (eqb w 0) (eqb n 0 && eqb i 0) (within 1 (capacity S (w - 1)) n) ≡ true
@@ -277,12 +277,12 @@ module _ (S : Settings) (caps b : List ℕ) (r : Ranges S) (cs : Caps S caps) wh
             omega (
               arith,
               sum-empty (seatsAt S b d (suc g)) 0 (S .meetings)
-                  (λ j _ k. out j (ltb-false g (S .dining) q) (range-is lunchTriples (S .dining) (rules .1 .1 .1 .1 .1 .1 .0) d j h (omega arith))),
+                  (λ j _ k. out j (ltb-false g (S .dining) q) (range-is lunchTriples (S .dining) (rules .lunch-cells) d j h (omega arith))),
             )
 
     pub kept-is : (d : ℕ) → d < S .dates → Kept S caps b d
     kept-is d h = record {
-      pad = λ j l. ltb-true _ _ (each-cell S leaves (λ i j. ltb (at S b leaves i j 0) (2 ^ min 32 (S .visitors - j * 32))) (rules .0) d j h l);
+      pad = λ j l. ltb-true _ _ (each-cell S leaves (λ i j. ltb (at S b leaves i j 0) (2 ^ min 32 (S .visitors - j * 32))) (rules .leave-bits) d j h l);
       hotel = hotel-is d h;
       ride = λ t l e. subst (λ (x : ℕ). GuestsAt S b rideCells (S .visitors) t x) e (ride-is t l);
       session = λ i l e. subst (λ (x : ℕ). SessionAt S b i x) e (session-is i l);
@@ -290,9 +290,9 @@ module _ (S : Settings) (caps b : List ℕ) (r : Ranges S) (cs : Caps S caps) wh
       sums = λ g l. sums-is d g h l;
     }
 
-rules-of : (b : List ℕ) → diaryLawful b ≡ true → Each (cellTests (settingsOf b) b)
-unfolding diaryLawful cellRules
-rules-of b q = conj-is (cellTests (settingsOf b) b) (and-left (cellRules (settingsOf b) b) _ q)
+rules-of : (b : List ℕ) → diaryLawful b ≡ true → CellRules (settingsOf b) b
+unfolding diaryLawful
+rules-of b q = cell-rules-is (settingsOf b) b (and-left (cellRules (settingsOf b) b) _ q)
 
 -- question 2
 pub lawful-said : (b caps : List ℕ) → diaryLaid b ≡ true → (S : Settings) → S ≡ settingsOf b → Ranges S → Caps S caps

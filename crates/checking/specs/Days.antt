@@ -8,8 +8,22 @@ use lib.ListN.{length, getD}
 use Rattle.model.specs.declared.Settings.{Settings}
 use Rattle.model.specs.Bounded.{any, sum, bit}
 use Rattle.model.specs.Words.{groups}
-use Rattle.checking.specs.Rows.{Blank, Padded, rowAt, seatsIn}
+use Rattle.rules.specs.Rows.{Blank, Padded, rowAt, seatsIn}
 use Rattle.pool.specs.Pool.{member}
+
+-- two rows of zeros
+pub record Blanks (row other : List ℕ) : Type 0 where
+  pub first : Blank row
+  pub second : Blank other
+
+-- one session of a date, by the most that a visitor may hold
+pub record Session (stand attend conf bounds : List ℕ) (rooms meetings : ℕ) : Type 0 where
+  pub pad : Padded stand meetings
+  pub attends : (i : ℕ) → i < length attend → getD attend i 0 ≤ getD bounds i 0
+  pub attended : (i m : ℕ) → i < length attend → getD attend i 0 ≡ suc m → member stand m ≡ true
+  pub within : (j : ℕ) → j < rooms → getD conf (j * 2) 0 ≤ meetings
+  pub stands : (j m : ℕ) → j < rooms → getD conf (j * 2) 0 ≡ suc m → member stand m ≡ true
+  pub beside : (j : ℕ) → j < rooms → getD conf (j * 2) 0 ≡ 0 → getD conf (j * 2 + 1) 0 ≡ 0
 
 -- a row of visitors: within the limit, each with leave, each once
 pub record Guested (row leave : List ℕ) (limit : ℕ) : Type 0 where
@@ -68,10 +82,3 @@ pub record Long (S : Settings) (n q : ℕ) (leave hotel stand attend conf lunch 
   pub confs : length conf ≡ n * (S .rooms * 2)
   pub lunches : length lunch ≡ S .meetings * 3
   pub rides : length ride ≡ q * S .transports
-
--- 0, then the capacities
-pub record Caps (S : Settings) (caps : List ℕ) : Type 0 where
-  pub size : length caps ≡ 17
-  pub none : getD caps 0 0 ≡ 0
-  pub each : (g : ℕ) → g < 16 → getD caps (suc g) 0 ≡ getD (S .capacities) g 0
-  pub low : (g : ℕ) → getD caps g 0 ≤ 1000

@@ -1,6 +1,6 @@
 // One date of a book: its part of each region is a slice, so that nothing below a date speaks of an address.
-use crate::rows;
-use crate::tables;
+use crate::rows::guest_rows;
+use crate::rows::row_of;
 use book::blocks::block;
 use book::grid::Grids;
 use book::units::SessionRun;
@@ -11,6 +11,8 @@ use book::units::sessions_on;
 use book::units::times_on;
 use model::Date;
 use model::Settings;
+use rules::row;
+use rules::tables;
 ghost use mathlib.Core.Path.{_≡_};
 ghost use Prim.Native.Nat.{ℕ, _*_, _≤_, _<_};
 ghost use mathlib.Core.Bool.{true};
@@ -19,18 +21,18 @@ ghost use Rattle.model.specs.Words.{groups};
 ghost use Rattle.book.specs.Ranges.{Ranges};
 ghost use Rattle.book.specs.Grids.{gridsOf, Laid};
 ghost use Rattle.book.specs.Lent.{reading};
-ghost use Rattle.checking.specs.Rows.{Decides, Blanks, Padded, Session, rowAt};
-ghost use Rattle.checking.specs.Days.{Day, Long, Empty, Caps};
+ghost use Rattle.rules.specs.Rows.{Decides, Padded, Caps, rowAt};
+ghost use Rattle.checking.specs.Days.{Blanks, Session, Day, Long, Empty};
 ghost use Rattle.checking.specs.Kept.{At, Kept};
 
 // Are both rows all zeros?
 fn blanks(row: &[u32], other: &[u32]) -> bool
     ensures { λ r. ⌜ (r ≡ true → Blanks (now (row .entry)) (now (other .entry))) ⌝ }
 {
-    if !rows::blank(row) {
+    if !row::blank(row) {
         return false;
     }
-    rows::blank(other)
+    row::blank(other)
 }
 
 // One session: its standing words, its attend cells, its conf pairs.
@@ -50,17 +52,17 @@ fn session(
     ensures { λ r. ⌜ Decides r (Session (now (stand .entry)) (now (attend .entry)) (now (conf .entry)) (now (bounds .entry)) rooms meetings) ⌝ }
 {
     let m = meetings as usize;
-    if !rows::padded(stand, m) {
+    if !row::padded(stand, m) {
         return false;
     }
     if blanks(attend, conf) {
         return true;
     }
     tables::bar(stands, stand);
-    if !rows::attends(attend, bounds, stands) {
+    if !row::attends(attend, bounds, stands) {
         return false;
     }
-    rows::pairs(conf, rooms, stands, meetings)
+    row::pairs(conf, rooms, stands, meetings)
 }
 
 // Each session of a date.
@@ -86,9 +88,9 @@ fn sessions(
     let wide = rooms * 2;
     let mut p: usize = 0;
     while p < n {
-        let s = rows::row_of(stand, p, words, n);
-        let a = rows::row_of(attend, p, visitors, n);
-        let c = rows::row_of(conf, p, wide, n);
+        let s = row_of(stand, p, words, n);
+        let a = row_of(attend, p, visitors, n);
+        let c = row_of(conf, p, wide, n);
         if !session(s, a, c, bounds, stands, rooms, meetings) {
             return false;
         }
@@ -107,7 +109,7 @@ fn empty(hotel: &[u32], attend: &[u32], conf: &[u32], lunch: &[u32], ride: &[u32
     if !blanks(attend, conf) {
         return false;
     }
-    rows::blank(ride)
+    row::blank(ride)
 }
 
 // The unused bits of each session's standing words are 0.
@@ -118,8 +120,8 @@ fn pads(stand: &[u32], n: usize, meetings: usize) -> bool
     let words = (meetings + 31) / 32;
     let mut p: usize = 0;
     while p < n {
-        let row = rows::row_of(stand, p, words, n);
-        if !rows::padded(row, meetings) {
+        let row = row_of(stand, p, words, n);
+        if !row::padded(row, meetings) {
             return false;
         }
         p += 1;
@@ -158,7 +160,7 @@ fn entries(
     let mut guests = [false; 1024];
     tables::bar_past(&mut guests, leave, v);
     let mut seen = guests;
-    if !rows::guest_row(hotel, &guests, &mut seen, visitors) {
+    if !row::guest_row(hotel, &guests, &mut seen, visitors) {
         return false;
     }
     let mut bounds = [0u32; 512];
@@ -169,10 +171,10 @@ fn entries(
     }
     let words = (m + 31) / 32;
     tables::bar_date(&mut stands, stand, n, words);
-    if !rows::triples(lunch, m, &stands, caps, s.dining) {
+    if !row::triples(lunch, m, &stands, caps, s.dining) {
         return false;
     }
-    rows::guest_rows(ride, q, k, &guests, &mut seen, visitors)
+    guest_rows(ride, q, k, &guests, &mut seen, visitors)
 }
 
 // One date: no tables are made for one without entries.
@@ -195,7 +197,7 @@ fn date(
     ensures { λ r. ⌜ Decides r (Day s n q (now (caps .entry)) (now (leave .entry)) (now (hotel .entry)) (now (stand .entry)) (now (attend .entry))
         (now (conf .entry)) (now (lunch .entry)) (now (ride .entry))) ⌝ }
 {
-    if !rows::padded(leave, s.visitors as usize) {
+    if !row::padded(leave, s.visitors as usize) {
         return false;
     }
     if empty(hotel, attend, conf, lunch, ride) {

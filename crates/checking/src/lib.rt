@@ -1,11 +1,11 @@
 // Checking a book: questions 1 and 2 in one pass over its words, date by date.
 mod dates;
 mod rows;
-mod tables;
 
 use book::grid;
 use book::settings;
 use model::Answer;
+use rules::tables;
 ghost use mathlib.Core.Path.{_≡_};
 ghost use mathlib.Core.Bool.{true};
 ghost use Rattle.model.specs.Tail.{tailKept};

@@ -1,8 +1,12 @@
 // One request on a good diary, where every question is answered before the first word is written, and on a good book.
 use apply::apply;
+use apply::removal::remove_visitor;
 use book::grid::grids_of;
 use judge::judge;
+use kinds::fields::first_no;
+use kinds::table::row_of;
 use model::Answer;
+use model::Date;
 use model::Request;
 use model::Settings;
 ghost use mathlib.Core.Path.{_≡_};
@@ -15,11 +19,35 @@ ghost use Rattle.model.specs.Calls.{called};
 ghost use Rattle.book.specs.Good.{Good, GoodBook, answered, inWords};
 ghost use Rattle.book.specs.Lent.{reading};
 
+// The number of the kind that removes a visitor.
+const REMOVAL: u32 = 3;
+
+// Kind 3 has no question past 7, and its value is the number of bookings that go: they are counted where they are erased, in one pass.
+fn removed(book: &mut [u32], s: Settings, r: Request) -> Answer
+    requires { ⌜ Good s (reading (now book)) ⌝ }
+    requires { ⌜ r .kind ≡ 3 ⌝ }
+    ensures { λ a. ⌜ answered a (reading (now (book .exit))) ≡ inWords (Machine.step (stateOf (reading (now (book .entry)))) r) ⌝ }
+{
+    let no = first_no(row_of(s, REMOVAL), r);
+    if no != 0 {
+        return Answer::Refused {
+            number: no,
+            place: 0,
+        };
+    }
+    let g = grids_of(s);
+    Answer::Done(remove_visitor(book, s, g, r.b, Date(r.first), Date(r.last)))
+}
+
 // The grids are computed in the step because they are a few products, and a struct of that size passed by value is copied at every call.
 pub fn step(book: &mut [u32], s: Settings, r: Request) -> Answer
     requires { ⌜ Good s (reading (now book)) ⌝ }
     ensures { λ a. ⌜ answered a (reading (now (book .exit))) ≡ inWords (Machine.step (stateOf (reading (now (book .entry)))) r) ⌝ }
 {
+    let kind = r.kind;
+    if kind == REMOVAL {
+        return removed(book, s, r);
+    }
     let g = grids_of(s);
     let answer = judge(book, s, g, r);
     if let Answer::Refused { number, place } = answer {

@@ -7,7 +7,7 @@ use mathlib.Core.List.{List, [], _++_}
 use lib.IntN.{ℤ, pos, negsuc}
 use lib.ListN.{length, take}
 use Rattle.io.specs.Counts.{clamped}
-use Rattle.model.specs.Lines.{frames}
+use Rattle.model.specs.Lines.{answerBytes, frames}
 use Rattle.lines.specs.Stream.{opening, run, closed}
 use Rattle.lines.specs.Post.{pointOf, Moved}
 use Rattle.lines.specs.declared.stream.Stream.{Stream}
@@ -17,6 +17,10 @@ use Rattle.frames.specs.declared.Turn.{Turn}
 use Rattle.frames.specs.declared.End.{End}
 use Rattle.frames.specs.declared.Sign.{Sign}
 use Rattle.frames.specs.declared.Sign.the-variants.{More, Ended, Unread, Unwritten}
+
+-- room for an answer to each byte of a turn
+abbrev pub answersRoom : ℕ
+answersRoom = answerBytes * 65536
 
 -- what an answer of `read` says: bytes, the end of the input, or a failure
 abbrev pub heard : ℤ → Sign
@@ -44,13 +48,13 @@ isEnd Unwritten = false
 -- were handed to `write`, are what the model writes for them.
 pub record Turned (s : Stream) (b₀ out₀ chunk : List ℕ) (t : Turn) (b out : List ℕ) : Type 0 where
   pub count : t .read ≡ clamped (t .got) (length chunk)
-  pub moved : Moved (run (pointOf s b₀) (take (t .read) chunk)) (t .stream) b₀ b out₀ out 0 (t .wrote) (25 * t .read)
+  pub moved : Moved (run (pointOf s b₀) (take (t .read) chunk)) (t .stream) b₀ b out₀ out 0 (t .wrote) (answerBytes * t .read)
   pub written : Bool
   pub sign : t .sign ≡ signed (heard (t .got)) (t .stream .phase) written
 
 -- behind the last turn: a line that has begun is over at the end of the input, and not where something failed
 pub record Finished (g : Sign) (s : Stream) (b₀ : List ℕ) (wrote : ℕ) (b out : List ℕ) : Type 0 where
-  pub short : wrote ≤ 25
+  pub short : wrote ≤ answerBytes
   pub last : isEnd g ≡ true → take wrote out ≡ closed (pointOf s b₀) .out
   pub none : isEnd g ≡ false → (wrote ≡ 0) × (b ≡ b₀)
 

@@ -10,12 +10,20 @@ ghost use mathlib.Core.Path.{_≡_};
 ghost use Prim.Native.Nat.{_*_, _≤_};
 ghost use lib.ListN.{length};
 ghost use Rattle.lines.specs.Post.{Going, Begun};
-ghost use Rattle.frames.specs.Run.{heard, signed, isEnd, Turned, Finished, Driven};
+ghost use Rattle.model.specs.Lines.{answerBytes, programWords};
+ghost use Rattle.frames.specs.Run.{answersRoom, heard, signed, isEnd, Turned, Finished, Driven};
 use libc::EINTR;
 use libc::STDIN_FILENO;
 use libc::STDOUT_FILENO;
+use lines::lay::PROGRAM_WORDS;
+use lines::line::ANSWER_BYTES;
 use lines::stream::Phase;
 use lines::stream::Stream;
+
+// The most bytes that a turn reads, and room for an answer to each of them.
+const CHUNK: usize = 65536;
+
+const ANSWERS_ROOM: usize = ANSWER_BYTES * CHUNK;
 
 // How a turn went: there may be more input; there is none, or none that is read; reading failed; writing failed.
 pub enum Sign {
@@ -149,9 +157,9 @@ fn send(bytes: &[u8]) -> Sent
 
 // Reads once, and answers what came before it waits again.
 fn take_turn(book: &mut [u32], stream: Stream, chunk: &mut [u8], out: &mut [u8]) -> Turn
-    requires { ⌜ 16384 ≤ length (now book) ⌝ }
+    requires { ⌜ programWords ≤ length (now book) ⌝ }
     requires { ⌜ Going stream (now book) ⌝ }
-    requires { ⌜ 25 * length (now chunk) ≤ length (now out) ⌝ }
+    requires { ⌜ answerBytes * length (now chunk) ≤ length (now out) ⌝ }
     ensures { λ r. ⌜ Turned stream (now (book .entry)) (now (out .entry)) (now (chunk .exit)) r (now (book .exit)) (now (out .exit)) ⌝ }
 {
     let got = receive(chunk);
@@ -185,9 +193,9 @@ fn start() -> Turn
 
 // Behind the last turn: the end of the input ends a line that has begun, and no failure does.
 fn finish(book: &mut [u32], sign: Sign, stream: Stream, out: &mut [u8]) -> usize
-    requires { ⌜ 16384 ≤ length (now book) ⌝ }
+    requires { ⌜ programWords ≤ length (now book) ⌝ }
     requires { ⌜ Going stream (now book) ⌝ }
-    requires { ⌜ 25 ≤ length (now out) ⌝ }
+    requires { ⌜ answerBytes ≤ length (now out) ⌝ }
     ensures { λ r. ⌜ Finished sign stream (now (book .entry)) r (now (book .exit)) (now (out .exit)) ⌝ }
 {
     if !is_end(sign) {
@@ -200,9 +208,9 @@ fn finish(book: &mut [u32], sign: Sign, stream: Stream, out: &mut [u8]) -> usize
 // Turn by turn to the end. A proved loop has to end, and nothing says that the input does. So the loop counts its turns down, from a
 // number that no run uses up.
 fn drive(book: &mut [u32], chunk: &mut [u8], out: &mut [u8]) -> End
-    requires { ⌜ 16384 ≤ length (now book) ⌝ }
-    requires { ⌜ 25 * length (now chunk) ≤ length (now out) ⌝ }
-    requires { ⌜ 25 ≤ length (now out) ⌝ }
+    requires { ⌜ programWords ≤ length (now book) ⌝ }
+    requires { ⌜ answerBytes * length (now chunk) ≤ length (now out) ⌝ }
+    requires { ⌜ answerBytes ≤ length (now out) ⌝ }
     ensures { λ r. ⌜ Driven r (now (out .exit)) ⌝ }
 {
     let mut turn = start();
@@ -241,16 +249,16 @@ fn status(end: End) -> i32 {
 }
 
 // Room for an answer to each byte of a chunk.
-fn answers() -> [u8; 1638400]
-    ensures { λ r. ⌜ 1638400 ≡ length r ⌝ }
+fn answers() -> [u8; ANSWERS_ROOM]
+    ensures { λ r. ⌜ answersRoom ≡ length r ⌝ }
 {
-    [0; 1638400]
+    [0; ANSWERS_ROOM]
 }
 
 // The whole program, for the entry in main.c: a program of the kit has no exit status of its own.
 #[no_mangle]
 pub extern "C" fn caviar_frames() -> i32 {
-    let mut book = [0u32; 16384];
+    let mut book = [0u32; PROGRAM_WORDS];
     let mut chunk = io::large_buffer();
     let mut out = answers();
     status(drive(&mut book, &mut chunk, &mut out))

@@ -180,6 +180,7 @@ fn add_lunch(
     requires { ⌜ a < s .dining ⌝ }
     requires { ⌜ b < s .meetings ⌝ }
     requires { ⌜ n ≤ 1000 ⌝ }
+    requires { ⌜ first .0 ≤ last .0 ⌝ }
     ensures { λ r. ⌜ r ≡ lunchAdds s (reading (now (book .entry))) (g .lunch) a b n (first .0) (last .0) ⌝ }
 {
     if let Found::At(i) = first_without_session(book, s, g, b, first, last) {
@@ -211,6 +212,7 @@ fn lunch_fits(
     requires { ⌜ last .0 < s .dates ⌝ }
     requires { ⌜ a < s .dining ⌝ }
     requires { ⌜ b < s .meetings ⌝ }
+    requires { ⌜ first .0 ≤ last .0 ⌝ }
     ensures { λ r. ⌜ r ≡ lunchFits s (reading (now (book .entry))) (g .lunch) a b n (first .0) (last .0) ⌝ }
 {
     if n < 1 {

@@ -22,7 +22,6 @@ use Rattle.model.proofs.ReadBack.{stateOf-words}
 use Rattle.model.proofs.Frame.{step-settings}
 use Rattle.model.proofs.Calls.{step-sound, empty-sound, fresh-words}
 use native.Mathlib.Omega.{arith}
-use Rattle.lines.specs.Digits.{frameDigits}
 use Rattle.lines.specs.Post.{Free, NextOf, TakenOf}
 use Rattle.lines.specs.declared.line.Next.{Next}
 use Rattle.lines.specs.declared.line.Next.the-variants.{Frame, Other}
@@ -72,12 +71,13 @@ pub next-is : (l : List ℕ) {m n : Next} → NextOf l m → m ≡ n → NextOf 
 next-is l q e = subst (λ (k : Next). NextOf l k) e q
 
 module _ {S : Settings} {b : List ℕ} (l : List ℕ) (h : Good S b) where
-  pub taken-frame : {a : Answer} {b′ : List ℕ} {r : Request} → NextOf l (Frame r) → answered a b′ ≡ called (step (stateOf b) r)
-      → TakenOf l b (record { used = frameDigits + 1; answer = a }) b′
-  taken-frame {a} {b′} {r} n e =
+  pub taken-frame : {a : Answer} {b′ : List ℕ} {r : Request} (n : ℕ) → NextOf l (Frame n r) → answered a b′ ≡ called (step (stateOf b) r)
+      → TakenOf l b (record { used = n + 1; answer = a }) b′
+  taken-frame {a} {b′} {r} n q e =
+      let i : n + 1 - 1 ≡ n = omega arith in
       record {
         none = λ z. absurd (omega arith);
-        some = λ z. (n .0, e ∙ ap called (sym (outcome-yes (stateOf b) (take frameDigits l) (n .1) ∙ ap (step (stateOf b)) (sym (n .2)))));
+        some = λ z. rw i (q .0, e ∙ ap called (sym (outcome-yes (stateOf b) (take n l) (q .1) ∙ ap (step (stateOf b)) (sym (q .2)))));
       }
 
   pub taken-other : (n : ℕ) → NextOf l (Other n) → TakenOf l b (record { used = n + 1; answer = Refused 23 0 }) b

@@ -1,6 +1,6 @@
 -- Frame lines, words of lines and answer lines.
 -- Assumes nothing.
-use Prim.Native.Nat.{ℕ, _+_, _*_, _/_, _<_}
+use Prim.Native.Nat.{ℕ, _+_, _*_, _/_, _%_, _≤_, _<_}
 use native.Mathlib.Numerals.{add-one}
 use native.Mathlib.Omega.{arith}
 use mathlib.Core.Path.{_≡_, refl, sym, _∙_, ap, ap₂}
@@ -13,11 +13,13 @@ use Rattle.model.specs.declared.Request.{Request}
 use Rattle.model.specs.declared.Answer.{Answer}
 use Rattle.model.specs.declared.Answer.the-variants.{Done, Refused}
 use Rattle.model.specs.Machine.{answerWords, requestOf}
-use Rattle.model.specs.Lines.{isFrame, wordDigits, hexadecimal, lineWords, shown, wholeWords}
+use Rattle.model.specs.Text.{wordDigits, hexadecimal, shown}
+use Rattle.model.specs.Lines.{requestWords, answerDigits, isFrame, lineWords, wholeWords}
 use Rattle.model.proofs.Search.{and-left, and-right}
 pub use Rattle.model.proofs.Search.{never as not-so}
 use Rattle.model.proofs.Places.{length-list, getD-list}
-use Rattle.lines.specs.Digits.{frameDigits, digitsOnly}
+use Rattle.text.specs.Digits.{digitsOnly}
+use Rattle.lines.specs.Frame.{requestDigits, frameMost}
 
 -- the words of a line
 pub words-length : (l : List ℕ) → length (lineWords l) ≡ length l / 8
@@ -37,9 +39,9 @@ words-more l words k h g e =
     ∙ ap₂ (λ (xs : List ℕ) (x : ℕ). xs ++ (x ∷ [])) e (word-is l k h)
     ∙ sym (take-suc (lineWords l) k 0 (omega arith)))
 
--- the seven words of a frame
-module _ (l : List ℕ) (n : length l ≡ frameDigits) where
-  word-of : (k : ℕ) {w : ℕ} → k < 7 → w ≡ shown (take 8 (drop (8 * k) l)) → w ≡ getD (lineWords l) k 0
+-- the words of a request, of a line that has them
+module _ (l : List ℕ) (n : requestDigits ≤ length l) where
+  word-of : (k : ℕ) {w : ℕ} → k < requestWords → w ≡ shown (take 8 (drop (8 * k) l)) → w ≡ getD (lineWords l) k 0
   word-of k h e = e ∙ word-is l k (omega arith)
 
   pub request-is : {k a b f t c i : ℕ}
@@ -57,16 +59,31 @@ module _ (l : List ℕ) (n : length l ≡ frameDigits) where
         info = word-of 6 (omega arith) ei j;
       }
 
-  pub is-frame : digitsOnly l ≡ true → isFrame l ≡ true
+-- the lengths of frames
+module _ (l : List ℕ) where
+  pub is-frame : digitsOnly l ≡ true → length l ≡ requestDigits → isFrame l ≡ true
   unfolding isFrame
-  is-frame h = simp (h, n)
+  is-frame h n = simp (h, n)
+
+  pub frame-length : isFrame l ≡ true → length l ≡ requestDigits
+  unfolding isFrame
+  frame-length h =
+      let w = eqb-true (length l / 8) requestWords (and-right (wholeWords l) _ h) in
+      let e = eqb-true (length l % 8) 0 (and-right (digitsOnly l) _ (and-left (wholeWords l) _ h)) in
+      omega arith
+
+  pub frame-digits : isFrame l ≡ true → digitsOnly l ≡ true
+  unfolding isFrame
+  frame-digits h = and-left (digitsOnly l) _ (and-left (wholeWords l) _ h)
+
+  pub frame-least : isFrame l ≡ true → requestDigits ≤ length l
+  frame-least h = omega (arith, frame-length h)
+
+  pub frame-most : isFrame l ≡ true → length l ≤ frameMost
+  frame-most h = omega (arith, frame-length h)
 
 pub no-frame : (l : List ℕ) → (isFrame l ≡ true → ⊥) → isFrame l ≡ false
 no-frame l h = not-so (isFrame l) h
-
-pub frame-parts : (l : List ℕ) → isFrame l ≡ true → (length l ≡ frameDigits) × (digitsOnly l ≡ true)
-unfolding isFrame
-frame-parts l h = (eqb-true (length l) frameDigits (and-right (wholeWords l) _ h), and-left (digitsOnly l) _ (and-left (wholeWords l) _ h))
 
 -- the words of an answer, written by its kind
 pub done-line : {a : Answer} {v : ℕ} → a ≡ Done v → wordDigits 0 ++ (wordDigits 0 ++ wordDigits v) ≡ hexadecimal (answerWords a)
@@ -77,7 +94,7 @@ pub refused-line : {a : Answer} {n p : ℕ} → a ≡ Refused n p → wordDigits
 unfolding hexadecimal
 refused-line {a} {n} {p} e = sym (ap (λ (b : Answer). hexadecimal (answerWords b)) e)
 
-pub words-line : (a : Answer) → length (hexadecimal (answerWords a)) ≡ 24
+pub words-line : (a : Answer) → length (hexadecimal (answerWords a)) ≡ answerDigits
 unfolding hexadecimal
 words-line (Done v) = refl
 words-line (Refused n p) = refl

@@ -9,7 +9,7 @@ use native.Mathlib.Decide.{decLe}
 use lib.ListN.{length, take, set}
 use lib.Seq.{take-all, take-append-add, take-suc-set, length-take-le}
 use Rattle.lines.specs.Stream.{heldMost, kept}
-use Rattle.lines.specs.Digits.{Put}
+use Rattle.text.specs.Put.{Put}
 use Rattle.lines.specs.Post.{Free, heldOf, Holds}
 use Rattle.lines.specs.declared.stream.Held.{Held}
 

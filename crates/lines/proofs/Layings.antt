@@ -12,18 +12,19 @@ use borrow.Author.Tests.{le-leb, lt-leb, eq-eqb}
 use Rattle.model.specs.declared.Settings.{Settings}
 use Rattle.model.specs.declared.Answer.{Answer}
 use Rattle.model.specs.declared.Answer.the-variants as A
-use Rattle.model.specs.Site.{validSettings}
+use Rattle.model.specs.Site.{validSettings, settingsMost}
 use Rattle.model.specs.State.{State, emptyState}
 use Rattle.model.specs.Words.{bookLength}
 use Rattle.model.specs.Reading.{settingsOf, stateOf}
 use Rattle.model.specs.Calls.{Called, settingsGood, freshBook, laid, lay}
-use Rattle.model.specs.Lines.{wholeWords, lineWords, answerLine, programWords}
+use Rattle.model.specs.Lines.{wholeWords, lineWords, answerLine, answerBytes, programWords}
 use Rattle.model.proofs.Search.{never, and-right, both}
+use Rattle.model.proofs.Places.{settings-length}
 use Rattle.model.proofs.Shows.{good-valid}
 use Rattle.book.specs.Good.{answered}
 use Rattle.book.specs.Heads.{neededLength}
-use Rattle.lines.specs.Digits.{Put}
-use Rattle.lines.specs.Stream.{settingsMost, later, over, silent, opened}
+use Rattle.text.specs.Put.{Put}
+use Rattle.lines.specs.Stream.{later, over, silent, opened}
 use Rattle.lines.specs.Laying.{layable, LaidOf, LaidBy}
 use Rattle.lines.specs.Post.{EndedOf}
 use Rattle.lines.specs.declared.lay.Laid.{Laid}
@@ -52,7 +53,7 @@ layable-book w h = simp (le-leb (bookLength (settingsOf w)) programWords h)
 
 long : (S : Settings) → 9 ≤ bookLength S
 unfolding bookLength
-long S = omega arith
+long S = omega (arith, settings-length S)
 
 -- the length that a list of words asks for
 needed-by : (w : List ℕ) (t : Bool) → settingsGood w ≡ t → neededLength w ≡ cond t (bookLength (settingsOf w)) 0
@@ -72,7 +73,7 @@ module _ (w : List ℕ) {size : ℕ} (e : size ≡ neededLength w) where
   laid-none z =
       record { is = sym (ap (λ (t : Bool). layable t w) (none-by _ refl z) ∙ layable-24 w); fresh = λ n q. no-book q; refused = λ n q. refl }
 
-  pub laid-large : {b : List ℕ} → (size ≡ 0 → ⊥) → 16384 < size → LaidOf w b (Refused 25) b
+  pub laid-large : {b : List ℕ} → (size ≡ 0 → ⊥) → programWords < size → LaidOf w b (Refused 25) b
   laid-large n h =
       let g = good-by _ refl n in
       record {
@@ -87,7 +88,7 @@ lay-good : (w b : List ℕ) → settingsGood w ≡ true → length b ≡ bookLen
 unfolding lay
 lay-good w b h e = simp (h, eq-eqb (length b) (bookLength (settingsOf w)) e)
 
-pub laid-good : (w b : List ℕ) {last : List ℕ} {a : Answer} {size : ℕ} → size ≡ neededLength w → (size ≡ 0 → ⊥) → size ≤ 16384 → 16384 ≤ length b
+pub laid-good : (w b : List ℕ) {last : List ℕ} {a : Answer} {size : ℕ} → size ≡ neededLength w → (size ≡ 0 → ⊥) → size ≤ programWords → programWords ≤ length b
     → answered a last ≡ lay w (take size b) → length last ≡ length (take size b) → LaidOf w b (Book size) (last ++ drop size b)
 laid-good w b {last} {a} {size} e n h r q k =
     let g = good-by w e _ refl n in
@@ -161,7 +162,7 @@ module _ (l : List ℕ) where
   number-by {n} false u h k e = let q : 24 ≡ n = cc in opened-24 h ∙ ap (λ (m : ℕ). record { out = answerLine (A.Refused m 0); point = over }) q
 
   pub settled-book : {b₀ b out : List ℕ} (n : ℕ) → LaidBy l b₀ (Book n) b
-      → EndedOf (opened l) (record { more = true; size = n; wrote = 0 }) b₀ b out out 25
+      → EndedOf (opened l) (record { more = true; size = n; wrote = 0 }) b₀ b out out
   unfolding layable
   settled-book {b₀} {b} {out} n k =
       let f = k .fresh n refl in
@@ -179,7 +180,7 @@ module _ (l : List ℕ) where
       }
 
   pub settled-refused : {b₀ b out out′ : List ℕ} (n : ℕ) → LaidBy l b₀ (Refused n) b → Put out out′ 0 (answerLine (A.Refused n 0))
-      → EndedOf (opened l) (record { more = false; size = 0; wrote = 25 }) b₀ b out out′ 25
+      → EndedOf (opened l) (record { more = false; size = 0; wrote = answerBytes }) b₀ b out out′
   unfolding layable
   settled-refused {b₀} {b} {out} {out′} n k p =
       record {

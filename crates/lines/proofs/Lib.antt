@@ -1,7 +1,5 @@
 pub mod Whole
-pub mod Hexes
-pub mod Puts
-pub mod Trips
+pub mod Values
 pub mod Framing
 pub mod Books
 pub mod Keeping

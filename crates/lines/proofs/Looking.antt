@@ -11,10 +11,10 @@ use lib.Seq.{getD-take, length-take-le, take-length}
 use borrow.Author.Tests.{ltb-true, lt-ltb, le-ltb, eqb-true, eq-eqb, ne-eqb}
 use Rattle.model.specs.Lines.{isFrame}
 use Rattle.model.proofs.Search.{and-left, and-right, both}
-use Rattle.lines.specs.Digits.{frameDigits, isDigit, digitsOnly, LineEnd}
-use Rattle.lines.specs.Frame.{frameAhead}
-use Rattle.lines.specs.Post.{Free, Leads}
-use Rattle.lines.proofs.Framing.{is-frame, no-frame, frame-parts}
+use Rattle.text.specs.Digits.{isDigit, digitsOnly}
+use Rattle.lines.specs.Frame.{requestDigits, LineEnd, digitsAhead}
+use Rattle.lines.specs.Post.{Free, Leads, FrameAhead}
+use Rattle.lines.proofs.Framing.{is-frame, no-frame, frame-length, frame-digits}
 
 -- digits are not byte 10
 pub free-digits : (l : List ℕ) → digitsOnly l ≡ true → Free l
@@ -30,35 +30,50 @@ unfolding Free
 free-at [] f = tt
 free-at (x ∷ xs) f = (f 0 (omega arith), free-at xs (λ k h. f (suc k) (omega arith)))
 
-module _ (l : List ℕ) where
-  ahead-parts : frameAhead l ≡ true → (frameDigits < length l) × (getD l frameDigits 0 ≡ 10) × (digitsOnly (take frameDigits l) ≡ true)
-  unfolding frameAhead
-  ahead-parts h = (
-    ltb-true frameDigits (length l) (and-left (ltb frameDigits (length l)) _ (and-left _ (digitsOnly (take frameDigits l)) h)),
-    eqb-true (getD l frameDigits 0) 10 (and-right (ltb frameDigits (length l)) _ (and-left _ (digitsOnly (take frameDigits l)) h)),
-    and-right (ltb frameDigits (length l) && eqb (getD l frameDigits 0) 10) _ h,
-  )
+module _ (l : List ℕ) (n : ℕ) where
+  pub ahead-by : n < length l → getD l n 0 ≡ 10 → digitsAhead l n ≡ digitsOnly (take n l)
+  unfolding digitsAhead
+  ahead-by h e = simp (lt-ltb n (length l) h, eq-eqb (getD l n 0) 10 e)
 
-  pub ahead-by : frameDigits < length l → getD l frameDigits 0 ≡ 10 → frameAhead l ≡ digitsOnly (take frameDigits l)
-  unfolding frameAhead
-  ahead-by h e = simp (lt-ltb frameDigits (length l) h, eq-eqb (getD l frameDigits 0) 10 e)
+  pub ahead-short : length l ≤ n → false ≡ digitsAhead l n
+  unfolding digitsAhead
+  ahead-short h = simp (le-ltb n (length l) h)
 
-  pub ahead-short : length l ≤ frameDigits → false ≡ frameAhead l
-  unfolding frameAhead
-  ahead-short h = simp (le-ltb frameDigits (length l) h)
+  pub ahead-other : n < length l → (getD l n 0 ≡ 10 → ⊥) → false ≡ digitsAhead l n
+  unfolding digitsAhead
+  ahead-other h e = simp (lt-ltb n (length l) h, ne-eqb (getD l n 0) 10 e)
 
-  pub ahead-other : frameDigits < length l → (getD l frameDigits 0 ≡ 10 → ⊥) → false ≡ frameAhead l
-  unfolding frameAhead
-  ahead-other h e = simp (lt-ltb frameDigits (length l) h, ne-eqb (getD l frameDigits 0) 10 e)
-
-  pub ahead-digits : frameAhead l ≡ true → (digitsOnly (take frameDigits l) ≡ true) × (length (take frameDigits l) ≡ frameDigits)
-  ahead-digits h = let p = ahead-parts h in (p .2, length-take-le frameDigits l (omega arith))
-
-  pub ahead-leads : frameAhead l ≡ true → Leads l frameDigits × (isFrame (take frameDigits l) ≡ true)
+  ahead-leads : digitsAhead l n ≡ true → Leads l n × (digitsOnly (take n l) ≡ true)
+  unfolding digitsAhead
   ahead-leads h =
-      let p = ahead-parts h in
-      let q = ahead-digits h in
-      (record { inside = p .0; free = free-digits (take frameDigits l) (p .2); ends = p .1 }, is-frame (take frameDigits l) (q .1) (q .0))
+      let front = and-left (ltb n (length l) && eqb (getD l n 0) 10) (digitsOnly (take n l)) h in
+      let d = and-right (ltb n (length l) && eqb (getD l n 0) 10) (digitsOnly (take n l)) h in (
+        record {
+          inside = ltb-true n (length l) (and-left (ltb n (length l)) _ front);
+          free = free-digits (take n l) d;
+          ends = eqb-true (getD l n 0) 10 (and-right (ltb n (length l)) _ front);
+        },
+        d,
+      )
+
+module _ (l : List ℕ) where
+  -- a frame of the length that frames have, and no frame
+  pub ahead-frame : digitsAhead l requestDigits ≡ true → FrameAhead l requestDigits
+  ahead-frame h =
+      let p = ahead-leads l requestDigits h in
+      let e = length-take-le requestDigits l (omega (arith, p .0 .inside)) in
+      record { some = λ z. (p .0, is-frame (take requestDigits l) (p .1) e); none = λ z. absurd (omega arith) }
+
+  pub ahead-none : digitsAhead l requestDigits ≡ false → FrameAhead l 0
+  ahead-none h = record { some = λ z. absurd (omega arith); none = λ z k e. no-frame (take k l) (bad k e) }
+    where
+      bad : (k : ℕ) → Leads l k → isFrame (take k l) ≡ true → ⊥
+      bad k e f =
+          let i = e .inside in
+          let m : k ≡ requestDigits = sym (length-take-le k l (omega arith)) ∙ frame-length (take k l) f in
+          let t : getD l requestDigits 0 ≡ 10 = ap (λ (j : ℕ). getD l j 0) (sym m) ∙ e .ends in
+          let d : digitsOnly (take requestDigits l) ≡ true = rw m at (frame-digits (take k l) f) in
+          both (ahead-by l requestDigits (omega arith) t ∙ d) h
 
   -- a line that is found by its byte 10
   pub line-free : (n : ℕ) → LineEnd l n → Free (take n l)
@@ -74,15 +89,3 @@ module _ (l : List ℕ) where
       let w = e .within in
       let i : n < length l = omega arith in
       record { inside = i; free = line-free n e; ends = e .found i }
-
-  pub not-ahead : (n : ℕ) → frameAhead l ≡ false → Leads l n → isFrame (take n l) ≡ false
-  not-ahead n h e = no-frame (take n l) bad
-    where
-      bad : isFrame (take n l) ≡ true → ⊥
-      bad f =
-          let i = e .inside in
-          let p = frame-parts (take n l) f in
-          let m : n ≡ frameDigits = omega (arith, length-take-le n l (omega arith)) in
-          let t : getD l frameDigits 0 ≡ 10 = ap (λ (k : ℕ). getD l k 0) (sym m) ∙ e .ends in
-          let d : digitsOnly (take frameDigits l) ≡ true = rw m at (p .1) in
-          both (ahead-by (omega arith) t ∙ d) h

@@ -12,10 +12,10 @@ use lib.Seq.{take-at, drop-at, take-all, length-take-le}
 use Rattle.model.specs.declared.Settings.{Settings}
 use Rattle.model.specs.State.{State}
 use Rattle.model.specs.Reading.{settingsOf, stateOf}
-use Rattle.model.specs.Lines.{lineOutcome}
+use Rattle.model.specs.Lines.{answerBytes, lineOutcome}
 use Rattle.model.proofs.Search.{both}
 use Rattle.book.specs.Good.{Good}
-use Rattle.lines.specs.Digits.{LineEnd}
+use Rattle.lines.specs.Frame.{LineEnd}
 use Rattle.lines.specs.Stream.{heldMost, kept, Turn, opening, later, over, silent, behind, opened, told, ended, longer, byte, run, closed}
 use Rattle.lines.specs.Post.{Free, heldOf, Holds, pointAt, pointOf, Going, Moved, Begun, endPoint, EndedOf, isLater, Told}
 use Rattle.lines.specs.declared.stream.Held.{Held}
@@ -27,7 +27,7 @@ use Rattle.lines.proofs.Looking.{all-free, end-leads}
 use Rattle.lines.proofs.Whole.{byte-end, byte-in}
 use Rattle.lines.proofs.Turns.{grown, Kept, later-kept, run-free, run-leads, run-alone, run-out, rest-none, ends-le, ends-one, tail-is}
 use Rattle.lines.proofs.Keeping.{holds-own}
-use Rattle.lines.proofs.Puts.{drop-behind}
+use Rattle.text.proofs.Puts.{drop-behind}
 
 -- a good book by its own settings
 own : {S : Settings} {b : List ℕ} → Good S b → Good (settingsOf b) b
@@ -43,7 +43,7 @@ front size b last h e =
 -- a later line that is held is over: it is answered as a chunk of one line
 pub responded : {last out out′ : List ℕ} {used wrote : ℕ} (b l : List ℕ) (size : ℕ) → size ≤ length b → Free l
     → Told (settingsOf (take size b)) (take size b) (l ++ (10 ∷ [])) out 0 last out′ used wrote → length last ≡ length (take size b)
-    → EndedOf (told (lineOutcome (stateOf (take size b)) l)) (record { more = true; size = size; wrote = wrote }) b (last ++ drop size b) out out′ 25
+    → EndedOf (told (lineOutcome (stateOf (take size b)) l)) (record { more = true; size = size; wrote = wrote }) b (last ++ drop size b) out out′
 responded {last} {out} {out′} {used} {wrote} b l size h f v k =
     let n = front size b last h k in
     let c = l ++ (10 ∷ []) in
@@ -74,7 +74,7 @@ ended-over : ended over ≡ silent over
 unfolding ended
 ended-over = refl
 
-pub ended-as : {t u : Turn} {e : Ended} {b₀ b out₀ out : List ℕ} {room : ℕ} → t ≡ u → EndedOf t e b₀ b out₀ out room → EndedOf u e b₀ b out₀ out room
+pub ended-as : {t u : Turn} {e : Ended} {b₀ b out₀ out : List ℕ} → t ≡ u → EndedOf t e b₀ b out₀ out → EndedOf u e b₀ b out₀ out
 ended-as q v = record { short = v .short; sized = v .sized; same = v .same ∙ q; book-past = v .book-past; out-past = v .out-past }
 
 module _ {p : Phase} (x : State) (l : List ℕ) where
@@ -84,7 +84,7 @@ module _ {p : Phase} (x : State) (l : List ℕ) where
   pub turn-later : p ≡ Later → told (lineOutcome x l) ≡ ended (pointAt p x l)
   turn-later h = sym (ap (λ (q : Phase). ended (pointAt q x l)) h ∙ ended-later x l)
 
-  pub turn-over : {b out : List ℕ} → p ≡ Over → EndedOf (ended (pointAt p x l)) (record { more = false; size = 0; wrote = 0 }) b b out out 25
+  pub turn-over : {b out : List ℕ} → p ≡ Over → EndedOf (ended (pointAt p x l)) (record { more = false; size = 0; wrote = 0 }) b b out out
   turn-over h =
       record {
         short = omega arith;
@@ -112,7 +112,7 @@ run-over (b ∷ c) = over-by b c _ refl (run-over c)
 -- the rest of a chunk
 pub rest-over : {b out : List ℕ} {h : Held} (e : Ended) (c : List ℕ) → e .more ≡ false → Holds h []
     → Moved (behind (take (e .wrote) out) (run (endPoint e b) c)) (record { held = h; phase = Over; size = 0 })
-    b b out out (e .wrote) (e .wrote) (e .wrote + 25 * length c)
+    b b out out (e .wrote) (e .wrote) (e .wrote + answerBytes * length c)
 rest-over {b} {out} {h} e c m k =
     record {
       more = omega arith;
@@ -141,7 +141,7 @@ pub rest-later : {last out out′ : List ℕ} {h : Held} {used wrote : ℕ} (b :
     → length last ≡ length (take (e .size) b)
     → Holds h (kept (take (length c - used) (drop used c)))
     → Moved (behind (take (e .wrote) out) (run (endPoint e b) c)) (record { held = h; phase = Later; size = e .size })
-    b (last ++ drop (e .size) b) out out′ (e .wrote) wrote (e .wrote + 25 * length c)
+    b (last ++ drop (e .size) b) out out′ (e .wrote) wrote (e .wrote + answerBytes * length c)
 rest-later {last} {out} {out′} {h} {used} {wrote} b e c m f v k q =
     let x = stateOf last in
     let r = drop used c in
@@ -195,7 +195,7 @@ module _ (s : Stream) (b c : List ℕ) (g : Going s b) {h : Held} {n : ℕ} (e :
 
   -- no line ends in it
   pub all-held : {out : List ℕ} → n ≡ length c → Moved (run (pointOf s b) c) (record { held = h; phase = s .phase; size = s .size })
-      b b out out 0 0 (25 * length c)
+      b b out out 0 0 (answerBytes * length c)
   all-held {out} l =
       record {
         more = omega arith;
@@ -210,10 +210,10 @@ module _ (s : Stream) (b c : List ℕ) (g : Going s b) {h : Held} {n : ℕ} (e :
 
   -- a line ends in it
   pub line-held : {b₁ b₂ out out₁ out₂ : List ℕ} {t : Stream} {wrote : ℕ} (d : Ended) → (n ≡ length c → ⊥)
-      → EndedOf (ended (pointAt (s .phase) x (heldOf h))) d b b₁ out out₁ 25
+      → EndedOf (ended (pointAt (s .phase) x (heldOf h))) d b b₁ out out₁
       → Moved (behind (take (d .wrote) out₁) (run (endPoint d b₁) (take (length c - (n + 1)) (drop (n + 1) c))))
-      t b₁ b₂ out₁ out₂ (d .wrote) wrote (d .wrote + 25 * length (take (length c - (n + 1)) (drop (n + 1) c)))
-      → t .size ≡ d .size → Moved (run (pointOf s b) c) t b b₂ out out₂ 0 wrote (25 * length c)
+      t b₁ b₂ out₁ out₂ (d .wrote) wrote (d .wrote + answerBytes * length (take (length c - (n + 1)) (drop (n + 1) c)))
+      → t .size ≡ d .size → Moved (run (pointOf s b) c) t b b₂ out out₂ 0 wrote (answerBytes * length c)
   line-held {b₁} {b₂} {out} {out₁} {out₂} {t} {wrote} d l v m q =
       let r = drop (n + 1) c in
       let y = end-leads c n e l in
@@ -261,7 +261,7 @@ later-is Over h = both h refl
 
 -- no later line has begun
 pub closed-silent : {out : List ℕ} (s : Stream) (b : List ℕ) → Going s b → isLater (s .phase) ≡ true → s .held .len ≡ 0
-    → EndedOf (closed (pointOf s b)) (record { more = true; size = s .size; wrote = 0 }) b b out out 25
+    → EndedOf (closed (pointOf s b)) (record { more = true; size = s .size; wrote = 0 }) b b out out
 closed-silent s b g h z =
     let l = later-is (s .phase) h in
     let x = stateOf (take (s .size) b) in

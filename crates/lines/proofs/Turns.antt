@@ -17,13 +17,14 @@ use Rattle.model.specs.declared.Answer.the-variants.{Done, Refused}
 use Rattle.model.specs.State.{State}
 use Rattle.model.specs.Reading.{stateOf}
 use Rattle.model.specs.Calls.{Called, called}
-use Rattle.model.specs.Lines.{hexadecimal, answerLine, lineOutcome}
+use Rattle.model.specs.Text.{hexadecimal}
+use Rattle.model.specs.Lines.{answerLine, answerBytes, lineOutcome}
 use Rattle.book.specs.Good.{Good, answered}
 use Rattle.lines.specs.Stream.{kept, Point, opening, later, over, Turn, silent, behind, told, ended, longer, byte, run}
-use Rattle.lines.specs.Digits.{Put}
+use Rattle.text.specs.Put.{Put}
 use Rattle.lines.specs.Post.{Free, ends, Leads, TakenOf, Told}
 use Rattle.lines.specs.declared.stream.Taken.{Taken}
-use Rattle.lines.proofs.Puts.{drop-further}
+use Rattle.text.proofs.Puts.{drop-further}
 use Rattle.lines.proofs.Keeping.{kept-append}
 use Rattle.lines.proofs.Whole.{byte-end, byte-in, run-append, ended-later}
 use Rattle.lines.proofs.Books.{after-line}
@@ -171,17 +172,17 @@ rest-none l used f = go (decLe used (length l))
 pub run-out : (x : State) (r : List ℕ) → r ≡ [] → run (later x []) r ≡ silent (later x [])
 run-out x r e = ap (run (later x [])) e ∙ run-none (later x [])
 
-pub answer-length : (a : Answer) → length (answerLine a) ≡ 25
+pub answer-length : (a : Answer) → length (answerLine a) ≡ answerBytes
 unfolding hexadecimal
 answer-length (Done v) = refl
 answer-length (Refused n p) = refl
 
 -- an answer line was written
-pub put-wrote : {out out′ : List ℕ} {at : ℕ} (a : Answer) → Put out out′ at (answerLine a) → take (at + 25) out′ ≡ take at out ++ answerLine a
+pub put-wrote : {out out′ : List ℕ} {at : ℕ} (a : Answer) → Put out out′ at (answerLine a) → take (at + answerBytes) out′ ≡ take at out ++ answerLine a
 put-wrote {out} {out′} {at} a p = ap (λ (m : ℕ). take (at + m) out′) (sym (answer-length a)) ∙ p .wrote
 
 -- and no more than it
-pub put-past : {out out′ : List ℕ} {at : ℕ} (a : Answer) → Put out out′ at (answerLine a) → drop (at + 25) out′ ≡ drop (at + 25) out
+pub put-past : {out out′ : List ℕ} {at : ℕ} (a : Answer) → Put out out′ at (answerLine a) → drop (at + answerBytes) out′ ≡ drop (at + answerBytes) out
 put-past {out} {out′} {at} a p =
     let e = answer-length a in
     ap (λ (m : ℕ). drop (at + m) out′) (sym e) ∙ p .past ∙ ap (λ (m : ℕ). drop (at + m) out) e
@@ -214,12 +215,12 @@ module _ {S : Settings} {b b′ : List ℕ} (c : List ℕ) (i : ℕ) (t : Taken)
   more-good = after-line (take (t .used - 1) (drop i c)) g gives .good
 
   pub more-told : {out out′ : List ℕ} {at : ℕ} → Put out out′ at (answerLine (t .answer))
-      → behind (take (at + 25) out′) (run (later (stateOf b′) []) (drop (i + t .used) c))
+      → behind (take (at + answerBytes) out′) (run (later (stateOf b′) []) (drop (i + t .used) c))
       ≡ behind (take at out) (run (later (stateOf b) []) (drop i c))
   more-told {out} {out′} {at} p =
       let l = take (t .used - 1) (drop i c) in
       let o = lineOutcome (stateOf b) l in
-      let w : take (at + 25) out′ ≡ take at out ++ answerLine (t .answer) = put-wrote (t .answer) p in
+      let w : take (at + answerBytes) out′ ≡ take at out ++ answerLine (t .answer) = put-wrote (t .answer) p in
       let a : t .answer ≡ o .answer = ap (λ (q : Called). q .answer) gives in
       let x : stateOf b′ ≡ o .state = after-line l g gives .shows in
       rw (w, a, x, rest-is)
@@ -231,7 +232,7 @@ module _ {S : Settings} {b b′ : List ℕ} (c : List ℕ) (i : ℕ) (t : Taken)
 pub record So (S : Settings) (b₀ c out₀ : List ℕ) (from : ℕ) (b out : List ℕ) (at i : ℕ) : Type 0 where
   pub within : i ≤ length c
   pub more : from ≤ at
-  pub room : at + 25 * ends (drop i c) ≤ from + 25 * ends c
+  pub room : at + answerBytes * ends (drop i c) ≤ from + answerBytes * ends c
   pub good : Good S b
   pub past : drop at out ≡ drop at out₀
   pub book-kept : length b ≡ length b₀
@@ -244,13 +245,13 @@ start b c out from g =
 
 module _ {S : Settings} {b₀ c out₀ b out : List ℕ} {from at i : ℕ} where
   pub more-so : {b′ out′ : List ℕ} (t : Taken) (v : So S b₀ c out₀ from b out at i) → TakenOf (take (length c - i) (drop i c)) b t b′ → 0 < t .used
-      → length b′ ≡ length b → Put out out′ at (answerLine (t .answer)) → So S b₀ c out₀ from b′ out′ (at + 25) (i + t .used)
+      → length b′ ≡ length b → Put out out′ at (answerLine (t .answer)) → So S b₀ c out₀ from b′ out′ (at + answerBytes) (i + t .used)
   more-so t v k s e p =
       record {
         within = in-reach c i t (v .within) (v .good) k s;
         more = let h = v .more in omega arith;
         room = let h = v .room in omega (arith, more-ends c i t (v .within) (v .good) k s);
-        past = put-past (t .answer) p ∙ drop-further out out₀ at 25 (v .past);
+        past = put-past (t .answer) p ∙ drop-further out out₀ at answerBytes (v .past);
         good = more-good c i t (v .within) (v .good) k s;
         book-kept = e ∙ v .book-kept;
         out-kept = p .kept ∙ v .out-kept;

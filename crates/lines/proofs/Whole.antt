@@ -14,6 +14,7 @@ use borrow.Author.Tests.{eqb-true, eqb-false, ne-eqb}
 use Rattle.model.specs.Bounded.{every, isSome}
 use Rattle.model.specs.Site.{settingsLength, validSettings}
 use Rattle.model.proofs.Search.{and-left, and-right}
+use Rattle.model.proofs.Places.{settings-length}
 use Rattle.model.proofs.ReadBack.{valid-is}
 use Rattle.model.specs.State.{State, emptyState}
 use Rattle.model.specs.Machine.{Outcome}
@@ -21,9 +22,9 @@ use Rattle.model.specs.Words.{bookLength}
 use Rattle.model.specs.Reading.{settingsOf}
 use Rattle.model.specs.Calls.{settingsGood}
 use Rattle.model.specs.declared.Answer.the-variants.{Refused}
-use Rattle.model.specs.Lines.{digitValue, wholeWords, lineWords, linesOf, answerLine, lineOutcome, answerLines}
-use Rattle.model.specs.Lines.{programWords, output, frames}
-use Rattle.lines.proofs.Framing.{words-length, not-so, frame-parts, no-frame}
+use Rattle.model.specs.Text.{digitValue}
+use Rattle.model.specs.Lines.{wholeWords, lineWords, linesOf, answerLine, lineOutcome, answerLines, programWords, output, frames}
+use Rattle.lines.proofs.Framing.{words-length, not-so, frame-most, no-frame}
 use Rattle.lines.proofs.Keeping.{kept-append}
 use Rattle.lines.specs.Post.{Free}
 use Rattle.lines.specs.Stream.{heldMost, kept, Point, opening, later, over, Turn, silent, behind, opened, told}
@@ -60,7 +61,7 @@ settings-short l h =
     let valid = valid-is (settingsOf w) (and-right (leb 9 (length w) && eqb (length w) (settingsLength (settingsOf w))) _ good) in
     let long = eqb-true (length w) (settingsLength (settingsOf w)) (and-right (leb 9 (length w)) _ (and-left _ (validSettings (settingsOf w)) good))
     in
-    omega (arith, words-length l, valid .few)
+    omega (arith, words-length l, settings-length (settingsOf w), valid .few)
 
 -- what a line gives is what is kept of it gives
 module _ (l : List ℕ) where
@@ -76,7 +77,7 @@ module _ (l : List ℕ) where
   outcome-kept x =
       ⊎-elim (λ e. ap (lineOutcome x) e)
       (λ h.
-      simp (no-frame (kept l) (λ e. omega (arith, frame-parts (kept l) e .0)), no-frame l (λ e. omega (arith, frame-parts l e .0))))
+      simp (no-frame (kept l) (λ e. omega (arith, frame-most (kept l) e)), no-frame l (λ e. omega (arith, frame-most l e))))
       same-or-long
 
   pub opened-kept : opened (kept l) ≡ opened l

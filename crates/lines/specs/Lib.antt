@@ -1,5 +1,4 @@
-pub mod Digits
-pub mod Stream
 pub mod Frame
+pub mod Stream
 pub mod Post
 pub mod Laying

@@ -11,9 +11,8 @@ use Rattle.model.specs.State.{State}
 use Rattle.model.specs.Reading.{settingsOf, stateOf}
 use Rattle.model.specs.Machine.{requestOf}
 use Rattle.model.specs.Calls.{called}
-use Rattle.model.specs.Lines.{isFrame, lineWords, lineOutcome}
+use Rattle.model.specs.Lines.{answerBytes, isFrame, lineWords, lineOutcome}
 use Rattle.book.specs.Good.{Good, answered}
-use Rattle.lines.specs.Digits.{frameDigits}
 use Rattle.lines.specs.Stream.{heldMost, Point, opening, later, over, Turn, behind, run}
 use Rattle.lines.specs.declared.line.Next.{Next}
 use Rattle.lines.specs.declared.line.Next.the-variants.{Frame, Other, Partial}
@@ -94,9 +93,9 @@ pub record EndSized (e : Ended) (b : List ℕ) : Type 0 where
   pub none : e .more ≡ false → e .size ≡ 0
   pub good : e .more ≡ true → Good (settingsOf (take (e .size) b)) (take (e .size) b)
 
--- the same of the end of a line
-pub record EndedOf (t : Turn) (e : Ended) (b₀ b out₀ out : List ℕ) (room : ℕ) : Type 0 where
-  pub short : e .wrote ≤ room
+-- the same of the end of a line, which writes one answer line at most
+pub record EndedOf (t : Turn) (e : Ended) (b₀ b out₀ out : List ℕ) : Type 0 where
+  pub short : e .wrote ≤ answerBytes
   pub sized : EndSized e b
   pub same : record { out = take (e .wrote) out; point = endPoint e b } ≡ t
   pub book-past : drop (e .size) b ≡ drop (e .size) b₀
@@ -108,9 +107,14 @@ pub record Leads (l : List ℕ) (n : ℕ) : Type 0 where
   pub free : Free (take n l)
   pub ends : getD l n 0 ≡ 10
 
+-- n are the digits of the frame that is the first line of l, or 0: it is no frame
+pub record FrameAhead (l : List ℕ) (n : ℕ) : Type 0 where
+  pub some : 0 < n → Leads l n × (isFrame (take n l) ≡ true)
+  pub none : n ≡ 0 → (k : ℕ) → Leads l k → isFrame (take k l) ≡ false
+
 -- what stands at the front of l
 abbrev pub NextOf : List ℕ → Next → Type 0
-NextOf l (Frame r) = Leads l frameDigits × (isFrame (take frameDigits l) ≡ true) × (r ≡ requestOf (lineWords (take frameDigits l)))
+NextOf l (Frame n r) = Leads l n × (isFrame (take n l) ≡ true) × (r ≡ requestOf (lineWords (take n l)))
 NextOf l (Other n) = Leads l n × (isFrame (take n l) ≡ false)
 NextOf l Partial = Free l
 
@@ -123,7 +127,7 @@ pub record TakenOf (l b₀ : List ℕ) (t : Taken) (b : List ℕ) : Type 0 where
 pub record Told (s : Settings) (b₀ c out₀ : List ℕ) (at : ℕ) (b out : List ℕ) (used wrote : ℕ) : Type 0 where
   pub within : used ≤ length c
   pub more : at ≤ wrote
-  pub short : wrote ≤ at + 25 * ends c
+  pub short : wrote ≤ at + answerBytes * ends c
   pub good : Good s b
   pub past : drop wrote out ≡ drop wrote out₀
   pub free : Free (drop used c)

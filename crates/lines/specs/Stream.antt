@@ -6,16 +6,13 @@ use mathlib.Core.List.{List, [], _∷_, _++_}
 use lib.Dec.{leb, eqb}
 use lib.ListN.{take}
 use Rattle.model.specs.declared.Answer.the-variants.{Refused}
+use Rattle.model.specs.Site.{settingsMost}
 use Rattle.model.specs.State.{State, emptyState}
 use Rattle.model.specs.Machine.{Outcome}
 use Rattle.model.specs.Words.{bookLength}
 use Rattle.model.specs.Reading.{settingsOf}
 use Rattle.model.specs.Calls.{settingsGood}
 use Rattle.model.specs.Lines.{wholeWords, lineWords, answerLine, lineOutcome, programWords}
-
--- the most words of settings: nine limits and sixteen capacities
-abbrev pub settingsMost : ℕ
-settingsMost = 25
 
 -- A line of more bytes than settings can have is neither a frame nor settings, and no more is one that is cut behind its first byte too
 -- many: of a line that is not over, that many bytes say all.

@@ -2,16 +2,20 @@
 use crate::line::line_words;
 use crate::line::whole_words;
 use book::lay::lay;
+use book::settings::LIMITS;
 use book::settings::book_len;
 ghost use Prim.Native.Nat.{_≤_};
 ghost use lib.ListN.{length};
+ghost use Rattle.model.specs.Lines.{programWords};
 ghost use Rattle.lines.specs.Laying.{LaidOf, LaidBy};
 
 // The most words of a book that the program holds.
-const PROGRAM_WORDS: usize = 16384;
+pub const PROGRAM_WORDS: usize = 16384;
 
-// The most words that settings are: nine limits and sixteen capacities.
-pub const SETTINGS_WORDS: usize = 25;
+// The most dining rooms, and the most words that settings are: the limits, and a capacity for each of them.
+const DINING_MOST: usize = 16;
+
+pub const SETTINGS_WORDS: usize = LIMITS + DINING_MOST;
 
 // What a settings line gives: the length of the book that is laid, or the number of a refusal.
 pub enum Laid {
@@ -20,7 +24,7 @@ pub enum Laid {
 }
 
 pub fn lay_words(book: &mut [u32], words: &[u32]) -> Laid
-    requires { ⌜ 16384 ≤ length (now book) ⌝ }
+    requires { ⌜ programWords ≤ length (now book) ⌝ }
     ensures { λ r. ⌜ LaidOf (now (words .entry)) (now (book .entry)) r (now (book .exit)) ⌝ }
 {
     let size = book_len(words);
@@ -35,7 +39,7 @@ pub fn lay_words(book: &mut [u32], words: &[u32]) -> Laid
 }
 
 pub fn lay_line(book: &mut [u32], line: &[u8]) -> Laid
-    requires { ⌜ 16384 ≤ length (now book) ⌝ }
+    requires { ⌜ programWords ≤ length (now book) ⌝ }
     ensures { λ r. ⌜ LaidBy (now (line .entry)) (now (book .entry)) r (now (book .exit)) ⌝ }
 {
     if !whole_words(line) {

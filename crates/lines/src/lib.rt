@@ -1,5 +1,5 @@
-// Lines: hexadecimal, frame lines, the settings line, answer lines, and the stream of chunks.
-pub mod hex;
+// Lines: frame lines, the settings line, answer lines, and the stream of chunks.
+pub mod frame;
 pub mod lay;
 pub mod line;
 pub mod stream;

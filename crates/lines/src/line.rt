@@ -1,21 +1,28 @@
-// Lines: the request of a frame line, the words of a settings line, and the line of an answer.
+// Lines: what stands at the front of the input, the words of a settings line, and the line of an answer.
+use crate::frame::frame_ahead;
+use crate::frame::request;
+use model::Answer;
+use model::Request;
+use text::hex::digits_only;
+use text::hex::put_word;
+use text::hex::word;
+use text::store::put;
 ghost use mathlib.Core.Path.{_≡_};
 ghost use mathlib.Core.Bool.{true};
 ghost use Prim.Native.Nat.{_+_, _*_, _/_, _<_, _≤_};
 ghost use lib.ListN.{length, take};
-ghost use Rattle.model.specs.Machine.{answerWords, requestOf};
-ghost use Rattle.model.specs.Lines.{hexadecimal, wholeWords, lineWords, answerLine};
-ghost use Rattle.lines.specs.Digits.{frameDigits, digitsOnly, Put, LineEnd};
+ghost use Rattle.model.specs.Machine.{answerWords};
+ghost use Rattle.model.specs.Text.{hexadecimal};
+ghost use Rattle.model.specs.Lines.{wholeWords, lineWords, answerLine, answerDigits, answerBytes};
+ghost use Rattle.text.specs.Digits.{digitsOnly};
+ghost use Rattle.text.specs.Put.{Put};
+ghost use Rattle.lines.specs.Frame.{LineEnd};
 ghost use Rattle.lines.specs.Post.{NextOf};
-ghost use Rattle.lines.specs.Frame.{frameAhead};
-use model::Answer;
-use model::Request;
 
-// The digits of a frame line: seven words of eight.
-pub const FRAME_DIGITS: usize = 56;
+// The digits of an answer's three words, and the bytes of its line.
+const ANSWER_DIGITS: usize = 8 * 3;
 
-// The same with the byte 10 that ends it.
-pub const FRAME_LINE: usize = FRAME_DIGITS + 1;
+pub const ANSWER_BYTES: usize = ANSWER_DIGITS + 1;
 
 // The index of the first byte 10, or the length where there is none.
 pub fn line_end(s: &[u8]) -> usize
@@ -31,50 +38,23 @@ pub fn line_end(s: &[u8]) -> usize
     i
 }
 
-// The request of a frame line.
-pub fn request(line: &[u8]) -> Request
-    requires { ⌜ digitsOnly (now line) ≡ true ⌝ }
-    requires { ⌜ length (now line) ≡ frameDigits ⌝ }
-    ensures { λ r. ⌜ r ≡ requestOf (lineWords (now (line .entry))) ⌝ }
-{
-    let d = crate::hex::values(line);
-    Request {
-        kind: crate::hex::word_of(&d, 0),
-        a: crate::hex::word_of(&d, 8),
-        b: crate::hex::word_of(&d, 16),
-        first: crate::hex::word_of(&d, 24),
-        last: crate::hex::word_of(&d, 32),
-        n: crate::hex::word_of(&d, 40),
-        info: crate::hex::word_of(&d, 48),
-    }
-}
-
-// What stands at the front of the input: a frame line, another line of some length, or a line that is not over.
+// What stands at the front of the input: a frame line of some length, another line of some length, or a line that is not over.
 pub enum Next {
-    Frame(Request),
+    Frame { len: usize, request: Request },
     Other(usize),
     Partial,
-}
-
-// Whether the input begins with a frame line: its digits and byte 10.
-pub fn frame_ahead(s: &[u8]) -> bool
-    ensures { λ r. ⌜ r ≡ frameAhead (now (s .entry)) ⌝ }
-{
-    if s.len() <= FRAME_DIGITS {
-        return false;
-    }
-    if s[FRAME_DIGITS] != 10 {
-        return false;
-    }
-    crate::hex::digits_only(&s[..FRAME_DIGITS])
 }
 
 // The search for a line's end is left to lines that are no frames.
 pub fn look(s: &[u8]) -> Next
     ensures { λ r. ⌜ NextOf (now (s .entry)) r ⌝ }
 {
-    if frame_ahead(s) {
-        return Next::Frame(request(&s[..FRAME_DIGITS]));
+    let len = frame_ahead(s);
+    if len > 0 {
+        return Next::Frame {
+            len,
+            request: request(&s[..len]),
+        };
     }
     let n = line_end(s);
     if n == s.len() {
@@ -87,7 +67,7 @@ pub fn look(s: &[u8]) -> Next
 pub fn whole_words(line: &[u8]) -> bool
     ensures { λ r. ⌜ r ≡ wholeWords (now (line .entry)) ⌝ }
 {
-    crate::hex::digits_only(line) & (line.len() % 8 == 0)
+    digits_only(line) & (line.len() % 8 == 0)
 }
 
 // The words of a line, at the front of `words`.
@@ -99,34 +79,34 @@ pub fn line_words(line: &[u8], words: &mut [u32])
     let n = line.len() / 8;
     let mut k = 0;
     while k < n {
-        words[k] = crate::hex::word(line, 8 * k);
+        words[k] = word(line, 8 * k);
         k += 1;
     }
 }
 
 // The three words of an answer behind what was written.
 fn put_words(out: &mut [u8], at: usize, a: Answer)
-    requires { ⌜ at + 24 ≤ length (now out) ⌝ }
+    requires { ⌜ at + answerDigits ≤ length (now out) ⌝ }
     ensures { λ _. ⌜ Put (now (out .entry)) (now (out .exit)) at (hexadecimal (answerWords a)) ⌝ }
 {
     match a {
         Answer::Done(value) => {
-            crate::hex::put(out, at, b"0000000000000000");
-            crate::hex::put_word(out, at + 16, value);
+            put(out, at, b"0000000000000000");
+            put_word(out, at + 16, value);
         }
         Answer::Refused { number, place } => {
-            crate::hex::put_word(out, at, number);
-            crate::hex::put_word(out, at + 8, place);
-            crate::hex::put(out, at + 16, b"00000000");
+            put_word(out, at, number);
+            put_word(out, at + 8, place);
+            put(out, at + 16, b"00000000");
         }
     }
 }
 
 // An answer line behind what was written.
 pub fn put_answer(out: &mut [u8], at: usize, a: Answer)
-    requires { ⌜ at + 25 ≤ length (now out) ⌝ }
+    requires { ⌜ at + answerBytes ≤ length (now out) ⌝ }
     ensures { λ _. ⌜ Put (now (out .entry)) (now (out .exit)) at (answerLine a) ⌝ }
 {
     put_words(out, at, a);
-    crate::hex::put(out, at + 24, b"\n");
+    put(out, at + ANSWER_DIGITS, b"\n");
 }

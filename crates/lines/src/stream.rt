@@ -2,7 +2,7 @@
 use crate::lay::Laid;
 use crate::lay::SETTINGS_WORDS;
 use crate::lay::lay_line;
-use crate::line::FRAME_LINE;
+use crate::line::ANSWER_BYTES;
 use crate::line::Next;
 use crate::line::line_end;
 use crate::line::look;
@@ -16,7 +16,7 @@ ghost use mathlib.Core.List.{[], _++_};
 ghost use Prim.Native.Nat.{_+_, _*_, _≤_, min};
 ghost use lib.ListN.{length, take};
 ghost use Rattle.model.specs.Reading.{settingsOf, stateOf};
-ghost use Rattle.model.specs.Lines.{lineOutcome};
+ghost use Rattle.model.specs.Lines.{answerBytes, programWords, lineOutcome};
 ghost use Rattle.book.specs.Good.{Good};
 ghost use Rattle.lines.specs.Stream.{kept, behind, opened, told, ended, run, closed};
 ghost use Rattle.lines.specs.Post.{Free, ends, heldOf, Holds, pointAt, pointOf, Sized, Going, Begun, isLater};
@@ -102,9 +102,9 @@ fn take_line(book: &mut [u32], s: Settings, chunk: &[u8]) -> Taken
     ensures { λ r. ⌜ TakenOf (now (chunk .entry)) (now (book .entry)) r (now (book .exit)) ⌝ }
 {
     match look(chunk) {
-        Next::Frame(r) => Taken {
-            used: FRAME_LINE,
-            answer: step(book, s, r),
+        Next::Frame { len, request } => Taken {
+            used: len + 1,
+            answer: step(book, s, request),
         },
         Next::Other(n) => Taken {
             used: n + 1,
@@ -124,7 +124,7 @@ fn take_line(book: &mut [u32], s: Settings, chunk: &[u8]) -> Taken
 // the compiler can put the step.
 fn answer_lines(book: &mut [u32], chunk: &[u8], out: &mut [u8], from: usize) -> Progress
     requires { ⌜ Good (settingsOf (now book)) (now book) ⌝ }
-    requires { ⌜ from + 25 * ends (now chunk) ≤ length (now out) ⌝ }
+    requires { ⌜ from + answerBytes * ends (now chunk) ≤ length (now out) ⌝ }
     ensures { λ r. ⌜ Told (settingsOf (now (book .entry))) (now (book .entry)) (now (chunk .entry))
         (now (out .entry)) from (now (book .exit)) (now (out .exit)) (r .used) (r .wrote) ⌝ }
 {
@@ -140,7 +140,7 @@ fn answer_lines(book: &mut [u32], chunk: &[u8], out: &mut [u8], from: usize) -> 
         }
         let a = t.answer;
         put_answer(out, at, a);
-        at += 25;
+        at += ANSWER_BYTES;
         i += used;
     }
     Progress { used: i, wrote: at }
@@ -151,9 +151,9 @@ fn end_later(book: &mut [u32], size: usize, held: Held, out: &mut [u8]) -> Ended
     requires { ⌜ size ≤ length (now book) ⌝ }
     requires { ⌜ Good (settingsOf (take size (now book))) (take size (now book)) ⌝ }
     requires { ⌜ Holds held (heldOf held) ⌝ }
-    requires { ⌜ 25 ≤ length (now out) ⌝ }
+    requires { ⌜ answerBytes ≤ length (now out) ⌝ }
     ensures { λ r. ⌜ EndedOf (told (lineOutcome (stateOf (take size (now (book .entry)))) (heldOf held)))
-        r (now (book .entry)) (now (book .exit)) (now (out .entry)) (now (out .exit)) 25 ⌝ }
+        r (now (book .entry)) (now (book .exit)) (now (out .entry)) (now (out .exit)) ⌝ }
 {
     let mut bytes = held.bytes;
     let len = held.len;
@@ -169,9 +169,9 @@ fn end_later(book: &mut [u32], size: usize, held: Held, out: &mut [u8]) -> Ended
 
 // The end of the settings line.
 fn settle(book: &mut [u32], line: &[u8], out: &mut [u8]) -> Ended
-    requires { ⌜ 16384 ≤ length (now book) ⌝ }
-    requires { ⌜ 25 ≤ length (now out) ⌝ }
-    ensures { λ r. ⌜ EndedOf (opened (now (line .entry))) r (now (book .entry)) (now (book .exit)) (now (out .entry)) (now (out .exit)) 25 ⌝ }
+    requires { ⌜ programWords ≤ length (now book) ⌝ }
+    requires { ⌜ answerBytes ≤ length (now out) ⌝ }
+    ensures { λ r. ⌜ EndedOf (opened (now (line .entry))) r (now (book .entry)) (now (book .exit)) (now (out .entry)) (now (out .exit)) ⌝ }
 {
     match lay_line(book, line) {
         Laid::Book(size) => Ended {
@@ -185,7 +185,7 @@ fn settle(book: &mut [u32], line: &[u8], out: &mut [u8]) -> Ended
             Ended {
                 more: false,
                 size: 0,
-                wrote: 25,
+                wrote: ANSWER_BYTES,
             }
         }
     }
@@ -203,10 +203,10 @@ fn nothing() -> Held
 // The rest of a chunk, behind the end of a line.
 fn go_on(book: &mut [u32], e: Ended, chunk: &[u8], out: &mut [u8]) -> Fed
     requires { ⌜ EndSized e (now book) ⌝ }
-    requires { ⌜ e .wrote + 25 * length (now chunk) ≤ length (now out) ⌝ }
+    requires { ⌜ e .wrote + answerBytes * length (now chunk) ≤ length (now out) ⌝ }
     ensures { λ r. ⌜ Moved (behind (take (e .wrote) (now (out .entry))) (run (endPoint e (now (book .entry))) (now (chunk .entry))))
         (r .stream) (now (book .entry)) (now (book .exit)) (now (out .entry)) (now (out .exit))
-        (e .wrote) (r .wrote) (e .wrote + 25 * length (now (chunk .entry))) × (r .stream .size ≡ e .size) ⌝ }
+        (e .wrote) (r .wrote) (e .wrote + answerBytes * length (now (chunk .entry))) × (r .stream .size ≡ e .size) ⌝ }
 {
     let wrote = e.wrote;
     if !e.more {
@@ -234,11 +234,11 @@ fn go_on(book: &mut [u32], e: Ended, chunk: &[u8], out: &mut [u8]) -> Fed
 
 // A chunk of input. The answers go to the front of `out`.
 pub fn feed(book: &mut [u32], stream: Stream, chunk: &[u8], out: &mut [u8]) -> Fed
-    requires { ⌜ 16384 ≤ length (now book) ⌝ }
+    requires { ⌜ programWords ≤ length (now book) ⌝ }
     requires { ⌜ Going stream (now book) ⌝ }
-    requires { ⌜ 25 * length (now chunk) ≤ length (now out) ⌝ }
+    requires { ⌜ answerBytes * length (now chunk) ≤ length (now out) ⌝ }
     ensures { λ r. ⌜ Moved (run (pointOf stream (now (book .entry))) (now (chunk .entry)))
-        (r .stream) (now (book .entry)) (now (book .exit)) (now (out .entry)) (now (out .exit)) 0 (r .wrote) (25 * length (now (chunk .entry))) ⌝ }
+        (r .stream) (now (book .entry)) (now (book .exit)) (now (out .entry)) (now (out .exit)) 0 (r .wrote) (answerBytes * length (now (chunk .entry))) ⌝ }
 {
     let before = stream.held;
     let phase = stream.phase;
@@ -258,12 +258,12 @@ pub fn feed(book: &mut [u32], stream: Stream, chunk: &[u8], out: &mut [u8]) -> F
 
 // The line that is held is over.
 fn end_held(book: &mut [u32], phase: Phase, size: usize, held: Held, out: &mut [u8]) -> Ended
-    requires { ⌜ 16384 ≤ length (now book) ⌝ }
+    requires { ⌜ programWords ≤ length (now book) ⌝ }
     requires { ⌜ Sized phase size (now book) ⌝ }
     requires { ⌜ Holds held (heldOf held) ⌝ }
-    requires { ⌜ 25 ≤ length (now out) ⌝ }
+    requires { ⌜ answerBytes ≤ length (now out) ⌝ }
     ensures { λ r. ⌜ EndedOf (ended (pointAt phase (stateOf (take size (now (book .entry)))) (heldOf held)))
-        r (now (book .entry)) (now (book .exit)) (now (out .entry)) (now (out .exit)) 25 ⌝ }
+        r (now (book .entry)) (now (book .exit)) (now (out .entry)) (now (out .exit)) ⌝ }
 {
     match phase {
         Phase::Opening => {
@@ -303,11 +303,11 @@ fn is_later(phase: Phase) -> bool
 
 // The end of the input: the settings line ends in any case, a later one if it has begun.
 pub fn close(book: &mut [u32], stream: Stream, out: &mut [u8]) -> Ended
-    requires { ⌜ 16384 ≤ length (now book) ⌝ }
+    requires { ⌜ programWords ≤ length (now book) ⌝ }
     requires { ⌜ Going stream (now book) ⌝ }
-    requires { ⌜ 25 ≤ length (now out) ⌝ }
+    requires { ⌜ answerBytes ≤ length (now out) ⌝ }
     ensures { λ r. ⌜ EndedOf (closed (pointOf stream (now (book .entry))))
-        r (now (book .entry)) (now (book .exit)) (now (out .entry)) (now (out .exit)) 25 ⌝ }
+        r (now (book .entry)) (now (book .exit)) (now (out .entry)) (now (out .exit)) ⌝ }
 {
     let held = stream.held;
     let phase = stream.phase;

@@ -20,7 +20,7 @@ use Rattle.model.specs.Ledger.{Ledger, bookLength, bookWords, diaryOf, b
 use Rattle.model.specs.Laws.{wellLaid, diaryLaid, lawful, diaryLawful}
 use Rattle.model.proofs.Search.{and-left, and-right, and-true}
 use Rattle.model.proofs.Laws.{Sound}
-use Rattle.model.proofs.Places.{length-words}
+use Rattle.model.proofs.Places.{settings-length, length-words}
 use Rattle.model.proofs.ReadBack.{Valid, valid-is, seated, settings-back, stateOf-words}
 use Rattle.model.proofs.Shown.{words-stateOf}
 use Rattle.model.proofs.Sound.{book-sound}
@@ -34,7 +34,7 @@ pub record LedgerSound (l : Ledger) : Type 0 where
 
 -- two lists with the same words up to the end of the settings have the same settings
 same-head : (a b : List ℕ) (n : ℕ) → settingsLength (settingsOf b) ≤ n → ((i : ℕ) → i < n → getD a i 0 ≡ getD b i 0) → settingsOf a ≡ settingsOf b
-unfolding settingsOf
+unfolding settingsOf settingsLength
 same-head a b n h e =
     λ i. record {
       dates = e 0 (omega (arith, h)) i;
@@ -105,7 +105,7 @@ module _ (b : List ℕ) (one : wellLaid b ≡ true) where
   laid-diary =
       rw (diary-settings b)
       (and-true
-      (and-true (le-leb limitWords (length (diaryOf b)) (omega (arith, diary-long, settings-in (settingsOf b)))) laid-valid)
+      (and-true (le-leb limitWords (length (diaryOf b)) (omega (arith, diary-long, settings-length (settingsOf b), settings-in (settingsOf b)))) laid-valid)
       (eq-eqb (length (diaryOf b)) (diaryLength (settingsOf b)) diary-long))
 
   -- and question 2
@@ -173,7 +173,7 @@ module _ (l : Ledger) (s : LedgerSound l) where
   well-laid =
       rw book-settings
       (and-true
-      (and-true (le-leb limitWords (length (bookWords l)) (omega (arith, book-long, settings-in (l .diary .settings)))) (s .diary .valid))
+      (and-true (le-leb limitWords (length (bookWords l)) (omega (arith, book-long, settings-length (l .diary .settings), settings-in (l .diary .settings)))) (s .diary .valid))
       (eq-eqb (length (bookWords l)) (bookLength (l .diary .settings)) book-long))
 
   pub lawful-words : lawful (bookWords l) ≡ true

@@ -6,16 +6,17 @@ use mathlib.Core.Bool.{Bool, true, false, not, cond}
 use mathlib.Core.Option.{Option, none, some}
 use mathlib.Core.List.{List}
 use native.Mathlib.Omega.{arith}
-use lib.Dec.{ltb, eqb}
-use borrow.Author.Tests.{lt-ltb, eq-eqb, ne-eqb, eqb-true}
+use lib.Dec.{eqb}
+use borrow.Author.Tests.{eq-eqb, ne-eqb, eqb-true}
 use Rattle.model.specs.declared.Settings.{Settings}
-use Rattle.model.specs.Bounded.{within, lowest, isSome, any, bit, one, count}
-use Rattle.model.specs.Site.{allSessions, capacity, validSettings, ranges}
+use Rattle.model.specs.Bounded.{lowest, isSome, any, bit, one, count}
+use Rattle.model.specs.Site.{allSessions, capacity}
 use Rattle.model.specs.State.{State, Lunch, attends, confs, lunches, booked, seatsOf}
 use Rattle.model.specs.Questions.{confHeld, lunchHeld, meetingOf}
 use Rattle.model.specs.Words.{leaves, standings, attendCells, confPairs, lunchTriples, groups}
 use Rattle.model.specs.Reading.{stateOf, readState, holds, at}
-use Rattle.model.proofs.Search.{any-same, lowest-by, lowest-same, bool-eq, Each, conj-is, within-true, all-true}
+use Rattle.model.proofs.Search.{any-same, lowest-by, lowest-same, bool-eq}
+use Rattle.model.proofs.ReadBack.{valid-is}
 use Rattle.model.proofs.Sums.{sum-delta}
 use Rattle.book.specs.Grids.{cellAt, gridOf}
 use Rattle.book.specs.Rows.{rowHas}
@@ -141,22 +142,11 @@ module _ (S : Settings) (b : List ℕ) (good : Good S b) where
       go none e = omega arith
       go (some l) e = good-sound good .seats d g m l e .1
 
--- a capacity is at most 1000
-pub capacity-few : (S : Settings) → validSettings S ≡ true → (g : ℕ) → g < S .dining → capacity S g ≤ 1000
-unfolding validSettings
-capacity-few S e g h =
-    let r : Each (ranges S) = conj-is (ranges S) e in
-    let f : S .dining ≤ 16 = within-true 1 16 (S .dining) (r .1 .1 .1 .1 .1 .1 .0) .1 in
-    let t : cond (ltb g (S .dining)) (within 1 1000 (capacity S g)) (eqb (capacity S g) 0) ≡ true
-    = all-true (λ g. cond (ltb g (S .dining)) (within 1 1000 (capacity S g)) (eqb (capacity S g) 0)) 16 (r .1 .1 .1 .1 .1 .1 .1 .1 .1 .1 .0) g
-    (omega arith) in
-    within-true 1 1000 (capacity S g) (rw (lt-ltb g (S .dining) h) at t) .1
-
 -- the meeting's seats in a dining room, by its cell
 module _ (S : Settings) (b : List ℕ) (good : Good S b) (d g m : ℕ) (h : d < S .dates) (l : g < S .dining) (k : m < S .meetings) where
   few : seatsOf (stateOf b .lunch d g m) ≤ 1000
   unfolding readState
-  few = omega (arith, seats-few S b good d g m, capacity-few S (good-sound good .valid) g l)
+  few = omega (arith, seats-few S b good d g m, valid-is S (good-sound good .valid) .seats g l)
 
   pub seats-other : (cellAt (gridOf S lunchTriples) b d m ≡ g + 1 → ⊥) → Seats (stateOf b) d g m 0
   seats-other n =

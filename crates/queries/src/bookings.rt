@@ -24,7 +24,8 @@ ghost use Rattle.book.specs.Good.{Good};
 ghost use Rattle.queries.specs.Shown.{columnCount};
 ghost use Rattle.book.specs.Lent.{reading, Lies};
 
-fn full(w: u32) -> u32
+// 1 for a cell with an entry, whose first word is not 0.
+pub fn full(w: u32) -> u32
     ensures { λ r. ⌜ r ≡ one (not (eqb w 0)) ⌝ }
 {
     if w == 0 {
@@ -47,6 +48,23 @@ fn column_count(book: &[u32], g: Grid, item: u32, lo: u32, hi: u32) -> u32
         i += 1;
     }
     n
+}
+
+// Is the item's cell full in one of them? The rows lie far apart, so that the search ends with the first.
+fn column_has(book: &[u32], g: Grid, item: u32, lo: u32, hi: u32) -> bool
+    requires { ⌜ Lies g (reading (now book)) ⌝ }
+    requires { ⌜ item < g .items ⌝ }
+    requires { ⌜ hi ≤ g .slots ⌝ }
+    ensures { λ r. ⌜ r ≡ not (eqb (columnCount g (reading (now (book .entry))) item lo hi) 0) ⌝ }
+{
+    let mut i = lo;
+    while i < hi {
+        if cell(book, g, i, item) != 0 {
+            return true;
+        }
+        i += 1;
+    }
+    false
 }
 
 // The entries of the visitor on the date: there are none without leave, and else they are searched for in every slot of the date.
@@ -87,8 +105,8 @@ pub fn bookings(book: &[u32], s: Settings, visitor: u32, first: Date, last: Date
     n
 }
 
-// Has the visitor an entry on the date? What costs least is asked first: leave, without which there is none, a hotel room, a meeting,
-// and a ride, whose times are many.
+// Has the visitor an entry on the date? What costs least is asked first: leave, without which there is none, a meeting, whose cell is the
+// visitor's own, a hotel room, which is searched for in a row, and a ride, searched for in a row of each time.
 pub fn has_bookings(book: &[u32], s: Settings, g: Grids, visitor: u32, date: Date) -> bool
     requires { ⌜ Good s (reading (now book)) ⌝ }
     requires { ⌜ g ≡ gridsOf s ⌝ }
@@ -99,11 +117,11 @@ pub fn has_bookings(book: &[u32], s: Settings, g: Grids, visitor: u32, date: Dat
     if !on_leave(book, s, g, date, visitor) {
         return false;
     }
-    if row_count(book, g.hotel, date.0, visitor + 1) != 0 {
+    let sessions = sessions_on(s, date, date);
+    if column_has(book, g.attend, visitor, sessions.from.0, sessions.to.0) {
         return true;
     }
-    let sessions = sessions_on(s, date, date);
-    if column_count(book, g.attend, visitor, sessions.from.0, sessions.to.0) != 0 {
+    if row_count(book, g.hotel, date.0, visitor + 1) != 0 {
         return true;
     }
     let times = times_on(s, date, date);

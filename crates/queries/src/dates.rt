@@ -4,11 +4,11 @@ use book::found::Found;
 use book::grid::Grids;
 use book::rows::row_members;
 use book::units::after;
-use book::units::sessions_on;
+use book::units::first_session;
 use model::Date;
 use model::Settings;
 ghost use mathlib.Core.Path.{_≡_};
-ghost use Prim.Native.Nat.{_<_};
+ghost use Prim.Native.Nat.{_≤_, _<_};
 ghost use Rattle.model.specs.Bounded.{count, failing};
 ghost use Rattle.model.specs.Questions.{standsOn};
 ghost use Rattle.model.specs.Reading.{stateOf};
@@ -27,7 +27,7 @@ pub fn members(book: &[u32], s: Settings, g: Grids, date: Date) -> u32
     row_members(book, g.leave, date.0)
 }
 
-// The lowest date of first..last on which the meeting stands in no session.
+// The lowest date of first..last on which the meeting stands in no session. A date's sessions end where the next date's begin.
 pub fn first_without_session(
     book: &[u32],
     s: Settings,
@@ -39,16 +39,20 @@ pub fn first_without_session(
     requires { ⌜ Good s (reading (now book)) ⌝ }
     requires { ⌜ g ≡ gridsOf s ⌝ }
     requires { ⌜ meeting < s .meetings ⌝ }
+    requires { ⌜ first .0 ≤ last .0 ⌝ }
     requires { ⌜ last .0 < s .dates ⌝ }
     ensures { λ r. ⌜ r ≡ foundOf (failing (λ d. standsOn (stateOf (reading (now (book .entry)))) d meeting) (first .0) (last .0)) ⌝ }
 {
     let mut date = first;
+    let mut from = first_session(s, first);
     while date.0 <= last.0 {
-        let run = sessions_on(s, date, date);
-        if !member_between(book, g.standing, meeting, run.from.0, run.to.0) {
+        let next = after(date);
+        let to = first_session(s, next);
+        if !member_between(book, g.standing, meeting, from.0, to.0) {
             return Found::At(date.0);
         }
-        date = after(date);
+        date = next;
+        from = to;
     }
     Found::Nothing
 }

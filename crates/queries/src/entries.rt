@@ -59,17 +59,6 @@ pub fn on_leave(book: &[u32], s: Settings, g: Grids, date: Date, visitor: u32) -
     member(book, g.leave, date.0, visitor)
 }
 
-// Does the meeting stand in the session?
-pub fn stands(book: &[u32], s: Settings, g: Grids, session: Session, meeting: u32) -> bool
-    requires { ⌜ Good s (reading (now book)) ⌝ }
-    requires { ⌜ g ≡ gridsOf s ⌝ }
-    requires { ⌜ session .0 < allSessions s ⌝ }
-    requires { ⌜ meeting < s .meetings ⌝ }
-    ensures { λ r. ⌜ r ≡ stateOf (reading (now (book .entry))) .standing (session .0) meeting ⌝ }
-{
-    member(book, g.standing, session.0, meeting)
-}
-
 // Has the meeting a conference room in the session?
 pub fn conf_held(book: &[u32], s: Settings, g: Grids, session: Session, meeting: u32) -> bool
     requires { ⌜ Good s (reading (now book)) ⌝ }

@@ -6,7 +6,7 @@ use mathlib.Core.Bool.{true, false}
 use native.Mathlib.Omega.{arith}
 use Rattle.model.specs.Site.{dateOfSession}
 use Rattle.model.specs.Kinds.{kindOf}
-use Rattle.model.specs.Kinds.{Kind.addLeave, Kind.endLeave, Kind.removeVisitor, Kind.addHotel, Kind.eraseHotel, Kind.addRide, Kind.eraseRide}
+use Rattle.model.specs.Kinds.{Kind.addLeave, Kind.endLeave, Kind.addHotel, Kind.eraseHotel, Kind.addRide, Kind.eraseRide}
 use Rattle.model.specs.Kinds.{Kind.addStanding, Kind.endStanding, Kind.addAttend, Kind.eraseAttend, Kind.addConf, Kind.eraseConf}
 use Rattle.model.specs.Kinds.{Kind.addLunch, Kind.eraseLunch, Kind.eraseConfAndLunch}
 use Rattle.model.specs.Machine.{change}
@@ -29,7 +29,7 @@ unfolding kindOf
 turn-requires c κs = let s = c .before .before .before in
     let a = s .args in
     let w : Known (a .s) (reading (a .book .now)) (a .g) (a .r) addLeave
-    = record { good = s .pre .0; grids = s .pre .1 .0; done = s .pre .1 .1; kind = ap kindOf (c .before .match .keys1) } in (
+    = record { good = s .pre .0; grids = s .pre .1 .0; done = s .pre .1 .1 .0; kind = ap kindOf (c .before .match .keys1) } in (
       span w leaves (λ g. g .leave) refl refl,
       item w leaves (λ g. g .leave) refl (a .r .b / 32)
           (group-lt (a .s .visitors) (a .r .b) (b-ok w (a .s .visitors) refl)),
@@ -40,26 +40,18 @@ unfolding kindOf
 turn-requires-2 c κs = let s = c .before .before .before in
     let a = s .args in
     let w : Known (a .s) (reading (a .book .now)) (a .g) (a .r) endLeave
-    = record { good = s .pre .0; grids = s .pre .1 .0; done = s .pre .1 .1; kind = ap kindOf (c .before .match .keys2) } in (
+    = record { good = s .pre .0; grids = s .pre .1 .0; done = s .pre .1 .1 .0; kind = ap kindOf (c .before .match .keys2) } in (
       span w leaves (λ g. g .leave) refl refl,
       item w leaves (λ g. g .leave) refl (a .r .b / 32)
           (group-lt (a .s .visitors) (a .r .b) (b-ok w (a .s .visitors) refl)),
     )
-
-remove-visitor-requires : tie.Need-remove-visitor-requires
-unfolding kindOf
-remove-visitor-requires c κs = let s = c .before .before .before in
-    let a = s .args in
-    let w : Known (a .s) (reading (a .book .now)) (a .g) (a .r) removeVisitor
-    = record { good = s .pre .0; grids = s .pre .1 .0; done = s .pre .1 .1; kind = ap kindOf (c .before .match .keys3) } in
-    (s .pre .0, (s .pre .1 .0, (b-ok w (a .s .visitors) refl, slots-ok w)))
 
 add-requires : tie.Need-add-requires
 unfolding kindOf
 add-requires c κs = let s = c .before .before .before in
     let a = s .args in
     let w : Known (a .s) (reading (a .book .now)) (a .g) (a .r) addHotel
-    = record { good = s .pre .0; grids = s .pre .1 .0; done = s .pre .1 .1; kind = ap kindOf (c .before .match .keys4) } in (
+    = record { good = s .pre .0; grids = s .pre .1 .0; done = s .pre .1 .1 .0; kind = ap kindOf (c .before .match .keys3) } in (
       span w hotelCells (λ g. g .hotel) refl refl,
       (
         item w hotelCells (λ g. g .hotel) refl (a .r .a) (a-ok w (a .s .hotels) refl),
@@ -73,7 +65,7 @@ unfolding kindOf
 take-requires c κs = let s = c .before .before .before in
     let a = s .args in
     let w : Known (a .s) (reading (a .book .now)) (a .g) (a .r) eraseHotel
-    = record { good = s .pre .0; grids = s .pre .1 .0; done = s .pre .1 .1; kind = ap kindOf (c .before .match .keys5) } in
+    = record { good = s .pre .0; grids = s .pre .1 .0; done = s .pre .1 .1 .0; kind = ap kindOf (c .before .match .keys4) } in
     (span w hotelCells (λ g. g .hotel) refl refl, item w hotelCells (λ g. g .hotel) refl (a .r .a) (a-ok w (a .s .hotels) refl))
 
 add-requires-2 : tie.Need-add-requires-2
@@ -81,7 +73,7 @@ unfolding kindOf
 add-requires-2 c κs = let s = c .before .before .before in
     let a = s .args in
     let w : Known (a .s) (reading (a .book .now)) (a .g) (a .r) addRide
-    = record { good = s .pre .0; grids = s .pre .1 .0; done = s .pre .1 .1; kind = ap kindOf (c .before .match .keys6) } in (
+    = record { good = s .pre .0; grids = s .pre .1 .0; done = s .pre .1 .1 .0; kind = ap kindOf (c .before .match .keys5) } in (
       span w rideCells (λ g. g .ride) refl refl,
       (
         item w rideCells (λ g. g .ride) refl (a .r .a) (a-ok w (a .s .transports) refl),
@@ -95,7 +87,7 @@ unfolding kindOf
 take-requires-2 c κs = let s = c .before .before .before in
     let a = s .args in
     let w : Known (a .s) (reading (a .book .now)) (a .g) (a .r) eraseRide
-    = record { good = s .pre .0; grids = s .pre .1 .0; done = s .pre .1 .1; kind = ap kindOf (c .before .match .keys7) } in
+    = record { good = s .pre .0; grids = s .pre .1 .0; done = s .pre .1 .1 .0; kind = ap kindOf (c .before .match .keys6) } in
     (span w rideCells (λ g. g .ride) refl refl, item w rideCells (λ g. g .ride) refl (a .r .a) (a-ok w (a .s .transports) refl))
 
 turn-requires-3 : tie.Need-turn-requires-3
@@ -103,7 +95,7 @@ unfolding kindOf
 turn-requires-3 c κs = let s = c .before .before .before in
     let a = s .args in
     let w : Known (a .s) (reading (a .book .now)) (a .g) (a .r) addStanding
-    = record { good = s .pre .0; grids = s .pre .1 .0; done = s .pre .1 .1; kind = ap kindOf (c .before .match .keys8) } in (
+    = record { good = s .pre .0; grids = s .pre .1 .0; done = s .pre .1 .1 .0; kind = ap kindOf (c .before .match .keys7) } in (
       span w standings (λ g. g .standing) refl refl,
       item w standings (λ g. g .standing) refl (a .r .a / 32)
           (group-lt (a .s .meetings) (a .r .a) (a-ok w (a .s .meetings) refl)),
@@ -114,7 +106,7 @@ unfolding kindOf
 end-standing-requires c κs = let s = c .before .before .before in
     let a = s .args in
     let w : Known (a .s) (reading (a .book .now)) (a .g) (a .r) endStanding
-    = record { good = s .pre .0; grids = s .pre .1 .0; done = s .pre .1 .1; kind = ap kindOf (c .before .match .keys9) } in (
+    = record { good = s .pre .0; grids = s .pre .1 .0; done = s .pre .1 .1 .0; kind = ap kindOf (c .before .match .keys8) } in (
       span w standings (λ g. g .standing) refl refl,
       (
         single w attendCells (λ g. g .attend) refl refl refl,
@@ -131,7 +123,7 @@ unfolding kindOf
 add-requires-3 c κs = let s = c .before .before .before in
     let a = s .args in
     let w : Known (a .s) (reading (a .book .now)) (a .g) (a .r) addAttend
-    = record { good = s .pre .0; grids = s .pre .1 .0; done = s .pre .1 .1; kind = ap kindOf (c .before .match .keys10) } in (
+    = record { good = s .pre .0; grids = s .pre .1 .0; done = s .pre .1 .1 .0; kind = ap kindOf (c .before .match .keys9) } in (
       span w attendCells (λ g. g .attend) refl refl,
       (
         item w attendCells (λ g. g .attend) refl (a .r .b) (b-ok w (a .s .visitors) refl),
@@ -145,7 +137,7 @@ unfolding kindOf
 take-requires-3 c κs = let s = c .before .before .before in
     let a = s .args in
     let w : Known (a .s) (reading (a .book .now)) (a .g) (a .r) eraseAttend
-    = record { good = s .pre .0; grids = s .pre .1 .0; done = s .pre .1 .1; kind = ap kindOf (c .before .match .keys11) } in
+    = record { good = s .pre .0; grids = s .pre .1 .0; done = s .pre .1 .1 .0; kind = ap kindOf (c .before .match .keys10) } in
     (span w attendCells (λ g. g .attend) refl refl, item w attendCells (λ g. g .attend) refl (a .r .b) (b-ok w (a .s .visitors) refl))
 
 add-requires-4 : tie.Need-add-requires-4
@@ -153,7 +145,7 @@ unfolding kindOf
 add-requires-4 c κs = let s = c .before .before .before in
     let a = s .args in
     let w : Known (a .s) (reading (a .book .now)) (a .g) (a .r) addConf
-    = record { good = s .pre .0; grids = s .pre .1 .0; done = s .pre .1 .1; kind = ap kindOf (c .before .match .keys12) } in (
+    = record { good = s .pre .0; grids = s .pre .1 .0; done = s .pre .1 .1 .0; kind = ap kindOf (c .before .match .keys11) } in (
       span w confPairs (λ g. g .conf) refl refl,
       (
         item w confPairs (λ g. g .conf) refl (a .r .a) (a-ok w (a .s .rooms) refl),
@@ -167,7 +159,7 @@ unfolding kindOf
 drop-requires c κs = let s = c .before .before .before in
     let a = s .args in
     let w : Known (a .s) (reading (a .book .now)) (a .g) (a .r) eraseConf
-    = record { good = s .pre .0; grids = s .pre .1 .0; done = s .pre .1 .1; kind = ap kindOf (c .before .match .keys13) } in
+    = record { good = s .pre .0; grids = s .pre .1 .0; done = s .pre .1 .1 .0; kind = ap kindOf (c .before .match .keys12) } in
     (span w confPairs (λ g. g .conf) refl refl, omega (arith, laid w .ranges .meetings, b-ok w (a .s .meetings) refl))
 
 add-requires-5 : tie.Need-add-requires-5
@@ -175,7 +167,7 @@ unfolding kindOf
 add-requires-5 c κs = let s = c .before .before .before in
     let a = s .args in
     let w : Known (a .s) (reading (a .book .now)) (a .g) (a .r) addLunch
-    = record { good = s .pre .0; grids = s .pre .1 .0; done = s .pre .1 .1; kind = ap kindOf (c .before .match .keys14) } in (
+    = record { good = s .pre .0; grids = s .pre .1 .0; done = s .pre .1 .1 .0; kind = ap kindOf (c .before .match .keys13) } in (
       span w lunchTriples (λ g. g .lunch) refl refl,
       (
         item w lunchTriples (λ g. g .lunch) refl (a .r .b) (b-ok w (a .s .meetings) refl),
@@ -189,7 +181,7 @@ unfolding kindOf
 take-requires-4 c κs = let s = c .before .before .before in
     let a = s .args in
     let w : Known (a .s) (reading (a .book .now)) (a .g) (a .r) eraseLunch
-    = record { good = s .pre .0; grids = s .pre .1 .0; done = s .pre .1 .1; kind = ap kindOf (c .before .match .keys15) } in
+    = record { good = s .pre .0; grids = s .pre .1 .0; done = s .pre .1 .1 .0; kind = ap kindOf (c .before .match .keys14) } in
     (span w lunchTriples (λ g. g .lunch) refl refl, item w lunchTriples (λ g. g .lunch) refl (a .r .b) (b-ok w (a .s .meetings) refl))
 
 erase-conf-and-lunch-requires : tie.Need-erase-conf-and-lunch-requires
@@ -197,7 +189,7 @@ unfolding kindOf
 erase-conf-and-lunch-requires c κs = let s = c .before .before .before in
     let a = s .args in
     let w : Known (a .s) (reading (a .book .now)) (a .g) (a .r) eraseConfAndLunch
-    = record { good = s .pre .0; grids = s .pre .1 .0; done = s .pre .1 .1; kind = ap kindOf (c .before .match .keys16) } in
+    = record { good = s .pre .0; grids = s .pre .1 .0; done = s .pre .1 .1 .0; kind = ap kindOf (c .before .match .keys15) } in
     (laid w, (s .pre .1 .0, ((span w confPairs (λ g. g .conf) refl refl) .slot, b-ok w (a .s .meetings) refl)))
 
 same-length : tie.Need-same-length
@@ -208,7 +200,7 @@ unfolding kindOf
 returns c = let s = c .before .before .before .before .before .before in
     let a = s .args in
     let w : Known (a .s) (reading (a .book .now)) (a .g) (a .r) addLeave
-    = record { good = s .pre .0; grids = s .pre .1 .0; done = s .pre .1 .1; kind = ap kindOf (c .before .before .before .before .match .keys1) } in
+    = record { good = s .pre .0; grids = s .pre .1 .0; done = s .pre .1 .1 .0; kind = ap kindOf (c .before .before .before .before .match .keys1) } in
     c .before .before .turn .ensures .is
     ∙ arm w (λ S g. markedAll (g .leave) true (a .r .b) (a .r .first) (a .r .last + 1) (reading (a .book .now)))
     (λ x _ z l y. write-addLeave x z (a .r) (reading (a .book .now)) l y)
@@ -221,7 +213,7 @@ unfolding kindOf
 returns-2 c = let s = c .before .before .before .before .before .before in
     let a = s .args in
     let w : Known (a .s) (reading (a .book .now)) (a .g) (a .r) endLeave
-    = record { good = s .pre .0; grids = s .pre .1 .0; done = s .pre .1 .1; kind = ap kindOf (c .before .before .before .before .match .keys2) } in
+    = record { good = s .pre .0; grids = s .pre .1 .0; done = s .pre .1 .1 .0; kind = ap kindOf (c .before .before .before .before .match .keys2) } in
     c .before .before .turn2 .ensures .is
     ∙ arm w (λ S g. markedAll (g .leave) false (a .r .b) (a .r .first) (a .r .last + 1) (reading (a .book .now)))
     (λ x _ z l y. write-endLeave x z (a .r) (reading (a .book .now)) l y)
@@ -230,12 +222,14 @@ same-length-3 : tie.Need-same-length-3
 same-length-3 c = search needs
 
 returns-3 : tie.Need-returns-3
-unfolding kindOf change
+unfolding kindOf
 returns-3 c = let s = c .before .before .before .before .before .before in
     let a = s .args in
-    let w : Known (a .s) (reading (a .book .now)) (a .g) (a .r) removeVisitor
-    = record { good = s .pre .0; grids = s .pre .1 .0; done = s .pre .1 .1; kind = ap kindOf (c .before .before .before .before .match .keys3) } in
-    c .before .before .remove-visitor .ensures ∙ done-words w
+    let w : Known (a .s) (reading (a .book .now)) (a .g) (a .r) addHotel
+    = record { good = s .pre .0; grids = s .pre .1 .0; done = s .pre .1 .1 .0; kind = ap kindOf (c .before .before .before .before .match .keys3) } in
+    c .before .before .add .ensures .is
+    ∙ arm w (λ S g. filled (g .hotel) (a .r .a) (full (a .r .b) 0 0) (a .r .first) (a .r .last + 1) (reading (a .book .now)))
+    (λ x _ z l y. write-addHotel x z (a .r) (reading (a .book .now)) l y)
 
 same-length-4 : tie.Need-same-length-4
 same-length-4 c = search needs
@@ -244,11 +238,11 @@ returns-4 : tie.Need-returns-4
 unfolding kindOf
 returns-4 c = let s = c .before .before .before .before .before .before in
     let a = s .args in
-    let w : Known (a .s) (reading (a .book .now)) (a .g) (a .r) addHotel
-    = record { good = s .pre .0; grids = s .pre .1 .0; done = s .pre .1 .1; kind = ap kindOf (c .before .before .before .before .match .keys4) } in
-    c .before .before .add .ensures .is
-    ∙ arm w (λ S g. filled (g .hotel) (a .r .a) (full (a .r .b) 0 0) (a .r .first) (a .r .last + 1) (reading (a .book .now)))
-    (λ x _ z l y. write-addHotel x z (a .r) (reading (a .book .now)) l y)
+    let w : Known (a .s) (reading (a .book .now)) (a .g) (a .r) eraseHotel
+    = record { good = s .pre .0; grids = s .pre .1 .0; done = s .pre .1 .1 .0; kind = ap kindOf (c .before .before .before .before .match .keys4) } in
+    c .before .before .take .ensures .is
+    ∙ arm w (λ S g. filled (g .hotel) (a .r .a) empty (a .r .first) (a .r .last + 1) (reading (a .book .now)))
+    (λ x _ z l y. write-eraseHotel x z (a .r) (reading (a .book .now)) l y)
 
 same-length-5 : tie.Need-same-length-5
 same-length-5 c = search needs
@@ -257,11 +251,11 @@ returns-5 : tie.Need-returns-5
 unfolding kindOf
 returns-5 c = let s = c .before .before .before .before .before .before in
     let a = s .args in
-    let w : Known (a .s) (reading (a .book .now)) (a .g) (a .r) eraseHotel
-    = record { good = s .pre .0; grids = s .pre .1 .0; done = s .pre .1 .1; kind = ap kindOf (c .before .before .before .before .match .keys5) } in
-    c .before .before .take .ensures .is
-    ∙ arm w (λ S g. filled (g .hotel) (a .r .a) empty (a .r .first) (a .r .last + 1) (reading (a .book .now)))
-    (λ x _ z l y. write-eraseHotel x z (a .r) (reading (a .book .now)) l y)
+    let w : Known (a .s) (reading (a .book .now)) (a .g) (a .r) addRide
+    = record { good = s .pre .0; grids = s .pre .1 .0; done = s .pre .1 .1 .0; kind = ap kindOf (c .before .before .before .before .match .keys5) } in
+    c .before .before .add2 .ensures .is
+    ∙ arm w (λ S g. filled (g .ride) (a .r .a) (full (a .r .b) 0 0) (a .r .first) (a .r .last + 1) (reading (a .book .now)))
+    (λ x _ z l y. write-addRide x z (a .r) (reading (a .book .now)) l y)
 
 same-length-6 : tie.Need-same-length-6
 same-length-6 c = search needs
@@ -270,11 +264,11 @@ returns-6 : tie.Need-returns-6
 unfolding kindOf
 returns-6 c = let s = c .before .before .before .before .before .before in
     let a = s .args in
-    let w : Known (a .s) (reading (a .book .now)) (a .g) (a .r) addRide
-    = record { good = s .pre .0; grids = s .pre .1 .0; done = s .pre .1 .1; kind = ap kindOf (c .before .before .before .before .match .keys6) } in
-    c .before .before .add2 .ensures .is
-    ∙ arm w (λ S g. filled (g .ride) (a .r .a) (full (a .r .b) 0 0) (a .r .first) (a .r .last + 1) (reading (a .book .now)))
-    (λ x _ z l y. write-addRide x z (a .r) (reading (a .book .now)) l y)
+    let w : Known (a .s) (reading (a .book .now)) (a .g) (a .r) eraseRide
+    = record { good = s .pre .0; grids = s .pre .1 .0; done = s .pre .1 .1 .0; kind = ap kindOf (c .before .before .before .before .match .keys6) } in
+    c .before .before .take2 .ensures .is
+    ∙ arm w (λ S g. filled (g .ride) (a .r .a) empty (a .r .first) (a .r .last + 1) (reading (a .book .now)))
+    (λ x _ z l y. write-eraseRide x z (a .r) (reading (a .book .now)) l y)
 
 same-length-7 : tie.Need-same-length-7
 same-length-7 c = search needs
@@ -283,11 +277,11 @@ returns-7 : tie.Need-returns-7
 unfolding kindOf
 returns-7 c = let s = c .before .before .before .before .before .before in
     let a = s .args in
-    let w : Known (a .s) (reading (a .book .now)) (a .g) (a .r) eraseRide
-    = record { good = s .pre .0; grids = s .pre .1 .0; done = s .pre .1 .1; kind = ap kindOf (c .before .before .before .before .match .keys7) } in
-    c .before .before .take2 .ensures .is
-    ∙ arm w (λ S g. filled (g .ride) (a .r .a) empty (a .r .first) (a .r .last + 1) (reading (a .book .now)))
-    (λ x _ z l y. write-eraseRide x z (a .r) (reading (a .book .now)) l y)
+    let w : Known (a .s) (reading (a .book .now)) (a .g) (a .r) addStanding
+    = record { good = s .pre .0; grids = s .pre .1 .0; done = s .pre .1 .1 .0; kind = ap kindOf (c .before .before .before .before .match .keys7) } in
+    c .before .before .turn3 .ensures .is
+    ∙ arm w (λ S g. markedAll (g .standing) true (a .r .a) (a .r .first) (a .r .last + 1) (reading (a .book .now)))
+    (λ x _ z l y. write-addStanding x z (a .r) (reading (a .book .now)) l y)
 
 same-length-8 : tie.Need-same-length-8
 same-length-8 c = search needs
@@ -296,11 +290,12 @@ returns-8 : tie.Need-returns-8
 unfolding kindOf
 returns-8 c = let s = c .before .before .before .before .before .before in
     let a = s .args in
-    let w : Known (a .s) (reading (a .book .now)) (a .g) (a .r) addStanding
-    = record { good = s .pre .0; grids = s .pre .1 .0; done = s .pre .1 .1; kind = ap kindOf (c .before .before .before .before .match .keys8) } in
-    c .before .before .turn3 .ensures .is
-    ∙ arm w (λ S g. markedAll (g .standing) true (a .r .a) (a .r .first) (a .r .last + 1) (reading (a .book .now)))
-    (λ x _ z l y. write-addStanding x z (a .r) (reading (a .book .now)) l y)
+    let w : Known (a .s) (reading (a .book .now)) (a .g) (a .r) endStanding
+    = record { good = s .pre .0; grids = s .pre .1 .0; done = s .pre .1 .1 .0; kind = ap kindOf (c .before .before .before .before .match .keys8) } in
+    c .before .before .end-standing .ensures .is
+    ∙ arm w (λ S g. swept (g .attend) (a .r .a + 1) (a .r .first) (a .r .last + 1)
+    (markedAll (g .standing) false (a .r .a) (a .r .first) (a .r .last + 1) (reading (a .book .now))))
+    (λ x _ z l y. write-endStanding x z (a .r) (reading (a .book .now)) l y)
 
 same-length-9 : tie.Need-same-length-9
 same-length-9 c = search needs
@@ -309,12 +304,11 @@ returns-9 : tie.Need-returns-9
 unfolding kindOf
 returns-9 c = let s = c .before .before .before .before .before .before in
     let a = s .args in
-    let w : Known (a .s) (reading (a .book .now)) (a .g) (a .r) endStanding
-    = record { good = s .pre .0; grids = s .pre .1 .0; done = s .pre .1 .1; kind = ap kindOf (c .before .before .before .before .match .keys9) } in
-    c .before .before .end-standing .ensures .is
-    ∙ arm w (λ S g. swept (g .attend) (a .r .a + 1) (a .r .first) (a .r .last + 1)
-    (markedAll (g .standing) false (a .r .a) (a .r .first) (a .r .last + 1) (reading (a .book .now))))
-    (λ x _ z l y. write-endStanding x z (a .r) (reading (a .book .now)) l y)
+    let w : Known (a .s) (reading (a .book .now)) (a .g) (a .r) addAttend
+    = record { good = s .pre .0; grids = s .pre .1 .0; done = s .pre .1 .1 .0; kind = ap kindOf (c .before .before .before .before .match .keys9) } in
+    c .before .before .add3 .ensures .is
+    ∙ arm w (λ S g. filled (g .attend) (a .r .b) (full (a .r .a) 0 0) (a .r .first) (a .r .last + 1) (reading (a .book .now)))
+    (λ x _ z l y. write-addAttend x z (a .r) (reading (a .book .now)) l y)
 
 same-length-10 : tie.Need-same-length-10
 same-length-10 c = search needs
@@ -323,11 +317,12 @@ returns-10 : tie.Need-returns-10
 unfolding kindOf
 returns-10 c = let s = c .before .before .before .before .before .before in
     let a = s .args in
-    let w : Known (a .s) (reading (a .book .now)) (a .g) (a .r) addAttend
-    = record { good = s .pre .0; grids = s .pre .1 .0; done = s .pre .1 .1; kind = ap kindOf (c .before .before .before .before .match .keys10) } in
-    c .before .before .add3 .ensures .is
-    ∙ arm w (λ S g. filled (g .attend) (a .r .b) (full (a .r .a) 0 0) (a .r .first) (a .r .last + 1) (reading (a .book .now)))
-    (λ x _ z l y. write-addAttend x z (a .r) (reading (a .book .now)) l y)
+    let m = c .before .before .before .before .match in
+    let w : Known (a .s) (reading (a .book .now)) (a .g) (a .r) eraseAttend
+    = record { good = s .pre .0; grids = s .pre .1 .0; done = s .pre .1 .1 .0; kind = ap kindOf (m .keys10) } in
+    c .before .before .take3 .ensures .is
+    ∙ arm w (λ S g. filled (g .attend) (a .r .b) empty (a .r .first) (a .r .last + 1) (reading (a .book .now)))
+    (λ x _ z l y. write-eraseAttend x z (a .r) (reading (a .book .now)) l y)
 
 same-length-11 : tie.Need-same-length-11
 same-length-11 c = search needs
@@ -336,11 +331,12 @@ returns-11 : tie.Need-returns-11
 unfolding kindOf
 returns-11 c = let s = c .before .before .before .before .before .before in
     let a = s .args in
-    let w : Known (a .s) (reading (a .book .now)) (a .g) (a .r) eraseAttend
-    = record { good = s .pre .0; grids = s .pre .1 .0; done = s .pre .1 .1; kind = ap kindOf (c .before .before .before .before .match .keys11) } in
-    c .before .before .take3 .ensures .is
-    ∙ arm w (λ S g. filled (g .attend) (a .r .b) empty (a .r .first) (a .r .last + 1) (reading (a .book .now)))
-    (λ x _ z l y. write-eraseAttend x z (a .r) (reading (a .book .now)) l y)
+    let m = c .before .before .before .before .match in
+    let w : Known (a .s) (reading (a .book .now)) (a .g) (a .r) addConf
+    = record { good = s .pre .0; grids = s .pre .1 .0; done = s .pre .1 .1 .0; kind = ap kindOf (m .keys11) } in
+    c .before .before .add4 .ensures .is
+    ∙ arm w (λ S g. filled (g .conf) (a .r .a) (full (a .r .b) (a .r .info) 0) (a .r .first) (a .r .last + 1) (reading (a .book .now)))
+    (λ x _ z l y. write-addConf x z (a .r) (reading (a .book .now)) l y)
 
 same-length-12 : tie.Need-same-length-12
 same-length-12 c = search needs
@@ -349,11 +345,12 @@ returns-12 : tie.Need-returns-12
 unfolding kindOf
 returns-12 c = let s = c .before .before .before .before .before .before in
     let a = s .args in
-    let w : Known (a .s) (reading (a .book .now)) (a .g) (a .r) addConf
-    = record { good = s .pre .0; grids = s .pre .1 .0; done = s .pre .1 .1; kind = ap kindOf (c .before .before .before .before .match .keys12) } in
-    c .before .before .add4 .ensures .is
-    ∙ arm w (λ S g. filled (g .conf) (a .r .a) (full (a .r .b) (a .r .info) 0) (a .r .first) (a .r .last + 1) (reading (a .book .now)))
-    (λ x _ z l y. write-addConf x z (a .r) (reading (a .book .now)) l y)
+    let m = c .before .before .before .before .match in
+    let w : Known (a .s) (reading (a .book .now)) (a .g) (a .r) eraseConf
+    = record { good = s .pre .0; grids = s .pre .1 .0; done = s .pre .1 .1 .0; kind = ap kindOf (m .keys12) } in
+    c .before .before .drop .ensures .is
+    ∙ arm w (λ S g. swept (g .conf) (a .r .b + 1) (a .r .first) (a .r .last + 1) (reading (a .book .now)))
+    (λ x _ z l y. write-eraseConf x z (a .r) (reading (a .book .now)) l y)
 
 same-length-13 : tie.Need-same-length-13
 same-length-13 c = search needs
@@ -362,11 +359,12 @@ returns-13 : tie.Need-returns-13
 unfolding kindOf
 returns-13 c = let s = c .before .before .before .before .before .before in
     let a = s .args in
-    let w : Known (a .s) (reading (a .book .now)) (a .g) (a .r) eraseConf
-    = record { good = s .pre .0; grids = s .pre .1 .0; done = s .pre .1 .1; kind = ap kindOf (c .before .before .before .before .match .keys13) } in
-    c .before .before .drop .ensures .is
-    ∙ arm w (λ S g. swept (g .conf) (a .r .b + 1) (a .r .first) (a .r .last + 1) (reading (a .book .now)))
-    (λ x _ z l y. write-eraseConf x z (a .r) (reading (a .book .now)) l y)
+    let m = c .before .before .before .before .match in
+    let w : Known (a .s) (reading (a .book .now)) (a .g) (a .r) addLunch
+    = record { good = s .pre .0; grids = s .pre .1 .0; done = s .pre .1 .1 .0; kind = ap kindOf (m .keys13) } in
+    c .before .before .add5 .ensures .is
+    ∙ arm w (λ S g. filled (g .lunch) (a .r .b) (full (a .r .a) (a .r .n) (a .r .info)) (a .r .first) (a .r .last + 1) (reading (a .book .now)))
+    (λ x _ z l y. write-addLunch x z (a .r) (reading (a .book .now)) l y)
 
 same-length-14 : tie.Need-same-length-14
 same-length-14 c = search needs
@@ -375,11 +373,12 @@ returns-14 : tie.Need-returns-14
 unfolding kindOf
 returns-14 c = let s = c .before .before .before .before .before .before in
     let a = s .args in
-    let w : Known (a .s) (reading (a .book .now)) (a .g) (a .r) addLunch
-    = record { good = s .pre .0; grids = s .pre .1 .0; done = s .pre .1 .1; kind = ap kindOf (c .before .before .before .before .match .keys14) } in
-    c .before .before .add5 .ensures .is
-    ∙ arm w (λ S g. filled (g .lunch) (a .r .b) (full (a .r .a) (a .r .n) (a .r .info)) (a .r .first) (a .r .last + 1) (reading (a .book .now)))
-    (λ x _ z l y. write-addLunch x z (a .r) (reading (a .book .now)) l y)
+    let m = c .before .before .before .before .match in
+    let w : Known (a .s) (reading (a .book .now)) (a .g) (a .r) eraseLunch
+    = record { good = s .pre .0; grids = s .pre .1 .0; done = s .pre .1 .1 .0; kind = ap kindOf (m .keys14) } in
+    c .before .before .take4 .ensures .is
+    ∙ arm w (λ S g. filled (g .lunch) (a .r .b) empty (a .r .first) (a .r .last + 1) (reading (a .book .now)))
+    (λ x _ z l y. write-eraseLunch x z (a .r) (reading (a .book .now)) l y)
 
 same-length-15 : tie.Need-same-length-15
 same-length-15 c = search needs
@@ -388,34 +387,21 @@ returns-15 : tie.Need-returns-15
 unfolding kindOf
 returns-15 c = let s = c .before .before .before .before .before .before in
     let a = s .args in
-    let w : Known (a .s) (reading (a .book .now)) (a .g) (a .r) eraseLunch
-    = record { good = s .pre .0; grids = s .pre .1 .0; done = s .pre .1 .1; kind = ap kindOf (c .before .before .before .before .match .keys15) } in
-    c .before .before .take4 .ensures .is
-    ∙ arm w (λ S g. filled (g .lunch) (a .r .b) empty (a .r .first) (a .r .last + 1) (reading (a .book .now)))
-    (λ x _ z l y. write-eraseLunch x z (a .r) (reading (a .book .now)) l y)
-
-same-length-16 : tie.Need-same-length-16
-same-length-16 c = search needs
-
-returns-16 : tie.Need-returns-16
-unfolding kindOf
-returns-16 c = let s = c .before .before .before .before .before .before in
-    let a = s .args in
+    let m = c .before .before .before .before .match in
     let w : Known (a .s) (reading (a .book .now)) (a .g) (a .r) eraseConfAndLunch
-    = record { good = s .pre .0; grids = s .pre .1 .0; done = s .pre .1 .1; kind = ap kindOf (c .before .before .before .before .match .keys16) } in
+    = record { good = s .pre .0; grids = s .pre .1 .0; done = s .pre .1 .1 .0; kind = ap kindOf (m .keys15) } in
     c .before .before .erase-conf-and-lunch .ensures .is
     ∙ arm w (λ S g. filled (g .lunch) (a .r .b) empty (dateOfSession S (a .r .first)) (dateOfSession S (a .r .last) + 1)
     (swept (g .conf) (a .r .b + 1) (a .r .first) (a .r .last + 1) (reading (a .book .now))))
     (λ x _ z l y. write-eraseConfAndLunch x z (a .r) (reading (a .book .now)) l y)
 
-returns-17 : tie.Need-returns-17
-returns-17 c = let s = c .before .before in
+returns-16 : tie.Need-returns-16
+returns-16 c = let s = c .before .before in
     let n = c .match .rest in
-    unchanged (s .args .s) (reading (s .args .book .now)) (s .pre .0) (s .args .r) (n .0 .0 .0 .0 .0 .0 .0 .0 .0 .0 .0 .0 .0 .0 .0 .1)
-    (n .0 .0 .0 .0 .0 .0 .0 .0 .0 .0 .0 .0 .0 .0 .1)
-    (n .0 .0 .0 .0 .0 .0 .0 .0 .0 .0 .0 .0 .0 .1) (n .0 .0 .0 .0 .0 .0 .0 .0 .0 .0 .0 .0 .1) (n .0 .0 .0 .0 .0 .0 .0 .0 .0 .0 .0 .1)
-    (n .0 .0 .0 .0 .0 .0 .0 .0 .0 .0 .1) (n .0 .0 .0 .0 .0 .0 .0 .0 .0 .1) (n .0 .0 .0 .0 .0 .0 .0 .0 .1) (n .0 .0 .0 .0 .0 .0 .0 .1)
-    (n .0 .0 .0 .0 .0 .0 .1) (n .0 .0 .0 .0 .0 .1) (n .0 .0 .0 .0 .1) (n .0 .0 .0 .1) (n .0 .0 .1) (n .0 .1) (n .1)
+    unchanged (s .args .s) (reading (s .args .book .now)) (s .pre .0) (s .args .r) (n .0 .0 .0 .0 .0 .0 .0 .0 .0 .0 .0 .0 .0 .0 .1)
+    (n .0 .0 .0 .0 .0 .0 .0 .0 .0 .0 .0 .0 .0 .1) (s .pre .1 .1 .1) (n .0 .0 .0 .0 .0 .0 .0 .0 .0 .0 .0 .0 .1)
+    (n .0 .0 .0 .0 .0 .0 .0 .0 .0 .0 .0 .1) (n .0 .0 .0 .0 .0 .0 .0 .0 .0 .0 .1) (n .0 .0 .0 .0 .0 .0 .0 .0 .0 .1) (n .0 .0 .0 .0 .0 .0 .0 .0 .1)
+    (n .0 .0 .0 .0 .0 .0 .0 .1) (n .0 .0 .0 .0 .0 .0 .1) (n .0 .0 .0 .0 .0 .1) (n .0 .0 .0 .0 .1) (n .0 .0 .0 .1) (n .0 .0 .1) (n .0 .1) (n .1)
 
 pub apply-spec : {M : Type 1} → statement M
 apply-spec =
@@ -423,7 +409,6 @@ apply-spec =
     (tie.spec
     turn-requires
     turn-requires-2
-    remove-visitor-requires
     add-requires
     take-requires
     add-requires-2
@@ -467,6 +452,4 @@ apply-spec =
     returns-14
     same-length-15
     returns-15
-    same-length-16
-    returns-16
-    returns-17)
+    returns-16)

@@ -1,16 +1,16 @@
--- `removal::erase`: the stores of its four parts, one after the other.
+-- `removal::erase`: its four parts, one after the other.
 -- Assumes nothing.
-use mathlib.Core.Bool.{false}
 use mathlib.Core.Path.{refl, _∙_, ap}
 use Prim.Native.Nat.{_+_}
 use native.Mathlib.Omega.{arith}
 use Rattle.model.specs.Words.{leaves, hotelCells, rideCells, attendCells}
 use Rattle.book.specs.declared.grid.Grids.{Grids}
 use Rattle.book.specs.Lent.{reading}
-use Rattle.book.specs.Stores.{empty, swept}
-use Rattle.book.proofs.Regions.{group-lt}
+use Rattle.book.proofs.Regions.{group-lt, all-sessions}
 use Rattle.book.proofs.Turns.{wrote-then}
-use Rattle.apply.specs.Stores.{Single, filled, markedAll}
+use Rattle.apply.specs.Stores.{Single}
+use Rattle.apply.proofs.Counts.{emptied-few}
+use Rattle.apply.proofs.Removals.{erased-by}
 use Rattle.apply.proofs.Arms.{span-of, single-of, item-of}
 use borrow.Author.Needs.{needs}
 use Rattle.apply.proofs.removal.erase.Statement.{statement}
@@ -54,57 +54,64 @@ sweep-run-requires-2 c κs =
     let a = s .args in
     let q : Single (a .g .ride) _ _
     = single-of (a .s) (reading (a .book .now)) (s .pre .0) rideCells (a .g .ride) (ap (λ (g : Grids). g .ride) (s .pre .1 .0)) _
-    (wrote-then (leave .turn .ensures) (hotel .sweep-run .ensures) .stays) refl _ (c .before .before .times-on .ensures .ends .most) in
+    (wrote-then (leave .turn .ensures) (hotel .sweep-run .ensures .wrote) .stays) refl _ (c .before .before .times-on .ensures .ends .most) in
     (q .lies, (q .narrow, q .most))
 
 sessions-on-requires : tie.Need-sessions-on-requires
 sessions-on-requires c κs = search needs
 
-fill-requires : tie.Need-fill-requires
-fill-requires c κs =
-    let ride = c .before .before .before .before in
+empty-column-requires : tie.Need-empty-column-requires
+empty-column-requires c κs =
+    let ride = c .before .before .before .before .before in
     let hotel = ride .before .before .before .before .before .before in
     let leave = hotel .before .before .before .before .before .before in
     let s = leave .before .before .before in
     let a = s .args in
     let e = ap (λ (g : Grids). g .attend) (s .pre .1 .0) in
-    let w = wrote-then (leave .turn .ensures) (wrote-then (hotel .sweep-run .ensures) (ride .sweep-run2 .ensures)) in
+    let w = wrote-then (leave .turn .ensures) (wrote-then (hotel .sweep-run .ensures .wrote) (ride .sweep-run2 .ensures .wrote)) in
     let q : Single (a .g .attend) _ _
     = single-of (a .s) (reading (a .book .now)) (s .pre .0) attendCells (a .g .attend) e _ (w .stays) refl _
-    (c .before .sessions-on .ensures .ends .most) in
-    (q .lies, (omega (arith, q .narrow), (q .most, item-of (a .s) attendCells (a .g .attend) e (a .v) (s .pre .1 .1 .0))))
+    (c .before .before .sessions-on .ensures .ends .most) in
+    (q .lies, (q .narrow, (q .most, item-of (a .s) attendCells (a .g .attend) e (a .v) (s .pre .1 .1 .0))))
+
+add-result : tie.Need-add-result
+add-result c =
+    let ride = c .before .before .before .before .before .before .before .before in
+    let hotel = ride .before .before .before .before .before .before in
+    omega (arith, ride .sweep-run2 .ensures .few, hotel .sweep-run .ensures .few)
+
+add-result-2 : tie.Need-add-result-2
+add-result-2 c =
+    let ride = c .before .before .before .before .before .before .before .before in
+    let hotel = ride .before .before .before .before .before .before in
+    let s = hotel .before .before .before .before .before .before .before .before .before in
+    let u = c .before .before .before .before .before .sessions-on in
+    omega (
+      arith,
+      ride .sweep-run2 .ensures .few,
+      hotel .sweep-run .ensures .few,
+      emptied-few (c .before .before .empty-column .ensures),
+      u .ensures .ends .most,
+      all-sessions (s .args .s) (s .pre .0 .ranges),
+    )
 
 same-length : tie.Need-same-length
 same-length c =
-    let ride = c .before .before .before .before .before .before .before in
+    let ride = c .before .before .before .before .before .before .before .before in
     let hotel = ride .before .before .before .before .before .before in
     let leave = hotel .before .before .before .before .before .before in
-    c .before .before .fill .kept .0 ∙ ride .sweep-run2 .kept .0 ∙ hotel .sweep-run .kept .0 ∙ leave .turn .kept .0
+    c .before .before .empty-column .kept .0 ∙ ride .sweep-run2 .kept .0 ∙ hotel .sweep-run .kept .0 ∙ leave .turn .kept .0
 
 returns : tie.Need-returns
 returns c =
-    let ride = c .before .before .before .before .before .before .before in
+    let ride = c .before .before .before .before .before .before .before .before in
     let hotel = ride .before .before .before .before .before .before in
     let leave = hotel .before .before .before .before .before .before in
     let s = leave .before .before .before in
-    let a = s .args in
-    let t = c .before .before .before .before .before .before .before .before .before .before .times-on in
-    let u = c .before .before .before .before .sessions-on in
-    let w = wrote-then (wrote-then (leave .turn .ensures) (hotel .sweep-run .ensures))
-    (wrote-then (ride .sweep-run2 .ensures) (c .before .before .fill .ensures)) in
-    record {
-      lo = t .result .from .0;
-      hi = t .result .to .0;
-      from = u .result .from .0;
-      to = u .result .to .0;
-      rides = t .ensures;
-      meetings = u .ensures;
-      is = w .is
-          ∙ ap (λ (g : Grids). filled (g .attend) (a .v) empty (u .result .from .0) (u .result .to .0)
-          (swept (g .ride) (a .v + 1) (t .result .from .0) (t .result .to .0)
-          (swept (g .hotel) (a .v + 1) (a .date .0) (a .date .0 + 1)
-          (markedAll (g .leave) false (a .v) (a .date .0) (a .date .0 + 1) (reading (a .book .now)))))) (s .pre .1 .0);
-    }
+    let t = c .before .before .before .before .before .before .before .before .before .before .before .times-on in
+    let u = c .before .before .before .before .before .sessions-on in
+    erased-by (s .pre .1 .0) (t .ensures) (u .ensures) (leave .turn .ensures) (hotel .sweep-run .ensures) (ride .sweep-run2 .ensures)
+    (c .before .before .empty-column .ensures)
 
 pub erase-spec : {M : Type 1} → statement M
 erase-spec =
@@ -118,6 +125,8 @@ erase-spec =
     add-sweep-run-3
     sweep-run-requires-2
     sessions-on-requires
-    fill-requires
+    empty-column-requires
+    add-result
+    add-result-2
     same-length
     returns)

@@ -4,7 +4,8 @@ use mathlib.Core.Path.{sym, _∙_}
 use borrow.Author.Needs.{needs}
 use borrow.Author.Tests.{not-true}
 use Rattle.book.proofs.Goods.{good-laid}
-use Rattle.apply.proofs.Removals.{away-kept, erased-is}
+use Rattle.queries.proofs.Spans.{bookings-none-on}
+use Rattle.apply.proofs.Removals.{away-kept, erased-is, erased-count}
 use Rattle.apply.proofs.removal.remove_on.Statement.{statement}
 use Rattle.apply.proofs.removal.remove_on.Tie as tie
 
@@ -17,7 +18,8 @@ same-length c = search needs
 returns : tie.Need-returns
 returns c =
     let s = c .before .before .before .before in
-    away-kept (s .pre .0) (s .args .v) (s .args .date .0) (sym (c .before .on-leave .ensures) ∙ not-true _ (c .if1 .taken))
+    let away = sym (c .before .on-leave .ensures) ∙ not-true _ (c .if1 .taken) in
+    (away-kept (s .pre .0) (s .args .v) (s .args .date .0) away, sym (bookings-none-on (s .pre .0) (s .args .v) (s .args .date .0) away))
 
 erase-requires : tie.Need-erase-requires
 erase-requires c κs = let p = c .before .before .before .before .before .pre in (good-laid (p .0), p .1)
@@ -27,7 +29,8 @@ same-length-2 c = search needs
 
 returns-2 : tie.Need-returns-2
 returns-2 c = let p = c .before .before .before .before .before .before .before .before .pre in
-    erased-is (p .0) (p .1 .1 .0) (p .1 .1 .1) (c .before .before .erase .ensures)
+    let e = c .before .before .erase .ensures in
+    (erased-is (p .0) (p .1 .1 .0) (p .1 .1 .1) e, erased-count (p .0) (p .1 .1 .0) (p .1 .1 .1) e)
 
 pub remove-on-spec : {M : Type 1} → statement M
 remove-on-spec =

@@ -25,7 +25,8 @@ same-length : tie.Need-same-length
 same-length c = search needs
 
 returns : tie.Need-returns
-returns c = wrote-then (c .before .before .before .before .before .before .before .before .turn .ensures) (c .before .before .sweep-run .ensures)
+returns c =
+    wrote-then (c .before .before .before .before .before .before .before .before .turn .ensures) (c .before .before .sweep-run .ensures .wrote)
 
 pub end-standing-spec : {M : Type 1} → statement M
 end-standing-spec = tie.close (tie.spec turn-requires add-sweep-run add-sweep-run-2 sweep-run-requires same-length returns)

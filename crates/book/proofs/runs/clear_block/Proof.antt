@@ -1,7 +1,7 @@
 -- `runs::clear_block`: without a word that is w nothing is to be cleared.
 -- Assumes nothing.
 use mathlib.Core.Path.{sym, _∙_}
-use Rattle.book.proofs.Sweeps.{run-kept}
+use Rattle.book.proofs.Sweeps.{run-kept, cleared-block}
 use borrow.Author.Needs.{needs}
 use Rattle.book.proofs.runs.clear_block.Statement.{statement}
 use Rattle.book.proofs.runs.clear_block.Tie as tie
@@ -27,8 +27,10 @@ same-length c = search needs
 returns : tie.Need-returns
 returns c =
     let s = c .before .before .before .before .before in
-    sym (run-kept (s .args .w) (s .args .start) (s .args .end) (s .args .book .now) (s .pre .0) (s .pre .1)
-    (sym (c .before .part-count .ensures) ∙ c .if1 .taken))
+    let a = s .args in
+    let e = sym (c .if1 .taken) ∙ c .before .part-count .ensures in
+    cleared-block (a .w) (a .start) (a .end) (a .book .now) _ _ (s .pre .0) (s .pre .1)
+    (sym (run-kept (a .w) (a .start) (a .end) (a .book .now) (s .pre .0) (s .pre .1) (sym e))) e
 
 clear-words-requires : tie.Need-clear-words-requires
 clear-words-requires c κs = search needs
@@ -37,7 +39,11 @@ same-length-2 : tie.Need-same-length-2
 same-length-2 c = search needs
 
 returns-2 : tie.Need-returns-2
-returns-2 c = search needs
+returns-2 c =
+    let s = c .before .before .before .before .before .before .before .before .before in
+    let a = s .args in
+    cleared-block (a .w) (a .start) (a .end) (a .book .now) _ _ (s .pre .0) (s .pre .1) (c .before .before .clear-words .ensures)
+    (c .before .before .before .before .before .part-count .ensures)
 
 pub clear-block-spec : {M : Type 1} → statement M
 clear-block-spec =

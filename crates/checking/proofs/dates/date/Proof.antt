@@ -1,7 +1,7 @@
 -- A date without entries needs no more than its unused bits asked.
 -- Assumes nothing.
 use borrow.Author.Tests.{not-true, not-false}
-use Rattle.checking.proofs.Answers.{said-true, said-false, relay}
+use Rattle.rules.proofs.Answers.{said-true, said-false, relay}
 use Rattle.checking.proofs.Empties.{day-empty}
 use borrow.Author.Needs.{needs}
 use Rattle.checking.proofs.dates.date.Statement.{statement}

@@ -9,7 +9,7 @@ use Rattle.model.specs.Kinds.{sessions, times}
 use Rattle.book.specs.Lent.{reading}
 use Rattle.book.proofs.Regions.{unit-le}
 use Rattle.checking.proofs.Addresses.{block-fits, block-run, one-long}
-use Rattle.checking.proofs.Answers.{relay}
+use Rattle.rules.proofs.Answers.{relay}
 use Rattle.checking.proofs.Facts.{day-kept, kept-day}
 use Rattle.checking.proofs.Runs.{run-order}
 use Rattle.checking.proofs.dates.date_at.Statement.{statement}

@@ -8,7 +8,7 @@ use borrow.Author.Count.{below-more}
 use borrow.Author.Tests.{not-true, not-false}
 use Rattle.book.specs.Lent.{reading}
 use Rattle.checking.specs.Kept.{Kept}
-use Rattle.checking.proofs.Answers.{said-true, said-false}
+use Rattle.rules.proofs.Answers.{said-true, said-false}
 use Rattle.checking.proofs.dates.dates.Statement.{statement}
 use Rattle.checking.proofs.dates.dates.Tie as tie
 

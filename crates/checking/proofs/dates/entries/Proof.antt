@@ -6,10 +6,10 @@ use lib.ListN.{length}
 use borrow.Author.Needs.{needs}
 use borrow.Author.Tests.{not-true, not-false}
 use Rattle.model.specs.Words.{groups}
-use Rattle.checking.proofs.Answers.{said-true, said-false, relay}
-use Rattle.checking.proofs.Barring.{most-low}
+use Rattle.rules.proofs.Answers.{said-true, said-false, relay}
+use Rattle.rules.proofs.Barring.{most-low}
 use Rattle.checking.proofs.ByTables.{guested, guests, met, session, eaten, triple}
-use Rattle.checking.proofs.Parts.{row-long}
+use Rattle.rules.proofs.Parts.{row-long}
 use Rattle.checking.proofs.dates.entries.Statement.{statement}
 use Rattle.checking.proofs.dates.entries.Tie as tie
 

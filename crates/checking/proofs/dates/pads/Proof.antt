@@ -5,8 +5,8 @@ use native.Mathlib.Omega.{arith}
 use borrow.Author.Count.{below-none, below-more}
 use borrow.Author.Tests.{not-true, not-false}
 use Rattle.model.specs.Words.{groups}
-use Rattle.checking.specs.Rows.{Padded, rowAt}
-use Rattle.checking.proofs.Answers.{said-true, said-false}
+use Rattle.rules.specs.Rows.{Padded, rowAt}
+use Rattle.rules.proofs.Answers.{said-true, said-false}
 use borrow.Author.Needs.{needs}
 use Rattle.checking.proofs.dates.pads.Statement.{statement}
 use Rattle.checking.proofs.dates.pads.Tie as tie

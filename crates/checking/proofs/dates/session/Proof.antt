@@ -2,9 +2,9 @@
 -- Assumes nothing.
 use native.Mathlib.Omega.{arith}
 use borrow.Author.Tests.{not-true, not-false}
-use Rattle.checking.proofs.Answers.{relay, said-true, said-false}
-use Rattle.checking.proofs.Barring.{table-less}
-use Rattle.checking.proofs.Cells.{session-by, session-attended, session-paired, session-blank}
+use Rattle.rules.proofs.Answers.{relay, said-true, said-false}
+use Rattle.rules.proofs.Barring.{table-less}
+use Rattle.checking.proofs.Sessions.{session-by, session-attended, session-paired, session-blank}
 use Rattle.checking.proofs.dates.session.Statement.{statement}
 use Rattle.checking.proofs.dates.session.Tie as tie
 

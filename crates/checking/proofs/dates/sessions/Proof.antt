@@ -7,8 +7,9 @@ use lib.ListN.{length}
 use borrow.Author.Count.{below-none, below-more}
 use borrow.Author.Tests.{not-true, not-false}
 use Rattle.model.specs.Words.{groups}
-use Rattle.checking.specs.Rows.{Session, rowAt}
-use Rattle.checking.proofs.Answers.{said-true, said-false}
+use Rattle.rules.specs.Rows.{rowAt}
+use Rattle.checking.specs.Days.{Session}
+use Rattle.rules.proofs.Answers.{said-true, said-false}
 use Rattle.checking.proofs.dates.sessions.Statement.{statement}
 use Rattle.checking.proofs.dates.sessions.Tie as tie
 

@@ -5,8 +5,8 @@ use mathlib.Core.Path.{_∙_}
 use native.Mathlib.Omega.{arith}
 use borrow.Author.Count.{below-none, below-more}
 use borrow.Author.Tests.{not-true, not-false}
-use Rattle.checking.specs.Rows.{Ready, Guests, rowAt}
-use Rattle.checking.proofs.Answers.{said-true, said-false}
+use Rattle.rules.specs.Rows.{Ready, Guests, rowAt}
+use Rattle.rules.proofs.Answers.{said-true, said-false}
 use Rattle.checking.proofs.rows.guest_rows.Statement.{statement}
 use Rattle.checking.proofs.rows.guest_rows.Tie as tie
 

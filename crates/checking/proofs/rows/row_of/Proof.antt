@@ -4,7 +4,7 @@ use mathlib.Core.Path.{refl}
 use native.Mathlib.Omega.{arith}
 use Prim.Native.Nat.{_+_, _*_}
 use Rattle.book.proofs.Spans.{part-by}
-use Rattle.checking.proofs.Parts.{row-inside}
+use Rattle.rules.proofs.Parts.{row-inside}
 use borrow.Author.Needs.{needs}
 use Rattle.checking.proofs.rows.row_of.Statement.{statement}
 use Rattle.checking.proofs.rows.row_of.Tie as tie

@@ -15,7 +15,7 @@ use Rattle.judge.proofs.answers.add_lunch.Tie as tie
 first-without-session-requires : tie.Need-first-without-session-requires
 first-without-session-requires c κs =
     let p = c .before .pre in
-    (p .0, (p .1 .0, (p .1 .1 .1 .1 .0, p .1 .1 .0)))
+    (p .0, (p .1 .0, (p .1 .1 .1 .1 .0, (p .1 .1 .1 .1 .1 .1, p .1 .1 .0))))
 
 enum-known-i : tie.Need-enum-known-i
 enum-known-i c = search needs
@@ -92,7 +92,7 @@ enum-told-3 c = search needs
 first-over-requires : tie.Need-first-over-requires
 first-over-requires c κs =
     let p = c .before .before .before .before .before .before .before .before .before .before .before .pre in
-    (p .0, (p .1 .0, (p .1 .1 .0, (p .1 .1 .1 .0, p .1 .1 .1 .1 .1))))
+    (p .0, (p .1 .0, (p .1 .1 .0, (p .1 .1 .1 .0, p .1 .1 .1 .1 .1 .0))))
 
 settled-requires : tie.Need-settled-requires
 settled-requires c κs = search needs

@@ -82,7 +82,7 @@ unfolding kindOf
 lunch-fits-requires c κs =
     let p = c .before .before .before .pre in
     let h = ready-at 14 (c .match .keys7) (p .1 .1 .1 .1) in
-    (p .0, (p .1 .0, (h .slot, (h .a, h .b))))
+    (p .0, (p .1 .0, (h .slot, (h .a, (h .b, h .order)))))
 
 add-erase-2 : tie.Need-add-erase-2
 unfolding kindOf

@@ -35,7 +35,7 @@ add-lunch-requires : tie.Need-add-lunch-requires
 add-lunch-requires c κs =
     let p = c .before .before .before .before .pre in
     let most = capacity-le (p .0) (c .before .before .before .before .args .a) (p .1 .1 .1 .0) in
-    (p .0, (p .1 .0, (p .1 .1 .0, (p .1 .1 .1 .0, (p .1 .1 .1 .1, omega (arith, c .if2 .left, c .before .capacity .ensures, most))))))
+    (p .0, (p .1 .0, (p .1 .1 .0, (p .1 .1 .1 .0, (p .1 .1 .1 .1 .0, (omega (arith, c .if2 .left, c .before .capacity .ensures, most), p .1 .1 .1 .1 .1))))))
 
 returns-3 : tie.Need-returns-3
 unfolding lunchFits

@@ -1,9 +1,13 @@
 -- `line::look`: a frame in front, or else the line's end is searched for.
 -- Assumes nothing.
-use mathlib.Core.Path.{_≡_, sym, _∙_}
+use mathlib.Core.Path.{_≡_, sym}
 use mathlib.Core.Bool.{true}
-use Rattle.lines.specs.Frame.{frameAhead}
-use Rattle.lines.proofs.Looking.{ahead-digits, ahead-leads, all-free, end-leads, not-ahead}
+use native.Mathlib.Omega.{arith}
+use lib.ListN.{take}
+use lib.Seq.{length-take-le}
+use Rattle.model.specs.Lines.{isFrame}
+use Rattle.lines.specs.Post.{Leads}
+use Rattle.lines.proofs.Looking.{all-free, end-leads}
 use borrow.Author.Needs.{needs}
 use Rattle.lines.proofs.line.look.Statement.{statement}
 use Rattle.lines.proofs.line.look.Tie as tie
@@ -11,17 +15,19 @@ use Rattle.lines.proofs.line.look.Tie as tie
 frame-ahead-requires : tie.Need-frame-ahead-requires
 frame-ahead-requires c κs = search needs
 
-ahead : (c : tie.After-request-arg) → frameAhead (c .before .before .before .before .args .s .now) ≡ true
-ahead c = sym (c .before .before .frame-ahead .ensures) ∙ c .before .if1 .taken
+ahead : (c : tie.After-request-arg)
+    → Leads (c .before .before .before .before .args .s .now) (c .before .before .frame-ahead .result)
+    × (isFrame (take (c .before .before .frame-ahead .result) (c .before .before .before .before .args .s .now)) ≡ true)
+ahead c = c .before .before .frame-ahead .ensures .some (c .before .if1 .taken)
 
 slice-aggregate-request : tie.Need-slice-aggregate-request
-slice-aggregate-request c = sym (ahead-digits _ (ahead c) .1)
+slice-aggregate-request c = sym (length-take-le _ _ (omega (arith, ahead c .0 .inside)))
 
 request-requires : tie.Need-request-requires
-request-requires c κs = ahead-digits _ (ahead c)
+request-requires c κs = ahead c .1
 
 returns : tie.Need-returns
-returns c = (ahead-leads _ (ahead (c .before)) .0, ahead-leads _ (ahead (c .before)) .1, c .request .ensures)
+returns c = (ahead (c .before) .0, ahead (c .before) .1, c .request .ensures)
 
 line-end-requires : tie.Need-line-end-requires
 line-end-requires c κs = search needs
@@ -31,9 +37,10 @@ returns-2 c = all-free _ _ (c .before .line-end .ensures) (c .if2 .taken)
 
 returns-3 : tie.Need-returns-3
 returns-3 c =
-    let d = c .before .before .before in
+    let f = c .before .before .before .frame-ahead in
     let e = end-leads _ _ (c .before .line-end .ensures) (c .if2 .left) in
-    (e, not-ahead _ _ (sym (d .frame-ahead .ensures) ∙ c .before .before .if1 .left) e)
+    let n = c .before .before .if1 .left in
+    (e, f .ensures .none (omega arith) _ e)
 
 pub look-spec : {M : Type 1} → statement M
 look-spec =

@@ -1,6 +1,6 @@
 -- `line::put_answer`: three words and byte 10.
 -- Assumes nothing.
-use Rattle.lines.proofs.Puts.{join-at}
+use Rattle.text.proofs.Puts.{join-at}
 use Rattle.lines.proofs.Framing.{words-line}
 use borrow.Author.Needs.{needs}
 use Rattle.lines.proofs.line.put_answer.Statement.{statement}

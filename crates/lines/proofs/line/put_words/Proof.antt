@@ -1,6 +1,6 @@
 -- `line::put_words`: by the two cases of an answer.
 -- Assumes nothing.
-use Rattle.lines.proofs.Puts.{join, put-as}
+use Rattle.text.proofs.Puts.{join, put-as}
 use Rattle.lines.proofs.Framing.{done-line, refused-line}
 use borrow.Author.Needs.{needs}
 use Rattle.lines.proofs.line.put_words.Statement.{statement}

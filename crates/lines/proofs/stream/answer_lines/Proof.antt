@@ -5,6 +5,7 @@ use mathlib.Core.Path.{sym, _∙_, subst}
 use native.Mathlib.Omega.{arith}
 use lib.ListN.{length}
 use borrow.Author.Needs.{needs}
+use Rattle.model.specs.Lines.{answerBytes}
 use Rattle.model.specs.declared.Settings.{Settings}
 use Rattle.book.specs.Good.{Good}
 use Rattle.lines.proofs.Turns.{So, start, all-told, end-told, more-so, more-ends, in-reach}
@@ -64,7 +65,7 @@ reach c =
     (v .i) (t .result) (v .inv .within) (v .inv .good) (t .ensures) (used c)
 
 fits : (c : Line)
-    → c .before .before .before .before .before .before .before .before .loop .at + 25
+    → c .before .before .before .before .before .before .before .before .loop .at + answerBytes
     ≤ length (c .before .before .before .before .before .before .before .before .loop .out)
 fits c =
     let d = c .before .before .before .before .before .before .before .before .before .before .before .before .before .before in

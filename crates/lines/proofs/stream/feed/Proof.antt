@@ -9,6 +9,7 @@ use Rattle.lines.proofs.Streams.{all-held, line-held}
 use Rattle.lines.proofs.Keeping.{holds-own}
 use Rattle.lines.proofs.Looking.{line-free}
 use borrow.Author.Needs.{needs}
+use Rattle.model.specs.Lines.{answerBytes}
 use Rattle.lines.proofs.stream.feed.Statement.{statement}
 use Rattle.lines.proofs.stream.feed.Tie as tie
 
@@ -32,7 +33,7 @@ returns c =
     all-held (d .args .stream) (d .args .book .now) (d .args .chunk .now) (d .pre .1 .0) (e .line-end .ensures) (c .before .hold .ensures)
     (c .if1 .taken)
 
-room : (c : tie.After-end-held-arg2) → 25 ≤ length (c .before .before .before .before .before .before .before .before .before .before .args .out .now)
+room : (c : tie.After-end-held-arg2) → answerBytes ≤ length (c .before .before .before .before .before .before .before .before .before .before .args .out .now)
 room c =
     let d = c .before .before .before .before .before in
     let w = d .line-end .ensures .within in

@@ -5,8 +5,8 @@ use borrow.Author.Needs.{needs}
 use Prim.Native.Nat.{_≤_, _-_, _+_, _<_}
 use native.Mathlib.Omega.{arith}
 use lib.ListN.{length, take}
-use Rattle.lines.specs.Digits.{Put}
-use Rattle.lines.proofs.Puts.{put-none, put-more}
+use Rattle.text.specs.Put.{Put}
+use Rattle.text.proofs.Puts.{put-none, put-more}
 use Rattle.lines.proofs.Keeping.{held-more}
 use Rattle.lines.proofs.stream.hold.Statement.{statement}
 use Rattle.lines.proofs.stream.hold.Tie as tie

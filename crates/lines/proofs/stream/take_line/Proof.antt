@@ -3,7 +3,7 @@
 use native.Mathlib.Omega.{arith}
 use Rattle.book.specs.Lent.{reading}
 use Rattle.lines.specs.Post.{NextOf}
-use Rattle.lines.specs.declared.line.Next.the-variants.{Other}
+use Rattle.lines.specs.declared.line.Next.the-variants.{Frame, Other}
 use Rattle.lines.proofs.Books.{next-is, taken-frame, taken-other, taken-none}
 use borrow.Author.Needs.{needs}
 use Rattle.lines.proofs.stream.take_line.Statement.{statement}
@@ -12,8 +12,15 @@ use Rattle.lines.proofs.stream.take_line.Tie as tie
 look-requires : tie.Need-look-requires
 look-requires c κs = search needs
 
-enum-known-r : tie.Need-enum-known-r
-enum-known-r c = search needs
+enum-known-len : tie.Need-enum-known-len
+enum-known-len c = search needs
+
+next-frame : (c : tie.After-known-told)
+    → NextOf (c .before .before .before .before .before .before .args .chunk .now) (Frame (c .before .len .given .0 .0) (c .before .len .given .0 .1 .0))
+next-frame c = next-is _ (c .before .before .before .look .ensures) (c .before .len .given .1)
+
+add-t9 : tie.Need-add-t9
+add-t9 c = let n = next-frame c .0 .inside in omega (arith, c .before .before .before .before .before .before .good)
 
 step-requires : tie.Need-step-requires
 unfolding reading
@@ -26,8 +33,8 @@ next-other : (c : tie.After-known-told2)
     → NextOf (c .before .before .before .before .before .before .args .chunk .now) (Other (c .before .n .given .0 .0))
 next-other c = next-is _ (c .before .before .before .look .ensures) (c .before .n .given .1)
 
-add-t11 : tie.Need-add-t11
-add-t11 c = let n = next-other c .0 .inside in omega (arith, c .before .before .before .before .before .before .good)
+add-t13 : tie.Need-add-t13
+add-t13 c = let n = next-other c .0 .inside in omega (arith, c .before .before .before .before .before .before .good)
 
 enum-told : tie.Need-enum-told
 enum-told c = search needs
@@ -38,9 +45,8 @@ same-length c = search needs
 returns : tie.Need-returns
 unfolding reading
 returns c =
-    let d = c .before .before .before .before .before in
-    taken-frame _ (d .before .before .before .before .before .pre) (next-is _ (d .before .before .look .ensures) (d .r .given .1))
-    (c .before .before .step .ensures)
+    let d = c .before .before .before .before in
+    taken-frame _ (d .before .before .before .before .before .before .pre) _ (next-frame d) (c .before .before .step .ensures)
 
 returns-2 : tie.Need-returns-2
 returns-2 c = taken-other _ (c .before .before .before .before .before .before .pre) _ (next-other c)
@@ -53,10 +59,11 @@ take-line-spec =
     tie.close
     (tie.spec
     look-requires
-    enum-known-r
+    enum-known-len
+    add-t9
     step-requires
     enum-known-n
-    add-t11
+    add-t13
     enum-told
     same-length
     returns

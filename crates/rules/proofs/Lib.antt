@@ -1,0 +1,9 @@
+pub mod Answers
+pub mod Zeros
+pub mod Parts
+pub mod Limits
+pub mod Copying
+pub mod Passing
+pub mod Barring
+pub mod Cells
+pub mod Seating
