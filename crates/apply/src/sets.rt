@@ -4,15 +4,15 @@ use crate::cells::fill;
 use crate::cells::sweep_rows;
 use book::grid::Grid;
 use book::grid::Grids;
+use book::grid::Site;
 use book::puts::Content;
 use book::puts::EMPTY;
 use book::runs::sweep_run;
 use book::units::date_of_session;
 use model::Session;
-use model::Settings;
 ghost use mathlib.Core.Path.{_≡_};
 ghost use Prim.Native.Nat.{_+_, _/_, _<_};
-ghost use Rattle.book.specs.Grids.{gridsOf, Laid};
+ghost use Rattle.book.specs.Grids.{Sited, Laid};
 ghost use Rattle.book.specs.Lent.{reading};
 ghost use Rattle.book.specs.Stores.{Wrote, empty, swept};
 ghost use Rattle.apply.specs.Stores.{Span, Single, full, filled, markedAll, standingEnded, meetingErased};
@@ -82,22 +82,15 @@ pub fn end_standing(book: &mut [u32], g: Grids, a: u32, first: Session, last: Se
 }
 
 // Kind 16: the meeting's conference rooms, and its lunches on the dates from first's to last's.
-pub fn erase_conf_and_lunch(
-    book: &mut [u32],
-    s: Settings,
-    g: Grids,
-    b: u32,
-    first: Session,
-    last: Session,
-)
-    requires { ⌜ Laid s (reading (now book)) ⌝ }
-    requires { ⌜ g ≡ gridsOf s ⌝ }
-    requires { ⌜ last .0 < g .conf .slots ⌝ }
-    requires { ⌜ b < s .meetings ⌝ }
-    ensures { λ _. ⌜ Wrote (meetingErased s g b (first .0) (last .0)) (reading (now (book .entry))) (reading (now (book .exit))) ⌝ }
+pub fn erase_conf_and_lunch(book: &mut [u32], site: Site, b: u32, first: Session, last: Session)
+    requires { ⌜ Laid (site .settings) (reading (now book)) ⌝ }
+    requires { ⌜ Sited site ⌝ }
+    requires { ⌜ last .0 < site .grids .conf .slots ⌝ }
+    requires { ⌜ b < site .settings .meetings ⌝ }
+    ensures { λ _. ⌜ Wrote (meetingErased (site .settings) (site .grids) b (first .0) (last .0)) (reading (now (book .entry))) (reading (now (book .exit))) ⌝ }
 {
-    drop(book, g.conf, b, first.0, last.0);
-    let from = date_of_session(s, first);
-    let to = date_of_session(s, last);
-    take(book, g.lunch, b, from.0, to.0);
+    drop(book, site.grids.conf, b, first.0, last.0);
+    let from = date_of_session(site.settings, first);
+    let to = date_of_session(site.settings, last);
+    take(book, site.grids.lunch, b, from.0, to.0);
 }

@@ -1,7 +1,7 @@
 // One request on a good diary, where every question is answered before the first word is written, and on a good book.
 use apply::apply;
 use apply::removal::remove_visitor;
-use book::grid::grids_of;
+use book::grid::site_of;
 use judge::judge;
 use kinds::fields::first_no;
 use kinds::table::row_of;
@@ -35,11 +35,11 @@ fn removed(book: &mut [u32], s: Settings, r: Request) -> Answer
             place: 0,
         };
     }
-    let g = grids_of(s);
-    Answer::Done(remove_visitor(book, s, g, r.b, Date(r.first), Date(r.last)))
+    let site = site_of(s);
+    Answer::Done(remove_visitor(book, site, r.b, Date(r.first), Date(r.last)))
 }
 
-// The grids are computed in the step because they are a few products, and a struct of that size passed by value is copied at every call.
+// The site is made in the step because its grids are a few products, and a struct of that size passed by value is copied at every call.
 pub fn step(book: &mut [u32], s: Settings, r: Request) -> Answer
     requires { ⌜ Good s (reading (now book)) ⌝ }
     ensures { λ a. ⌜ answered a (reading (now (book .exit))) ≡ inWords (Machine.step (stateOf (reading (now (book .entry)))) r) ⌝ }
@@ -48,12 +48,12 @@ pub fn step(book: &mut [u32], s: Settings, r: Request) -> Answer
     if kind == REMOVAL {
         return removed(book, s, r);
     }
-    let g = grids_of(s);
-    let answer = judge(book, s, g, r);
+    let site = site_of(s);
+    let answer = judge(book, site, r);
     if let Answer::Refused { number, place } = answer {
         return Answer::Refused { number, place };
     }
-    apply(book, s, g, r);
+    apply(book, site, r);
     answer
 }
 

@@ -1,16 +1,15 @@
 // The questions of each kind past 7, in order, and the value of a request that is done.
 //
-// A grid is copied by `let` before it is passed on: passed as a field of `g` it would make every call lay out all the grids in memory.
+// A grid is copied by `let` before it is passed on: passed as a field it would make every call lay out all the grids in memory.
 use book::found::Found;
 use book::grid::Grid;
-use book::grid::Grids;
+use book::grid::Site;
 use book::units::date_of_session;
 use kinds::seats::capacity;
 use model::Answer;
 use model::Date;
 use model::Request;
 use model::Session;
-use model::Settings;
 use model::Time;
 use queries::bookings::bookings;
 use queries::dates::first_without_session;
@@ -35,7 +34,7 @@ ghost use Rattle.model.specs.Reading.{stateOf};
 ghost use Rattle.model.specs.Site.{allSessions, allTimes, capacity as capacityOf};
 ghost use Rattle.model.specs.State.{reserved as reservedIn};
 ghost use Rattle.book.specs.Good.{Good};
-ghost use Rattle.book.specs.Grids.{gridsOf};
+ghost use Rattle.book.specs.Grids.{Sited};
 ghost use Rattle.book.specs.Lent.{reading, Lies};
 ghost use Rattle.kinds.specs.Rows.{Ready, lastKind, rowAt};
 ghost use Rattle.judge.specs.Chains.{asked, foundOr, answerAt};
@@ -58,19 +57,19 @@ fn refused(number: u32, place: u32) -> Answer
 }
 
 // Kind 4. After question 11 the room's cell does not hold the visitor, so that 13 may ask the whole row.
-fn add_hotel(book: &[u32], s: Settings, g: Grids, a: u32, b: u32, first: Date, last: Date) -> Answer
-    requires { ⌜ Good s (reading (now book)) ⌝ }
-    requires { ⌜ g ≡ gridsOf s ⌝ }
-    requires { ⌜ last .0 < s .dates ⌝ }
-    requires { ⌜ a < s .hotels ⌝ }
-    requires { ⌜ b < s .visitors ⌝ }
-    ensures { λ r. ⌜ r ≡ addStay s (reading (now (book .entry))) (g .hotel) dates a b (first .0) (last .0) ⌝ }
+fn add_hotel(book: &[u32], site: Site, a: u32, b: u32, first: Date, last: Date) -> Answer
+    requires { ⌜ Good (site .settings) (reading (now book)) ⌝ }
+    requires { ⌜ Sited site ⌝ }
+    requires { ⌜ last .0 < site .settings .dates ⌝ }
+    requires { ⌜ a < site .settings .hotels ⌝ }
+    requires { ⌜ b < site .settings .visitors ⌝ }
+    ensures { λ r. ⌜ r ≡ addStay (site .settings) (reading (now (book .entry))) (site .grids .hotel) dates a b (first .0) (last .0) ⌝ }
 {
-    let leave = g.leave;
+    let leave = site.grids.leave;
     if let Found::At(i) = first_not_member(book, leave, b, first.0, last.0) {
         return refused(9, i);
     }
-    let cells = g.hotel;
+    let cells = site.grids.hotel;
     if let Found::At(i) = first_with(book, cells, a, b + 1, first.0, last.0) {
         return refused(11, i);
     }
@@ -81,19 +80,19 @@ fn add_hotel(book: &[u32], s: Settings, g: Grids, a: u32, b: u32, first: Date, l
 }
 
 // Kind 6: the same of a transport, where leave is asked of the date of a time.
-fn add_ride(book: &[u32], s: Settings, g: Grids, a: u32, b: u32, first: Time, last: Time) -> Answer
-    requires { ⌜ Good s (reading (now book)) ⌝ }
-    requires { ⌜ g ≡ gridsOf s ⌝ }
-    requires { ⌜ last .0 < allTimes s ⌝ }
-    requires { ⌜ a < s .transports ⌝ }
-    requires { ⌜ b < s .visitors ⌝ }
-    ensures { λ r. ⌜ r ≡ addStay s (reading (now (book .entry))) (g .ride) times a b (first .0) (last .0) ⌝ }
+fn add_ride(book: &[u32], site: Site, a: u32, b: u32, first: Time, last: Time) -> Answer
+    requires { ⌜ Good (site .settings) (reading (now book)) ⌝ }
+    requires { ⌜ Sited site ⌝ }
+    requires { ⌜ last .0 < allTimes (site .settings) ⌝ }
+    requires { ⌜ a < site .settings .transports ⌝ }
+    requires { ⌜ b < site .settings .visitors ⌝ }
+    ensures { λ r. ⌜ r ≡ addStay (site .settings) (reading (now (book .entry))) (site .grids .ride) times a b (first .0) (last .0) ⌝ }
 {
-    let leave = g.leave;
-    if let Found::At(i) = first_time_off_leave(book, s, leave, b, first, last) {
+    let leave = site.grids.leave;
+    if let Found::At(i) = first_time_off_leave(book, site.settings, leave, b, first, last) {
         return refused(9, i);
     }
-    let cells = g.ride;
+    let cells = site.grids.ride;
     if let Found::At(i) = first_with(book, cells, a, b + 1, first.0, last.0) {
         return refused(11, i);
     }
@@ -104,31 +103,23 @@ fn add_ride(book: &[u32], s: Settings, g: Grids, a: u32, b: u32, first: Time, la
 }
 
 // Kind 10. After question 11 the visitor's cell does not hold the meeting, so that 13 asks whether it is empty.
-fn add_attend(
-    book: &[u32],
-    s: Settings,
-    g: Grids,
-    a: u32,
-    b: u32,
-    first: Session,
-    last: Session,
-) -> Answer
-    requires { ⌜ Good s (reading (now book)) ⌝ }
-    requires { ⌜ g ≡ gridsOf s ⌝ }
-    requires { ⌜ last .0 < allSessions s ⌝ }
-    requires { ⌜ a < s .meetings ⌝ }
-    requires { ⌜ b < s .visitors ⌝ }
-    ensures { λ r. ⌜ r ≡ attendAdds s (reading (now (book .entry))) (g .attend) a b (first .0) (last .0) ⌝ }
+fn add_attend(book: &[u32], site: Site, a: u32, b: u32, first: Session, last: Session) -> Answer
+    requires { ⌜ Good (site .settings) (reading (now book)) ⌝ }
+    requires { ⌜ Sited site ⌝ }
+    requires { ⌜ last .0 < allSessions (site .settings) ⌝ }
+    requires { ⌜ a < site .settings .meetings ⌝ }
+    requires { ⌜ b < site .settings .visitors ⌝ }
+    ensures { λ r. ⌜ r ≡ attendAdds (site .settings) (reading (now (book .entry))) (site .grids .attend) a b (first .0) (last .0) ⌝ }
 {
-    let leave = g.leave;
-    if let Found::At(i) = first_session_off_leave(book, s, leave, b, first, last) {
+    let leave = site.grids.leave;
+    if let Found::At(i) = first_session_off_leave(book, site.settings, leave, b, first, last) {
         return refused(9, i);
     }
-    let standing = g.standing;
+    let standing = site.grids.standing;
     if let Found::At(i) = first_not_member(book, standing, a, first.0, last.0) {
         return refused(10, i);
     }
-    let cells = g.attend;
+    let cells = site.grids.attend;
     if let Found::At(i) = first_with(book, cells, b, a + 1, first.0, last.0) {
         return refused(11, i);
     }
@@ -136,27 +127,19 @@ fn add_attend(
 }
 
 // Kind 12.
-fn add_conf(
-    book: &[u32],
-    s: Settings,
-    g: Grids,
-    a: u32,
-    b: u32,
-    first: Session,
-    last: Session,
-) -> Answer
-    requires { ⌜ Good s (reading (now book)) ⌝ }
-    requires { ⌜ g ≡ gridsOf s ⌝ }
-    requires { ⌜ last .0 < allSessions s ⌝ }
-    requires { ⌜ a < s .rooms ⌝ }
-    requires { ⌜ b < s .meetings ⌝ }
-    ensures { λ r. ⌜ r ≡ confAdds s (reading (now (book .entry))) (g .conf) a b (first .0) (last .0) ⌝ }
+fn add_conf(book: &[u32], site: Site, a: u32, b: u32, first: Session, last: Session) -> Answer
+    requires { ⌜ Good (site .settings) (reading (now book)) ⌝ }
+    requires { ⌜ Sited site ⌝ }
+    requires { ⌜ last .0 < allSessions (site .settings) ⌝ }
+    requires { ⌜ a < site .settings .rooms ⌝ }
+    requires { ⌜ b < site .settings .meetings ⌝ }
+    ensures { λ r. ⌜ r ≡ confAdds (site .settings) (reading (now (book .entry))) (site .grids .conf) a b (first .0) (last .0) ⌝ }
 {
-    let standing = g.standing;
+    let standing = site.grids.standing;
     if let Found::At(i) = first_not_member(book, standing, b, first.0, last.0) {
         return refused(10, i);
     }
-    let pairs = g.conf;
+    let pairs = site.grids.conf;
     if let Found::At(i) = first_with(book, pairs, a, b + 1, first.0, last.0) {
         return refused(11, i);
     }
@@ -164,103 +147,78 @@ fn add_conf(
 }
 
 // Kind 14 from question 10 on; question 13 as for kind 10.
-fn add_lunch(
-    book: &[u32],
-    s: Settings,
-    g: Grids,
-    a: u32,
-    b: u32,
-    n: u32,
-    first: Date,
-    last: Date,
-) -> Answer
-    requires { ⌜ Good s (reading (now book)) ⌝ }
-    requires { ⌜ g ≡ gridsOf s ⌝ }
-    requires { ⌜ last .0 < s .dates ⌝ }
-    requires { ⌜ a < s .dining ⌝ }
-    requires { ⌜ b < s .meetings ⌝ }
+fn add_lunch(book: &[u32], site: Site, a: u32, b: u32, n: u32, first: Date, last: Date) -> Answer
+    requires { ⌜ Good (site .settings) (reading (now book)) ⌝ }
+    requires { ⌜ Sited site ⌝ }
+    requires { ⌜ last .0 < site .settings .dates ⌝ }
+    requires { ⌜ a < site .settings .dining ⌝ }
+    requires { ⌜ b < site .settings .meetings ⌝ }
     requires { ⌜ n ≤ 1000 ⌝ }
     requires { ⌜ first .0 ≤ last .0 ⌝ }
-    ensures { λ r. ⌜ r ≡ lunchAdds s (reading (now (book .entry))) (g .lunch) a b n (first .0) (last .0) ⌝ }
+    ensures { λ r. ⌜ r ≡ lunchAdds (site .settings) (reading (now (book .entry))) (site .grids .lunch) a b n (first .0) (last .0) ⌝ }
 {
-    if let Found::At(i) = first_without_session(book, s, g, b, first, last) {
+    if let Found::At(i) = first_without_session(book, site, b, first, last) {
         return refused(10, i);
     }
-    let triples = g.lunch;
+    let triples = site.grids.lunch;
     if let Found::At(i) = first_with(book, triples, b, a + 1, first.0, last.0) {
         return refused(11, i);
     }
     if let Found::At(i) = first_without(book, triples, b, 0, first.0, last.0) {
         return refused(13, i);
     }
-    settled(14, first_over(book, s, g, a, n, first, last))
+    settled(14, first_over(book, site, a, n, first, last))
 }
 
 // Kind 14.
-fn lunch_fits(
-    book: &[u32],
-    s: Settings,
-    g: Grids,
-    a: u32,
-    b: u32,
-    n: u32,
-    first: Date,
-    last: Date,
-) -> Answer
-    requires { ⌜ Good s (reading (now book)) ⌝ }
-    requires { ⌜ g ≡ gridsOf s ⌝ }
-    requires { ⌜ last .0 < s .dates ⌝ }
-    requires { ⌜ a < s .dining ⌝ }
-    requires { ⌜ b < s .meetings ⌝ }
+fn lunch_fits(book: &[u32], site: Site, a: u32, b: u32, n: u32, first: Date, last: Date) -> Answer
+    requires { ⌜ Good (site .settings) (reading (now book)) ⌝ }
+    requires { ⌜ Sited site ⌝ }
+    requires { ⌜ last .0 < site .settings .dates ⌝ }
+    requires { ⌜ a < site .settings .dining ⌝ }
+    requires { ⌜ b < site .settings .meetings ⌝ }
     requires { ⌜ first .0 ≤ last .0 ⌝ }
-    ensures { λ r. ⌜ r ≡ lunchFits s (reading (now (book .entry))) (g .lunch) a b n (first .0) (last .0) ⌝ }
+    ensures { λ r. ⌜ r ≡ lunchFits (site .settings) (reading (now (book .entry))) (site .grids .lunch) a b n (first .0) (last .0) ⌝ }
 {
     if n < 1 {
         return refused(8, 0);
     }
-    if capacity(s, a) < n {
+    if capacity(site.settings, a) < n {
         return refused(8, 0);
     }
-    add_lunch(book, s, g, a, b, n, first, last)
+    add_lunch(book, site, a, b, n, first, last)
 }
 
 // Kind 9.
-fn end_standing(
-    book: &[u32],
-    s: Settings,
-    g: Grids,
-    a: u32,
-    first: Session,
-    last: Session,
-) -> Answer
-    requires { ⌜ Good s (reading (now book)) ⌝ }
-    requires { ⌜ g ≡ gridsOf s ⌝ }
-    requires { ⌜ last .0 < allSessions s ⌝ }
-    requires { ⌜ a < s .meetings ⌝ }
-    ensures { λ r. ⌜ r ≡ standingEnds s (reading (now (book .entry))) a (first .0) (last .0) ⌝ }
+fn end_standing(book: &[u32], site: Site, a: u32, first: Session, last: Session) -> Answer
+    requires { ⌜ Good (site .settings) (reading (now book)) ⌝ }
+    requires { ⌜ Sited site ⌝ }
+    requires { ⌜ last .0 < allSessions (site .settings) ⌝ }
+    requires { ⌜ a < site .settings .meetings ⌝ }
+    ensures { λ r. ⌜ r ≡ standingEnds (site .settings) (reading (now (book .entry))) a (first .0) (last .0) ⌝ }
 {
-    if let Found::At(i) = first_held(book, s, g, a, first, last) {
+    if let Found::At(i) = first_held(book, site, a, first, last) {
         return refused(19, i);
     }
-    let cells = g.attend;
+    let cells = site.grids.attend;
     settled(20, first_row_without(book, cells, a + 1, first.0, last.0))
 }
 
 // Kind 16: a conference room in each session, and a lunch on each date from first's to last's.
-fn erase_all(book: &[u32], s: Settings, g: Grids, b: u32, first: Session, last: Session) -> Answer
-    requires { ⌜ Good s (reading (now book)) ⌝ }
-    requires { ⌜ g ≡ gridsOf s ⌝ }
-    requires { ⌜ last .0 < allSessions s ⌝ }
-    requires { ⌜ b < s .meetings ⌝ }
-    ensures { λ r. ⌜ r ≡ eraseAll s (reading (now (book .entry))) b (first .0) (last .0) ⌝ }
+fn erase_all(book: &[u32], site: Site, b: u32, first: Session, last: Session) -> Answer
+    requires { ⌜ Good (site .settings) (reading (now book)) ⌝ }
+    requires { ⌜ Sited site ⌝ }
+    requires { ⌜ last .0 < allSessions (site .settings) ⌝ }
+    requires { ⌜ b < site .settings .meetings ⌝ }
+    ensures { λ r. ⌜ r ≡ eraseAll (site .settings) (reading (now (book .entry))) b (first .0) (last .0) ⌝ }
 {
-    let pairs = g.conf;
+    let pairs = site.grids.conf;
     if let Found::At(i) = first_row_without(book, pairs, b + 1, first.0, last.0) {
         return refused(16, i);
     }
-    let from = date_of_session(s, first);
-    let to = date_of_session(s, last);
-    let triples = g.lunch;
+    let from = date_of_session(site.settings, first);
+    let to = date_of_session(site.settings, last);
+    let triples = site.grids.lunch;
     settled(17, first_with(book, triples, b, 0, from.0, to.0))
 }
 
@@ -285,23 +243,23 @@ fn found_or(number: u32, place: u32, f: Found) -> Answer
 }
 
 // Kind 19.
-fn seats_left(book: &[u32], s: Settings, g: Grids, date: Date, room: u32) -> u32
-    requires { ⌜ Good s (reading (now book)) ⌝ }
-    requires { ⌜ g ≡ gridsOf s ⌝ }
-    requires { ⌜ date .0 < s .dates ⌝ }
-    requires { ⌜ room < s .dining ⌝ }
-    ensures { λ r. ⌜ r ≡ capacityOf s room - reservedIn (stateOf (reading (now (book .entry)))) (date .0) room ⌝ }
+fn seats_left(book: &[u32], site: Site, date: Date, room: u32) -> u32
+    requires { ⌜ Good (site .settings) (reading (now book)) ⌝ }
+    requires { ⌜ Sited site ⌝ }
+    requires { ⌜ date .0 < site .settings .dates ⌝ }
+    requires { ⌜ room < site .settings .dining ⌝ }
+    ensures { λ r. ⌜ r ≡ capacityOf (site .settings) room - reservedIn (stateOf (reading (now (book .entry)))) (date .0) room ⌝ }
 {
-    capacity(s, room) - reserved(book, s, g, date, room)
+    capacity(site.settings, room) - reserved(book, site, date, room)
 }
 
 // Kinds 1 to 7: a visitor's leave, hotel rooms and rides.
-fn of_visitor(book: &[u32], s: Settings, g: Grids, r: Request) -> Answer
-    requires { ⌜ Good s (reading (now book)) ⌝ }
-    requires { ⌜ g ≡ gridsOf s ⌝ }
+fn of_visitor(book: &[u32], site: Site, r: Request) -> Answer
+    requires { ⌜ Good (site .settings) (reading (now book)) ⌝ }
+    requires { ⌜ Sited site ⌝ }
     requires { ⌜ 1 ≤ r .kind ⌝ }
     requires { ⌜ r .kind ≤ 7 ⌝ }
-    requires { ⌜ Ready s (rowAt (r .kind)) r ⌝ }
+    requires { ⌜ Ready (site .settings) (rowAt (r .kind)) r ⌝ }
     ensures { λ a. ⌜ a ≡ answerAt (reading (now (book .entry))) r ⌝ }
 {
     let kind = r.kind;
@@ -309,61 +267,61 @@ fn of_visitor(book: &[u32], s: Settings, g: Grids, r: Request) -> Answer
         1 => Answer::Done(0),
         2 => settled(
             18,
-            first_booked(book, s, g, r.b, Date(r.first), Date(r.last)),
+            first_booked(book, site, r.b, Date(r.first), Date(r.last)),
         ),
-        3 => Answer::Done(bookings(book, s, r.b, Date(r.first), Date(r.last))),
-        4 => add_hotel(book, s, g, r.a, r.b, Date(r.first), Date(r.last)),
+        3 => Answer::Done(bookings(book, site, r.b, Date(r.first), Date(r.last))),
+        4 => add_hotel(book, site, r.a, r.b, Date(r.first), Date(r.last)),
         5 => {
-            let hotel = g.hotel;
+            let hotel = site.grids.hotel;
             erase(book, hotel, r.a, r.b + 1, r.first, r.last)
         }
-        6 => add_ride(book, s, g, r.a, r.b, Time(r.first), Time(r.last)),
+        6 => add_ride(book, site, r.a, r.b, Time(r.first), Time(r.last)),
         _ => {
-            let ride = g.ride;
+            let ride = site.grids.ride;
             erase(book, ride, r.a, r.b + 1, r.first, r.last)
         }
     }
 }
 
 // The answer of a request whose questions up to 7 are answered yes, so that first and last are slots of the kind's unit.
-pub fn answer(book: &[u32], s: Settings, g: Grids, r: Request) -> Answer
-    requires { ⌜ Good s (reading (now book)) ⌝ }
-    requires { ⌜ g ≡ gridsOf s ⌝ }
+pub fn answer(book: &[u32], site: Site, r: Request) -> Answer
+    requires { ⌜ Good (site .settings) (reading (now book)) ⌝ }
+    requires { ⌜ Sited site ⌝ }
     requires { ⌜ 1 ≤ r .kind ⌝ }
     requires { ⌜ r .kind ≤ lastKind ⌝ }
-    requires { ⌜ Ready s (rowAt (r .kind)) r ⌝ }
+    requires { ⌜ Ready (site .settings) (rowAt (r .kind)) r ⌝ }
     ensures { λ a. ⌜ a ≡ answerAt (reading (now (book .entry))) r ⌝ }
 {
     let kind = r.kind;
     if kind < 8 {
-        return of_visitor(book, s, g, r);
+        return of_visitor(book, site, r);
     }
     match kind {
         8 => Answer::Done(0),
-        9 => end_standing(book, s, g, r.a, Session(r.first), Session(r.last)),
-        10 => add_attend(book, s, g, r.a, r.b, Session(r.first), Session(r.last)),
+        9 => end_standing(book, site, r.a, Session(r.first), Session(r.last)),
+        10 => add_attend(book, site, r.a, r.b, Session(r.first), Session(r.last)),
         11 => {
-            let cells = g.attend;
+            let cells = site.grids.attend;
             erase(book, cells, r.b, r.a + 1, r.first, r.last)
         }
-        12 => add_conf(book, s, g, r.a, r.b, Session(r.first), Session(r.last)),
+        12 => add_conf(book, site, r.a, r.b, Session(r.first), Session(r.last)),
         13 => {
-            let pairs = g.conf;
+            let pairs = site.grids.conf;
             settled(16, first_row_without(book, pairs, r.b + 1, r.first, r.last))
         }
-        14 => lunch_fits(book, s, g, r.a, r.b, r.n, Date(r.first), Date(r.last)),
+        14 => lunch_fits(book, site, r.a, r.b, r.n, Date(r.first), Date(r.last)),
         15 => {
-            let triples = g.lunch;
+            let triples = site.grids.lunch;
             erase(book, triples, r.b, r.a + 1, r.first, r.last)
         }
-        16 => erase_all(book, s, g, r.b, Session(r.first), Session(r.last)),
-        17 => found_or(21, r.first, meeting_of(book, s, g, Session(r.first), r.b)),
-        18 => Answer::Done(members(book, s, g, Date(r.first))),
-        19 => Answer::Done(seats_left(book, s, g, Date(r.first), r.a)),
+        16 => erase_all(book, site, r.b, Session(r.first), Session(r.last)),
+        17 => found_or(21, r.first, meeting_of(book, site, Session(r.first), r.b)),
+        18 => Answer::Done(members(book, site, Date(r.first))),
+        19 => Answer::Done(seats_left(book, site, Date(r.first), r.a)),
         _ => found_or(
             22,
             0,
-            lowest_free(book, s, g, Session(r.first), Session(r.last)),
+            lowest_free(book, site, Session(r.first), Session(r.last)),
         ),
     }
 }

@@ -1,9 +1,8 @@
 // The hotel, ride and attend entries of a visitor on a run of dates.
 use crate::entries::on_leave;
 use book::grid::Grid;
-use book::grid::Grids;
+use book::grid::Site;
 use book::grid::cell;
-use book::grid::grids_of;
 use book::rows::row_count;
 use book::rows::rows_count;
 use book::rows::rows_have;
@@ -11,7 +10,6 @@ use book::units::after;
 use book::units::sessions_on;
 use book::units::times_on;
 use model::Date;
-use model::Settings;
 ghost use mathlib.Core.Path.{_≡_};
 ghost use Prim.Native.Nat.{_≤_, _<_};
 ghost use mathlib.Core.Bool.{not};
@@ -19,7 +17,7 @@ ghost use lib.Dec.{eqb};
 ghost use Rattle.model.specs.Bounded.{one};
 ghost use Rattle.model.specs.Questions.{bookings as bookingsIn};
 ghost use Rattle.model.specs.Reading.{stateOf};
-ghost use Rattle.book.specs.Grids.{gridsOf};
+ghost use Rattle.book.specs.Grids.{Sited};
 ghost use Rattle.book.specs.Good.{Good};
 ghost use Rattle.queries.specs.Shown.{columnCount};
 ghost use Rattle.book.specs.Lent.{reading, Lies};
@@ -68,38 +66,43 @@ fn column_has(book: &[u32], g: Grid, item: u32, lo: u32, hi: u32) -> bool
 }
 
 // The entries of the visitor on the date: there are none without leave, and else they are searched for in every slot of the date.
-fn entries_on(book: &[u32], s: Settings, g: Grids, visitor: u32, date: Date) -> u32
-    requires { ⌜ Good s (reading (now book)) ⌝ }
-    requires { ⌜ g ≡ gridsOf s ⌝ }
-    requires { ⌜ visitor < s .visitors ⌝ }
-    requires { ⌜ date .0 < s .dates ⌝ }
+fn entries_on(book: &[u32], site: Site, visitor: u32, date: Date) -> u32
+    requires { ⌜ Good (site .settings) (reading (now book)) ⌝ }
+    requires { ⌜ Sited site ⌝ }
+    requires { ⌜ visitor < site .settings .visitors ⌝ }
+    requires { ⌜ date .0 < site .settings .dates ⌝ }
     ensures { λ r. ⌜ r ≡ bookingsIn (stateOf (reading (now (book .entry)))) visitor (date .0) (date .0) ⌝ }
 {
-    if !on_leave(book, s, g, date, visitor) {
+    if !on_leave(book, site, date, visitor) {
         return 0;
     }
-    let sessions = sessions_on(s, date, date);
-    let times = times_on(s, date, date);
-    let nights = row_count(book, g.hotel, date.0, visitor + 1);
-    let meetings = column_count(book, g.attend, visitor, sessions.from.0, sessions.to.0);
-    let rides = rows_count(book, g.ride, visitor + 1, times.from.0, times.to.0);
+    let sessions = sessions_on(site.settings, date, date);
+    let times = times_on(site.settings, date, date);
+    let nights = row_count(book, site.grids.hotel, date.0, visitor + 1);
+    let meetings = column_count(
+        book,
+        site.grids.attend,
+        visitor,
+        sessions.from.0,
+        sessions.to.0,
+    );
+    let rides = rows_count(book, site.grids.ride, visitor + 1, times.from.0, times.to.0);
     nights + meetings + rides
 }
 
-// The entries of the visitor on the dates first..last, date by date. The grids are computed here, where few products are needed: a copy of
-// all seven for the call would cost more.
-pub fn bookings(book: &[u32], s: Settings, visitor: u32, first: Date, last: Date) -> u32
-    requires { ⌜ Good s (reading (now book)) ⌝ }
-    requires { ⌜ visitor < s .visitors ⌝ }
+// The entries of the visitor on the dates first..last, date by date.
+pub fn bookings(book: &[u32], site: Site, visitor: u32, first: Date, last: Date) -> u32
+    requires { ⌜ Good (site .settings) (reading (now book)) ⌝ }
+    requires { ⌜ Sited site ⌝ }
+    requires { ⌜ visitor < site .settings .visitors ⌝ }
     requires { ⌜ first .0 ≤ last .0 ⌝ }
-    requires { ⌜ last .0 < s .dates ⌝ }
+    requires { ⌜ last .0 < site .settings .dates ⌝ }
     ensures { λ r. ⌜ r ≡ bookingsIn (stateOf (reading (now (book .entry)))) visitor (first .0) (last .0) ⌝ }
 {
-    let g = grids_of(s);
     let mut n: u32 = 0;
     let mut date = first;
     while date.0 <= last.0 {
-        n += entries_on(book, s, g, visitor, date);
+        n += entries_on(book, site, visitor, date);
         date = after(date);
     }
     n
@@ -107,23 +110,31 @@ pub fn bookings(book: &[u32], s: Settings, visitor: u32, first: Date, last: Date
 
 // Has the visitor an entry on the date? What costs least is asked first: leave, without which there is none, a meeting, whose cell is the
 // visitor's own, a hotel room, which is searched for in a row, and a ride, searched for in a row of each time.
-pub fn has_bookings(book: &[u32], s: Settings, g: Grids, visitor: u32, date: Date) -> bool
-    requires { ⌜ Good s (reading (now book)) ⌝ }
-    requires { ⌜ g ≡ gridsOf s ⌝ }
-    requires { ⌜ visitor < s .visitors ⌝ }
-    requires { ⌜ date .0 < s .dates ⌝ }
+pub fn has_bookings(book: &[u32], site: Site, visitor: u32, date: Date) -> bool
+    requires { ⌜ Good (site .settings) (reading (now book)) ⌝ }
+    requires { ⌜ Sited site ⌝ }
+    requires { ⌜ visitor < site .settings .visitors ⌝ }
+    requires { ⌜ date .0 < site .settings .dates ⌝ }
     ensures { λ r. ⌜ r ≡ not (eqb (bookingsIn (stateOf (reading (now (book .entry)))) visitor (date .0) (date .0)) 0) ⌝ }
 {
-    if !on_leave(book, s, g, date, visitor) {
+    // taken out once, so that the site itself is not laid out in memory for the calls below
+    let s = site.settings;
+    if !on_leave(book, site, date, visitor) {
         return false;
     }
     let sessions = sessions_on(s, date, date);
-    if column_has(book, g.attend, visitor, sessions.from.0, sessions.to.0) {
+    if column_has(
+        book,
+        site.grids.attend,
+        visitor,
+        sessions.from.0,
+        sessions.to.0,
+    ) {
         return true;
     }
-    if row_count(book, g.hotel, date.0, visitor + 1) != 0 {
+    if row_count(book, site.grids.hotel, date.0, visitor + 1) != 0 {
         return true;
     }
     let times = times_on(s, date, date);
-    rows_have(book, g.ride, visitor + 1, times.from.0, times.to.0)
+    rows_have(book, site.grids.ride, visitor + 1, times.from.0, times.to.0)
 }

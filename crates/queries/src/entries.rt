@@ -1,12 +1,11 @@
 // One slot: a member of a pool, a meeting's room or lunch, and who attends what.
 use book::found::Found;
 use book::grid::Grid;
-use book::grid::Grids;
+use book::grid::Site;
 use book::grid::cell;
 use book::rows::row_has;
 use model::Date;
 use model::Session;
-use model::Settings;
 ghost use mathlib.Core.Path.{_≡_};
 ghost use mathlib.Core.Bool.{_&&_};
 ghost use Prim.Native.Nat.{_/_, _%_, _≤_, _<_};
@@ -16,7 +15,7 @@ ghost use Rattle.model.specs.Site.{allSessions};
 ghost use Rattle.model.specs.Questions.{confHeld, lunchHeld, meetingOf};
 ghost use Rattle.model.specs.Reading.{stateOf};
 ghost use Rattle.book.specs.Founds.{foundOf};
-ghost use Rattle.book.specs.Grids.{cellAt, gridsOf};
+ghost use Rattle.book.specs.Grids.{cellAt, Sited};
 ghost use Rattle.book.specs.Good.{Good};
 ghost use Rattle.book.specs.Lent.{reading, Lies};
 
@@ -49,47 +48,47 @@ pub fn member_between(book: &[u32], g: Grid, v: u32, lo: u32, hi: u32) -> bool
 }
 
 // Has the visitor leave on the date?
-pub fn on_leave(book: &[u32], s: Settings, g: Grids, date: Date, visitor: u32) -> bool
-    requires { ⌜ Good s (reading (now book)) ⌝ }
-    requires { ⌜ g ≡ gridsOf s ⌝ }
-    requires { ⌜ date .0 < s .dates ⌝ }
-    requires { ⌜ visitor < s .visitors ⌝ }
+pub fn on_leave(book: &[u32], site: Site, date: Date, visitor: u32) -> bool
+    requires { ⌜ Good (site .settings) (reading (now book)) ⌝ }
+    requires { ⌜ Sited site ⌝ }
+    requires { ⌜ date .0 < site .settings .dates ⌝ }
+    requires { ⌜ visitor < site .settings .visitors ⌝ }
     ensures { λ r. ⌜ r ≡ stateOf (reading (now (book .entry))) .leave (date .0) visitor ⌝ }
 {
-    member(book, g.leave, date.0, visitor)
+    member(book, site.grids.leave, date.0, visitor)
 }
 
 // Has the meeting a conference room in the session?
-pub fn conf_held(book: &[u32], s: Settings, g: Grids, session: Session, meeting: u32) -> bool
-    requires { ⌜ Good s (reading (now book)) ⌝ }
-    requires { ⌜ g ≡ gridsOf s ⌝ }
-    requires { ⌜ session .0 < allSessions s ⌝ }
-    requires { ⌜ meeting < s .meetings ⌝ }
+pub fn conf_held(book: &[u32], site: Site, session: Session, meeting: u32) -> bool
+    requires { ⌜ Good (site .settings) (reading (now book)) ⌝ }
+    requires { ⌜ Sited site ⌝ }
+    requires { ⌜ session .0 < allSessions (site .settings) ⌝ }
+    requires { ⌜ meeting < site .settings .meetings ⌝ }
     ensures { λ r. ⌜ r ≡ confHeld (stateOf (reading (now (book .entry)))) (session .0) meeting ⌝ }
 {
-    row_has(book, g.conf, session.0, meeting + 1)
+    row_has(book, site.grids.conf, session.0, meeting + 1)
 }
 
 // Has the meeting a lunch on the date?
-pub fn lunch_held(book: &[u32], s: Settings, g: Grids, date: Date, meeting: u32) -> bool
-    requires { ⌜ Good s (reading (now book)) ⌝ }
-    requires { ⌜ g ≡ gridsOf s ⌝ }
-    requires { ⌜ date .0 < s .dates ⌝ }
-    requires { ⌜ meeting < s .meetings ⌝ }
+pub fn lunch_held(book: &[u32], site: Site, date: Date, meeting: u32) -> bool
+    requires { ⌜ Good (site .settings) (reading (now book)) ⌝ }
+    requires { ⌜ Sited site ⌝ }
+    requires { ⌜ date .0 < site .settings .dates ⌝ }
+    requires { ⌜ meeting < site .settings .meetings ⌝ }
     ensures { λ r. ⌜ r ≡ lunchHeld (stateOf (reading (now (book .entry)))) (date .0) meeting ⌝ }
 {
-    cell(book, g.lunch, date.0, meeting) != 0
+    cell(book, site.grids.lunch, date.0, meeting) != 0
 }
 
 // The meeting that the visitor attends in the session.
-pub fn meeting_of(book: &[u32], s: Settings, g: Grids, session: Session, visitor: u32) -> Found
-    requires { ⌜ Good s (reading (now book)) ⌝ }
-    requires { ⌜ g ≡ gridsOf s ⌝ }
-    requires { ⌜ session .0 < allSessions s ⌝ }
-    requires { ⌜ visitor < s .visitors ⌝ }
+pub fn meeting_of(book: &[u32], site: Site, session: Session, visitor: u32) -> Found
+    requires { ⌜ Good (site .settings) (reading (now book)) ⌝ }
+    requires { ⌜ Sited site ⌝ }
+    requires { ⌜ session .0 < allSessions (site .settings) ⌝ }
+    requires { ⌜ visitor < site .settings .visitors ⌝ }
     ensures { λ r. ⌜ r ≡ foundOf (meetingOf (stateOf (reading (now (book .entry)))) (session .0) visitor) ⌝ }
 {
-    let w = cell(book, g.attend, session.0, visitor);
+    let w = cell(book, site.grids.attend, session.0, visitor);
     if w == 0 {
         return Found::Nothing;
     }

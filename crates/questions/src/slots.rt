@@ -2,7 +2,7 @@
 // its own, over the one grid that it reads where there is one: a struct passed to a function that is not inlined is copied at each call.
 use book::found::Found;
 use book::grid::Grid;
-use book::grid::Grids;
+use book::grid::Site;
 use book::units::after;
 use book::units::date_of_session;
 use book::units::date_of_time;
@@ -22,7 +22,7 @@ ghost use Rattle.model.specs.Kinds.{sessions, times};
 ghost use Rattle.model.specs.Reading.{stateOf};
 ghost use Rattle.model.specs.Site.{allSessions, allTimes};
 ghost use Rattle.book.specs.Good.{Good};
-ghost use Rattle.book.specs.Grids.{gridsOf};
+ghost use Rattle.book.specs.Grids.{gridsOf, Sited};
 ghost use Rattle.book.specs.Lent.{reading};
 ghost use Rattle.questions.specs.Asked.{OnLeave, RoomLeft, NoBookings, NotHeld, slotsFail, roomLeft, notHeld};
 
@@ -79,37 +79,29 @@ pub fn first_time_off_leave(
 }
 
 // Question 14 on one date.
-fn room_left(book: &[u32], s: Settings, g: Grids, date: Date, room: u32, n: u32) -> bool
-    requires { ⌜ Good s (reading (now book)) ⌝ }
-    requires { ⌜ g ≡ gridsOf s ⌝ }
-    requires { ⌜ date .0 < s .dates ⌝ }
-    requires { ⌜ room < s .dining ⌝ }
+fn room_left(book: &[u32], site: Site, date: Date, room: u32, n: u32) -> bool
+    requires { ⌜ Good (site .settings) (reading (now book)) ⌝ }
+    requires { ⌜ Sited site ⌝ }
+    requires { ⌜ date .0 < site .settings .dates ⌝ }
+    requires { ⌜ room < site .settings .dining ⌝ }
     requires { ⌜ n ≤ 1000 ⌝ }
-    ensures { λ r. ⌜ r ≡ roomLeft s (stateOf (reading (now (book .entry)))) (date .0) room n ⌝ }
+    ensures { λ r. ⌜ r ≡ roomLeft (site .settings) (stateOf (reading (now (book .entry)))) (date .0) room n ⌝ }
 {
-    reserved(book, s, g, date, room) + n <= capacity(s, room)
+    reserved(book, site, date, room) + n <= capacity(site.settings, room)
 }
 
 // Question 14: the lowest date of first..last on which n seats more are too many for the dining room.
-pub fn first_over(
-    book: &[u32],
-    s: Settings,
-    g: Grids,
-    room: u32,
-    n: u32,
-    first: Date,
-    last: Date,
-) -> Found
-    requires { ⌜ Good s (reading (now book)) ⌝ }
-    requires { ⌜ g ≡ gridsOf s ⌝ }
-    requires { ⌜ last .0 < s .dates ⌝ }
-    requires { ⌜ room < s .dining ⌝ }
+pub fn first_over(book: &[u32], site: Site, room: u32, n: u32, first: Date, last: Date) -> Found
+    requires { ⌜ Good (site .settings) (reading (now book)) ⌝ }
+    requires { ⌜ Sited site ⌝ }
+    requires { ⌜ last .0 < site .settings .dates ⌝ }
+    requires { ⌜ room < site .settings .dining ⌝ }
     requires { ⌜ n ≤ 1000 ⌝ }
-    ensures { λ r. ⌜ r ≡ slotsFail s (reading (now (book .entry))) RoomLeft room n (first .0) (last .0) ⌝ }
+    ensures { λ r. ⌜ r ≡ slotsFail (site .settings) (reading (now (book .entry))) RoomLeft room n (first .0) (last .0) ⌝ }
 {
     let mut date = first;
     while date.0 <= last.0 {
-        if !room_left(book, s, g, date, room, n) {
+        if !room_left(book, site, date, room, n) {
             return Found::At(date.0);
         }
         date = after(date);
@@ -118,23 +110,16 @@ pub fn first_over(
 }
 
 // Question 18: the lowest date of first..last on which the visitor has a hotel, ride or attend entry.
-pub fn first_booked(
-    book: &[u32],
-    s: Settings,
-    g: Grids,
-    visitor: u32,
-    first: Date,
-    last: Date,
-) -> Found
-    requires { ⌜ Good s (reading (now book)) ⌝ }
-    requires { ⌜ g ≡ gridsOf s ⌝ }
-    requires { ⌜ last .0 < s .dates ⌝ }
-    requires { ⌜ visitor < s .visitors ⌝ }
-    ensures { λ r. ⌜ r ≡ slotsFail s (reading (now (book .entry))) NoBookings visitor 0 (first .0) (last .0) ⌝ }
+pub fn first_booked(book: &[u32], site: Site, visitor: u32, first: Date, last: Date) -> Found
+    requires { ⌜ Good (site .settings) (reading (now book)) ⌝ }
+    requires { ⌜ Sited site ⌝ }
+    requires { ⌜ last .0 < site .settings .dates ⌝ }
+    requires { ⌜ visitor < site .settings .visitors ⌝ }
+    ensures { λ r. ⌜ r ≡ slotsFail (site .settings) (reading (now (book .entry))) NoBookings visitor 0 (first .0) (last .0) ⌝ }
 {
     let mut date = first;
     while date.0 <= last.0 {
-        if has_bookings(book, s, g, visitor, date) {
+        if has_bookings(book, site, visitor, date) {
             return Found::At(date.0);
         }
         date = after(date);
@@ -143,38 +128,31 @@ pub fn first_booked(
 }
 
 // Question 19 in one session: what costs less is asked first.
-fn not_held(book: &[u32], s: Settings, g: Grids, session: Session, meeting: u32) -> bool
-    requires { ⌜ Good s (reading (now book)) ⌝ }
-    requires { ⌜ g ≡ gridsOf s ⌝ }
-    requires { ⌜ session .0 < allSessions s ⌝ }
-    requires { ⌜ meeting < s .meetings ⌝ }
-    ensures { λ r. ⌜ r ≡ notHeld s (stateOf (reading (now (book .entry)))) (session .0) meeting ⌝ }
+fn not_held(book: &[u32], site: Site, session: Session, meeting: u32) -> bool
+    requires { ⌜ Good (site .settings) (reading (now book)) ⌝ }
+    requires { ⌜ Sited site ⌝ }
+    requires { ⌜ session .0 < allSessions (site .settings) ⌝ }
+    requires { ⌜ meeting < site .settings .meetings ⌝ }
+    ensures { λ r. ⌜ r ≡ notHeld (site .settings) (stateOf (reading (now (book .entry)))) (session .0) meeting ⌝ }
 {
-    let date = date_of_session(s, session);
-    if lunch_held(book, s, g, date, meeting) {
+    let date = date_of_session(site.settings, session);
+    if lunch_held(book, site, date, meeting) {
         return false;
     }
-    !conf_held(book, s, g, session, meeting)
+    !conf_held(book, site, session, meeting)
 }
 
 // Question 19: the lowest session of first..last in which the meeting has a conference room, or a lunch on its date.
-pub fn first_held(
-    book: &[u32],
-    s: Settings,
-    g: Grids,
-    meeting: u32,
-    first: Session,
-    last: Session,
-) -> Found
-    requires { ⌜ Good s (reading (now book)) ⌝ }
-    requires { ⌜ g ≡ gridsOf s ⌝ }
-    requires { ⌜ last .0 < allSessions s ⌝ }
-    requires { ⌜ meeting < s .meetings ⌝ }
-    ensures { λ r. ⌜ r ≡ slotsFail s (reading (now (book .entry))) NotHeld meeting 0 (first .0) (last .0) ⌝ }
+pub fn first_held(book: &[u32], site: Site, meeting: u32, first: Session, last: Session) -> Found
+    requires { ⌜ Good (site .settings) (reading (now book)) ⌝ }
+    requires { ⌜ Sited site ⌝ }
+    requires { ⌜ last .0 < allSessions (site .settings) ⌝ }
+    requires { ⌜ meeting < site .settings .meetings ⌝ }
+    ensures { λ r. ⌜ r ≡ slotsFail (site .settings) (reading (now (book .entry))) NotHeld meeting 0 (first .0) (last .0) ⌝ }
 {
     let mut i = first.0;
     while i <= last.0 {
-        if !not_held(book, s, g, Session(i), meeting) {
+        if !not_held(book, site, Session(i), meeting) {
             return Found::At(i);
         }
         i += 1;

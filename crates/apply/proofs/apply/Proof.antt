@@ -28,35 +28,35 @@ turn-requires : tie.Need-turn-requires
 unfolding kindOf
 turn-requires c κs = let s = c .before .before .before in
     let a = s .args in
-    let w : Known (a .s) (reading (a .book .now)) (a .g) (a .r) addLeave
+    let w : Known (a .site .settings) (reading (a .book .now)) (a .site .grids) (a .r) addLeave
     = record { good = s .pre .0; grids = s .pre .1 .0; done = s .pre .1 .1 .0; kind = ap kindOf (c .before .match .keys1) } in (
       span w leaves (λ g. g .leave) refl refl,
       item w leaves (λ g. g .leave) refl (a .r .b / 32)
-          (group-lt (a .s .visitors) (a .r .b) (b-ok w (a .s .visitors) refl)),
+          (group-lt (a .site .settings .visitors) (a .r .b) (b-ok w (a .site .settings .visitors) refl)),
     )
 
 turn-requires-2 : tie.Need-turn-requires-2
 unfolding kindOf
 turn-requires-2 c κs = let s = c .before .before .before in
     let a = s .args in
-    let w : Known (a .s) (reading (a .book .now)) (a .g) (a .r) endLeave
+    let w : Known (a .site .settings) (reading (a .book .now)) (a .site .grids) (a .r) endLeave
     = record { good = s .pre .0; grids = s .pre .1 .0; done = s .pre .1 .1 .0; kind = ap kindOf (c .before .match .keys2) } in (
       span w leaves (λ g. g .leave) refl refl,
       item w leaves (λ g. g .leave) refl (a .r .b / 32)
-          (group-lt (a .s .visitors) (a .r .b) (b-ok w (a .s .visitors) refl)),
+          (group-lt (a .site .settings .visitors) (a .r .b) (b-ok w (a .site .settings .visitors) refl)),
     )
 
 add-requires : tie.Need-add-requires
 unfolding kindOf
 add-requires c κs = let s = c .before .before .before in
     let a = s .args in
-    let w : Known (a .s) (reading (a .book .now)) (a .g) (a .r) addHotel
+    let w : Known (a .site .settings) (reading (a .book .now)) (a .site .grids) (a .r) addHotel
     = record { good = s .pre .0; grids = s .pre .1 .0; done = s .pre .1 .1 .0; kind = ap kindOf (c .before .match .keys3) } in (
       span w hotelCells (λ g. g .hotel) refl refl,
       (
-        item w hotelCells (λ g. g .hotel) refl (a .r .a) (a-ok w (a .s .hotels) refl),
+        item w hotelCells (λ g. g .hotel) refl (a .r .a) (a-ok w (a .site .settings .hotels) refl),
         omega
-            (arith, laid w .ranges .visitors, b-ok w (a .s .visitors) refl),
+            (arith, laid w .ranges .visitors, b-ok w (a .site .settings .visitors) refl),
       ),
     )
 
@@ -64,21 +64,21 @@ take-requires : tie.Need-take-requires
 unfolding kindOf
 take-requires c κs = let s = c .before .before .before in
     let a = s .args in
-    let w : Known (a .s) (reading (a .book .now)) (a .g) (a .r) eraseHotel
+    let w : Known (a .site .settings) (reading (a .book .now)) (a .site .grids) (a .r) eraseHotel
     = record { good = s .pre .0; grids = s .pre .1 .0; done = s .pre .1 .1 .0; kind = ap kindOf (c .before .match .keys4) } in
-    (span w hotelCells (λ g. g .hotel) refl refl, item w hotelCells (λ g. g .hotel) refl (a .r .a) (a-ok w (a .s .hotels) refl))
+    (span w hotelCells (λ g. g .hotel) refl refl, item w hotelCells (λ g. g .hotel) refl (a .r .a) (a-ok w (a .site .settings .hotels) refl))
 
 add-requires-2 : tie.Need-add-requires-2
 unfolding kindOf
 add-requires-2 c κs = let s = c .before .before .before in
     let a = s .args in
-    let w : Known (a .s) (reading (a .book .now)) (a .g) (a .r) addRide
+    let w : Known (a .site .settings) (reading (a .book .now)) (a .site .grids) (a .r) addRide
     = record { good = s .pre .0; grids = s .pre .1 .0; done = s .pre .1 .1 .0; kind = ap kindOf (c .before .match .keys5) } in (
       span w rideCells (λ g. g .ride) refl refl,
       (
-        item w rideCells (λ g. g .ride) refl (a .r .a) (a-ok w (a .s .transports) refl),
+        item w rideCells (λ g. g .ride) refl (a .r .a) (a-ok w (a .site .settings .transports) refl),
         omega
-            (arith, laid w .ranges .visitors, b-ok w (a .s .visitors) refl),
+            (arith, laid w .ranges .visitors, b-ok w (a .site .settings .visitors) refl),
       ),
     )
 
@@ -86,34 +86,34 @@ take-requires-2 : tie.Need-take-requires-2
 unfolding kindOf
 take-requires-2 c κs = let s = c .before .before .before in
     let a = s .args in
-    let w : Known (a .s) (reading (a .book .now)) (a .g) (a .r) eraseRide
+    let w : Known (a .site .settings) (reading (a .book .now)) (a .site .grids) (a .r) eraseRide
     = record { good = s .pre .0; grids = s .pre .1 .0; done = s .pre .1 .1 .0; kind = ap kindOf (c .before .match .keys6) } in
-    (span w rideCells (λ g. g .ride) refl refl, item w rideCells (λ g. g .ride) refl (a .r .a) (a-ok w (a .s .transports) refl))
+    (span w rideCells (λ g. g .ride) refl refl, item w rideCells (λ g. g .ride) refl (a .r .a) (a-ok w (a .site .settings .transports) refl))
 
 turn-requires-3 : tie.Need-turn-requires-3
 unfolding kindOf
 turn-requires-3 c κs = let s = c .before .before .before in
     let a = s .args in
-    let w : Known (a .s) (reading (a .book .now)) (a .g) (a .r) addStanding
+    let w : Known (a .site .settings) (reading (a .book .now)) (a .site .grids) (a .r) addStanding
     = record { good = s .pre .0; grids = s .pre .1 .0; done = s .pre .1 .1 .0; kind = ap kindOf (c .before .match .keys7) } in (
       span w standings (λ g. g .standing) refl refl,
       item w standings (λ g. g .standing) refl (a .r .a / 32)
-          (group-lt (a .s .meetings) (a .r .a) (a-ok w (a .s .meetings) refl)),
+          (group-lt (a .site .settings .meetings) (a .r .a) (a-ok w (a .site .settings .meetings) refl)),
     )
 
 end-standing-requires : tie.Need-end-standing-requires
 unfolding kindOf
 end-standing-requires c κs = let s = c .before .before .before in
     let a = s .args in
-    let w : Known (a .s) (reading (a .book .now)) (a .g) (a .r) endStanding
+    let w : Known (a .site .settings) (reading (a .book .now)) (a .site .grids) (a .r) endStanding
     = record { good = s .pre .0; grids = s .pre .1 .0; done = s .pre .1 .1 .0; kind = ap kindOf (c .before .match .keys8) } in (
       span w standings (λ g. g .standing) refl refl,
       (
         single w attendCells (λ g. g .attend) refl refl refl,
         (
-          item w standings (λ g. g .standing) refl (a .r .a / 32) (group-lt (a .s .meetings) (a .r .a) (a-ok w (a .s .meetings) refl)),
+          item w standings (λ g. g .standing) refl (a .r .a / 32) (group-lt (a .site .settings .meetings) (a .r .a) (a-ok w (a .site .settings .meetings) refl)),
           omega
-              (arith, laid w .ranges .meetings, a-ok w (a .s .meetings) refl),
+              (arith, laid w .ranges .meetings, a-ok w (a .site .settings .meetings) refl),
         ),
       ),
     )
@@ -122,13 +122,13 @@ add-requires-3 : tie.Need-add-requires-3
 unfolding kindOf
 add-requires-3 c κs = let s = c .before .before .before in
     let a = s .args in
-    let w : Known (a .s) (reading (a .book .now)) (a .g) (a .r) addAttend
+    let w : Known (a .site .settings) (reading (a .book .now)) (a .site .grids) (a .r) addAttend
     = record { good = s .pre .0; grids = s .pre .1 .0; done = s .pre .1 .1 .0; kind = ap kindOf (c .before .match .keys9) } in (
       span w attendCells (λ g. g .attend) refl refl,
       (
-        item w attendCells (λ g. g .attend) refl (a .r .b) (b-ok w (a .s .visitors) refl),
+        item w attendCells (λ g. g .attend) refl (a .r .b) (b-ok w (a .site .settings .visitors) refl),
         omega
-            (arith, laid w .ranges .meetings, a-ok w (a .s .meetings) refl),
+            (arith, laid w .ranges .meetings, a-ok w (a .site .settings .meetings) refl),
       ),
     )
 
@@ -136,21 +136,21 @@ take-requires-3 : tie.Need-take-requires-3
 unfolding kindOf
 take-requires-3 c κs = let s = c .before .before .before in
     let a = s .args in
-    let w : Known (a .s) (reading (a .book .now)) (a .g) (a .r) eraseAttend
+    let w : Known (a .site .settings) (reading (a .book .now)) (a .site .grids) (a .r) eraseAttend
     = record { good = s .pre .0; grids = s .pre .1 .0; done = s .pre .1 .1 .0; kind = ap kindOf (c .before .match .keys10) } in
-    (span w attendCells (λ g. g .attend) refl refl, item w attendCells (λ g. g .attend) refl (a .r .b) (b-ok w (a .s .visitors) refl))
+    (span w attendCells (λ g. g .attend) refl refl, item w attendCells (λ g. g .attend) refl (a .r .b) (b-ok w (a .site .settings .visitors) refl))
 
 add-requires-4 : tie.Need-add-requires-4
 unfolding kindOf
 add-requires-4 c κs = let s = c .before .before .before in
     let a = s .args in
-    let w : Known (a .s) (reading (a .book .now)) (a .g) (a .r) addConf
+    let w : Known (a .site .settings) (reading (a .book .now)) (a .site .grids) (a .r) addConf
     = record { good = s .pre .0; grids = s .pre .1 .0; done = s .pre .1 .1 .0; kind = ap kindOf (c .before .match .keys11) } in (
       span w confPairs (λ g. g .conf) refl refl,
       (
-        item w confPairs (λ g. g .conf) refl (a .r .a) (a-ok w (a .s .rooms) refl),
+        item w confPairs (λ g. g .conf) refl (a .r .a) (a-ok w (a .site .settings .rooms) refl),
         omega
-            (arith, laid w .ranges .meetings, b-ok w (a .s .meetings) refl),
+            (arith, laid w .ranges .meetings, b-ok w (a .site .settings .meetings) refl),
       ),
     )
 
@@ -158,21 +158,21 @@ drop-requires : tie.Need-drop-requires
 unfolding kindOf
 drop-requires c κs = let s = c .before .before .before in
     let a = s .args in
-    let w : Known (a .s) (reading (a .book .now)) (a .g) (a .r) eraseConf
+    let w : Known (a .site .settings) (reading (a .book .now)) (a .site .grids) (a .r) eraseConf
     = record { good = s .pre .0; grids = s .pre .1 .0; done = s .pre .1 .1 .0; kind = ap kindOf (c .before .match .keys12) } in
-    (span w confPairs (λ g. g .conf) refl refl, omega (arith, laid w .ranges .meetings, b-ok w (a .s .meetings) refl))
+    (span w confPairs (λ g. g .conf) refl refl, omega (arith, laid w .ranges .meetings, b-ok w (a .site .settings .meetings) refl))
 
 add-requires-5 : tie.Need-add-requires-5
 unfolding kindOf
 add-requires-5 c κs = let s = c .before .before .before in
     let a = s .args in
-    let w : Known (a .s) (reading (a .book .now)) (a .g) (a .r) addLunch
+    let w : Known (a .site .settings) (reading (a .book .now)) (a .site .grids) (a .r) addLunch
     = record { good = s .pre .0; grids = s .pre .1 .0; done = s .pre .1 .1 .0; kind = ap kindOf (c .before .match .keys13) } in (
       span w lunchTriples (λ g. g .lunch) refl refl,
       (
-        item w lunchTriples (λ g. g .lunch) refl (a .r .b) (b-ok w (a .s .meetings) refl),
+        item w lunchTriples (λ g. g .lunch) refl (a .r .b) (b-ok w (a .site .settings .meetings) refl),
         omega
-            (arith, laid w .ranges .dining, a-ok w (a .s .dining) refl),
+            (arith, laid w .ranges .dining, a-ok w (a .site .settings .dining) refl),
       ),
     )
 
@@ -180,17 +180,17 @@ take-requires-4 : tie.Need-take-requires-4
 unfolding kindOf
 take-requires-4 c κs = let s = c .before .before .before in
     let a = s .args in
-    let w : Known (a .s) (reading (a .book .now)) (a .g) (a .r) eraseLunch
+    let w : Known (a .site .settings) (reading (a .book .now)) (a .site .grids) (a .r) eraseLunch
     = record { good = s .pre .0; grids = s .pre .1 .0; done = s .pre .1 .1 .0; kind = ap kindOf (c .before .match .keys14) } in
-    (span w lunchTriples (λ g. g .lunch) refl refl, item w lunchTriples (λ g. g .lunch) refl (a .r .b) (b-ok w (a .s .meetings) refl))
+    (span w lunchTriples (λ g. g .lunch) refl refl, item w lunchTriples (λ g. g .lunch) refl (a .r .b) (b-ok w (a .site .settings .meetings) refl))
 
 erase-conf-and-lunch-requires : tie.Need-erase-conf-and-lunch-requires
 unfolding kindOf
 erase-conf-and-lunch-requires c κs = let s = c .before .before .before in
     let a = s .args in
-    let w : Known (a .s) (reading (a .book .now)) (a .g) (a .r) eraseConfAndLunch
+    let w : Known (a .site .settings) (reading (a .book .now)) (a .site .grids) (a .r) eraseConfAndLunch
     = record { good = s .pre .0; grids = s .pre .1 .0; done = s .pre .1 .1 .0; kind = ap kindOf (c .before .match .keys15) } in
-    (laid w, (s .pre .1 .0, ((span w confPairs (λ g. g .conf) refl refl) .slot, b-ok w (a .s .meetings) refl)))
+    (laid w, (s .pre .1 .0, ((span w confPairs (λ g. g .conf) refl refl) .slot, b-ok w (a .site .settings .meetings) refl)))
 
 same-length : tie.Need-same-length
 same-length c = search needs
@@ -199,7 +199,7 @@ returns : tie.Need-returns
 unfolding kindOf
 returns c = let s = c .before .before .before .before .before .before in
     let a = s .args in
-    let w : Known (a .s) (reading (a .book .now)) (a .g) (a .r) addLeave
+    let w : Known (a .site .settings) (reading (a .book .now)) (a .site .grids) (a .r) addLeave
     = record { good = s .pre .0; grids = s .pre .1 .0; done = s .pre .1 .1 .0; kind = ap kindOf (c .before .before .before .before .match .keys1) } in
     c .before .before .turn .ensures .is
     ∙ arm w (λ S g. markedAll (g .leave) true (a .r .b) (a .r .first) (a .r .last + 1) (reading (a .book .now)))
@@ -212,7 +212,7 @@ returns-2 : tie.Need-returns-2
 unfolding kindOf
 returns-2 c = let s = c .before .before .before .before .before .before in
     let a = s .args in
-    let w : Known (a .s) (reading (a .book .now)) (a .g) (a .r) endLeave
+    let w : Known (a .site .settings) (reading (a .book .now)) (a .site .grids) (a .r) endLeave
     = record { good = s .pre .0; grids = s .pre .1 .0; done = s .pre .1 .1 .0; kind = ap kindOf (c .before .before .before .before .match .keys2) } in
     c .before .before .turn2 .ensures .is
     ∙ arm w (λ S g. markedAll (g .leave) false (a .r .b) (a .r .first) (a .r .last + 1) (reading (a .book .now)))
@@ -225,7 +225,7 @@ returns-3 : tie.Need-returns-3
 unfolding kindOf
 returns-3 c = let s = c .before .before .before .before .before .before in
     let a = s .args in
-    let w : Known (a .s) (reading (a .book .now)) (a .g) (a .r) addHotel
+    let w : Known (a .site .settings) (reading (a .book .now)) (a .site .grids) (a .r) addHotel
     = record { good = s .pre .0; grids = s .pre .1 .0; done = s .pre .1 .1 .0; kind = ap kindOf (c .before .before .before .before .match .keys3) } in
     c .before .before .add .ensures .is
     ∙ arm w (λ S g. filled (g .hotel) (a .r .a) (full (a .r .b) 0 0) (a .r .first) (a .r .last + 1) (reading (a .book .now)))
@@ -238,7 +238,7 @@ returns-4 : tie.Need-returns-4
 unfolding kindOf
 returns-4 c = let s = c .before .before .before .before .before .before in
     let a = s .args in
-    let w : Known (a .s) (reading (a .book .now)) (a .g) (a .r) eraseHotel
+    let w : Known (a .site .settings) (reading (a .book .now)) (a .site .grids) (a .r) eraseHotel
     = record { good = s .pre .0; grids = s .pre .1 .0; done = s .pre .1 .1 .0; kind = ap kindOf (c .before .before .before .before .match .keys4) } in
     c .before .before .take .ensures .is
     ∙ arm w (λ S g. filled (g .hotel) (a .r .a) empty (a .r .first) (a .r .last + 1) (reading (a .book .now)))
@@ -251,7 +251,7 @@ returns-5 : tie.Need-returns-5
 unfolding kindOf
 returns-5 c = let s = c .before .before .before .before .before .before in
     let a = s .args in
-    let w : Known (a .s) (reading (a .book .now)) (a .g) (a .r) addRide
+    let w : Known (a .site .settings) (reading (a .book .now)) (a .site .grids) (a .r) addRide
     = record { good = s .pre .0; grids = s .pre .1 .0; done = s .pre .1 .1 .0; kind = ap kindOf (c .before .before .before .before .match .keys5) } in
     c .before .before .add2 .ensures .is
     ∙ arm w (λ S g. filled (g .ride) (a .r .a) (full (a .r .b) 0 0) (a .r .first) (a .r .last + 1) (reading (a .book .now)))
@@ -264,7 +264,7 @@ returns-6 : tie.Need-returns-6
 unfolding kindOf
 returns-6 c = let s = c .before .before .before .before .before .before in
     let a = s .args in
-    let w : Known (a .s) (reading (a .book .now)) (a .g) (a .r) eraseRide
+    let w : Known (a .site .settings) (reading (a .book .now)) (a .site .grids) (a .r) eraseRide
     = record { good = s .pre .0; grids = s .pre .1 .0; done = s .pre .1 .1 .0; kind = ap kindOf (c .before .before .before .before .match .keys6) } in
     c .before .before .take2 .ensures .is
     ∙ arm w (λ S g. filled (g .ride) (a .r .a) empty (a .r .first) (a .r .last + 1) (reading (a .book .now)))
@@ -277,7 +277,7 @@ returns-7 : tie.Need-returns-7
 unfolding kindOf
 returns-7 c = let s = c .before .before .before .before .before .before in
     let a = s .args in
-    let w : Known (a .s) (reading (a .book .now)) (a .g) (a .r) addStanding
+    let w : Known (a .site .settings) (reading (a .book .now)) (a .site .grids) (a .r) addStanding
     = record { good = s .pre .0; grids = s .pre .1 .0; done = s .pre .1 .1 .0; kind = ap kindOf (c .before .before .before .before .match .keys7) } in
     c .before .before .turn3 .ensures .is
     ∙ arm w (λ S g. markedAll (g .standing) true (a .r .a) (a .r .first) (a .r .last + 1) (reading (a .book .now)))
@@ -290,7 +290,7 @@ returns-8 : tie.Need-returns-8
 unfolding kindOf
 returns-8 c = let s = c .before .before .before .before .before .before in
     let a = s .args in
-    let w : Known (a .s) (reading (a .book .now)) (a .g) (a .r) endStanding
+    let w : Known (a .site .settings) (reading (a .book .now)) (a .site .grids) (a .r) endStanding
     = record { good = s .pre .0; grids = s .pre .1 .0; done = s .pre .1 .1 .0; kind = ap kindOf (c .before .before .before .before .match .keys8) } in
     c .before .before .end-standing .ensures .is
     ∙ arm w (λ S g. swept (g .attend) (a .r .a + 1) (a .r .first) (a .r .last + 1)
@@ -304,7 +304,7 @@ returns-9 : tie.Need-returns-9
 unfolding kindOf
 returns-9 c = let s = c .before .before .before .before .before .before in
     let a = s .args in
-    let w : Known (a .s) (reading (a .book .now)) (a .g) (a .r) addAttend
+    let w : Known (a .site .settings) (reading (a .book .now)) (a .site .grids) (a .r) addAttend
     = record { good = s .pre .0; grids = s .pre .1 .0; done = s .pre .1 .1 .0; kind = ap kindOf (c .before .before .before .before .match .keys9) } in
     c .before .before .add3 .ensures .is
     ∙ arm w (λ S g. filled (g .attend) (a .r .b) (full (a .r .a) 0 0) (a .r .first) (a .r .last + 1) (reading (a .book .now)))
@@ -318,7 +318,7 @@ unfolding kindOf
 returns-10 c = let s = c .before .before .before .before .before .before in
     let a = s .args in
     let m = c .before .before .before .before .match in
-    let w : Known (a .s) (reading (a .book .now)) (a .g) (a .r) eraseAttend
+    let w : Known (a .site .settings) (reading (a .book .now)) (a .site .grids) (a .r) eraseAttend
     = record { good = s .pre .0; grids = s .pre .1 .0; done = s .pre .1 .1 .0; kind = ap kindOf (m .keys10) } in
     c .before .before .take3 .ensures .is
     ∙ arm w (λ S g. filled (g .attend) (a .r .b) empty (a .r .first) (a .r .last + 1) (reading (a .book .now)))
@@ -332,7 +332,7 @@ unfolding kindOf
 returns-11 c = let s = c .before .before .before .before .before .before in
     let a = s .args in
     let m = c .before .before .before .before .match in
-    let w : Known (a .s) (reading (a .book .now)) (a .g) (a .r) addConf
+    let w : Known (a .site .settings) (reading (a .book .now)) (a .site .grids) (a .r) addConf
     = record { good = s .pre .0; grids = s .pre .1 .0; done = s .pre .1 .1 .0; kind = ap kindOf (m .keys11) } in
     c .before .before .add4 .ensures .is
     ∙ arm w (λ S g. filled (g .conf) (a .r .a) (full (a .r .b) (a .r .info) 0) (a .r .first) (a .r .last + 1) (reading (a .book .now)))
@@ -346,7 +346,7 @@ unfolding kindOf
 returns-12 c = let s = c .before .before .before .before .before .before in
     let a = s .args in
     let m = c .before .before .before .before .match in
-    let w : Known (a .s) (reading (a .book .now)) (a .g) (a .r) eraseConf
+    let w : Known (a .site .settings) (reading (a .book .now)) (a .site .grids) (a .r) eraseConf
     = record { good = s .pre .0; grids = s .pre .1 .0; done = s .pre .1 .1 .0; kind = ap kindOf (m .keys12) } in
     c .before .before .drop .ensures .is
     ∙ arm w (λ S g. swept (g .conf) (a .r .b + 1) (a .r .first) (a .r .last + 1) (reading (a .book .now)))
@@ -360,7 +360,7 @@ unfolding kindOf
 returns-13 c = let s = c .before .before .before .before .before .before in
     let a = s .args in
     let m = c .before .before .before .before .match in
-    let w : Known (a .s) (reading (a .book .now)) (a .g) (a .r) addLunch
+    let w : Known (a .site .settings) (reading (a .book .now)) (a .site .grids) (a .r) addLunch
     = record { good = s .pre .0; grids = s .pre .1 .0; done = s .pre .1 .1 .0; kind = ap kindOf (m .keys13) } in
     c .before .before .add5 .ensures .is
     ∙ arm w (λ S g. filled (g .lunch) (a .r .b) (full (a .r .a) (a .r .n) (a .r .info)) (a .r .first) (a .r .last + 1) (reading (a .book .now)))
@@ -374,7 +374,7 @@ unfolding kindOf
 returns-14 c = let s = c .before .before .before .before .before .before in
     let a = s .args in
     let m = c .before .before .before .before .match in
-    let w : Known (a .s) (reading (a .book .now)) (a .g) (a .r) eraseLunch
+    let w : Known (a .site .settings) (reading (a .book .now)) (a .site .grids) (a .r) eraseLunch
     = record { good = s .pre .0; grids = s .pre .1 .0; done = s .pre .1 .1 .0; kind = ap kindOf (m .keys14) } in
     c .before .before .take4 .ensures .is
     ∙ arm w (λ S g. filled (g .lunch) (a .r .b) empty (a .r .first) (a .r .last + 1) (reading (a .book .now)))
@@ -388,7 +388,7 @@ unfolding kindOf
 returns-15 c = let s = c .before .before .before .before .before .before in
     let a = s .args in
     let m = c .before .before .before .before .match in
-    let w : Known (a .s) (reading (a .book .now)) (a .g) (a .r) eraseConfAndLunch
+    let w : Known (a .site .settings) (reading (a .book .now)) (a .site .grids) (a .r) eraseConfAndLunch
     = record { good = s .pre .0; grids = s .pre .1 .0; done = s .pre .1 .1 .0; kind = ap kindOf (m .keys15) } in
     c .before .before .erase-conf-and-lunch .ensures .is
     ∙ arm w (λ S g. filled (g .lunch) (a .r .b) empty (dateOfSession S (a .r .first)) (dateOfSession S (a .r .last) + 1)
@@ -398,7 +398,7 @@ returns-15 c = let s = c .before .before .before .before .before .before in
 returns-16 : tie.Need-returns-16
 returns-16 c = let s = c .before .before in
     let n = c .match .rest in
-    unchanged (s .args .s) (reading (s .args .book .now)) (s .pre .0) (s .args .r) (n .0 .0 .0 .0 .0 .0 .0 .0 .0 .0 .0 .0 .0 .0 .1)
+    unchanged (s .args .site .settings) (reading (s .args .book .now)) (s .pre .0) (s .args .r) (n .0 .0 .0 .0 .0 .0 .0 .0 .0 .0 .0 .0 .0 .0 .1)
     (n .0 .0 .0 .0 .0 .0 .0 .0 .0 .0 .0 .0 .0 .1) (s .pre .1 .1 .1) (n .0 .0 .0 .0 .0 .0 .0 .0 .0 .0 .0 .0 .1)
     (n .0 .0 .0 .0 .0 .0 .0 .0 .0 .0 .0 .1) (n .0 .0 .0 .0 .0 .0 .0 .0 .0 .0 .1) (n .0 .0 .0 .0 .0 .0 .0 .0 .0 .1) (n .0 .0 .0 .0 .0 .0 .0 .0 .1)
     (n .0 .0 .0 .0 .0 .0 .0 .1) (n .0 .0 .0 .0 .0 .0 .1) (n .0 .0 .0 .0 .0 .1) (n .0 .0 .0 .0 .1) (n .0 .0 .0 .1) (n .0 .0 .1) (n .0 .1) (n .1)

@@ -21,8 +21,8 @@ turn-requires c κs =
     let s = c .before .before in
     let a = s .args in
     let e = ap (λ (g : Grids). g .leave) (s .pre .1 .0) in (
-      span-of (a .s) (reading (a .book .now)) (s .pre .0) leaves (a .g .leave) e (reading (a .book .now)) (λ f l. l) (a .date .0) (s .pre .1 .1 .1),
-      item-of (a .s) leaves (a .g .leave) e _ (group-lt (a .s .visitors) (a .v) (s .pre .1 .1 .0)),
+      span-of (a .site .settings) (reading (a .book .now)) (s .pre .0) leaves (a .site .grids .leave) e (reading (a .book .now)) (λ f l. l) (a .date .0) (s .pre .1 .1 .1),
+      item-of (a .site .settings) leaves (a .site .grids .leave) e _ (group-lt (a .site .settings .visitors) (a .v) (s .pre .1 .1 .0)),
     )
 
 add-sweep-run : tie.Need-add-sweep-run
@@ -35,8 +35,8 @@ sweep-run-requires : tie.Need-sweep-run-requires
 sweep-run-requires c κs =
     let s = c .before .before .before .before .before .before .before .before in
     let a = s .args in
-    let q : Single (a .g .hotel) _ (a .date .0 + 1)
-    = single-of (a .s) (reading (a .book .now)) (s .pre .0) hotelCells (a .g .hotel) (ap (λ (g : Grids). g .hotel) (s .pre .1 .0)) _
+    let q : Single (a .site .grids .hotel) _ (a .date .0 + 1)
+    = single-of (a .site .settings) (reading (a .book .now)) (s .pre .0) hotelCells (a .site .grids .hotel) (ap (λ (g : Grids). g .hotel) (s .pre .1 .0)) _
     (c .before .before .before .before .before .turn .ensures .stays) refl (a .date .0 + 1) (omega (arith, s .pre .1 .1 .1)) in
     (q .lies, (q .narrow, q .most))
 
@@ -52,8 +52,8 @@ sweep-run-requires-2 c κs =
     let leave = hotel .before .before .before .before .before .before in
     let s = leave .before .before .before in
     let a = s .args in
-    let q : Single (a .g .ride) _ _
-    = single-of (a .s) (reading (a .book .now)) (s .pre .0) rideCells (a .g .ride) (ap (λ (g : Grids). g .ride) (s .pre .1 .0)) _
+    let q : Single (a .site .grids .ride) _ _
+    = single-of (a .site .settings) (reading (a .book .now)) (s .pre .0) rideCells (a .site .grids .ride) (ap (λ (g : Grids). g .ride) (s .pre .1 .0)) _
     (wrote-then (leave .turn .ensures) (hotel .sweep-run .ensures .wrote) .stays) refl _ (c .before .before .times-on .ensures .ends .most) in
     (q .lies, (q .narrow, q .most))
 
@@ -69,10 +69,10 @@ empty-column-requires c κs =
     let a = s .args in
     let e = ap (λ (g : Grids). g .attend) (s .pre .1 .0) in
     let w = wrote-then (leave .turn .ensures) (wrote-then (hotel .sweep-run .ensures .wrote) (ride .sweep-run2 .ensures .wrote)) in
-    let q : Single (a .g .attend) _ _
-    = single-of (a .s) (reading (a .book .now)) (s .pre .0) attendCells (a .g .attend) e _ (w .stays) refl _
+    let q : Single (a .site .grids .attend) _ _
+    = single-of (a .site .settings) (reading (a .book .now)) (s .pre .0) attendCells (a .site .grids .attend) e _ (w .stays) refl _
     (c .before .before .sessions-on .ensures .ends .most) in
-    (q .lies, (q .narrow, (q .most, item-of (a .s) attendCells (a .g .attend) e (a .v) (s .pre .1 .1 .0))))
+    (q .lies, (q .narrow, (q .most, item-of (a .site .settings) attendCells (a .site .grids .attend) e (a .v) (s .pre .1 .1 .0))))
 
 add-result : tie.Need-add-result
 add-result c =
@@ -92,7 +92,7 @@ add-result-2 c =
       hotel .sweep-run .ensures .few,
       emptied-few (c .before .before .empty-column .ensures),
       u .ensures .ends .most,
-      all-sessions (s .args .s) (s .pre .0 .ranges),
+      all-sessions (s .args .site .settings) (s .pre .0 .ranges),
     )
 
 same-length : tie.Need-same-length

@@ -12,11 +12,11 @@ use Rattle.apply.proofs.removal.remove_visitor.Statement.{statement}
 use Rattle.apply.proofs.removal.remove_visitor.Tie as tie
 
 abbrev Inv-loop : tie.InvT-loop
-Inv-loop book₀ s g v last n₀ date₀ book n date =
-    (length book ≡ length book₀) × Removing s v (date₀ .0) (last .0) (reading book₀) (date .0) (reading book) n
+Inv-loop book₀ site v last n₀ date₀ book n date =
+    (length book ≡ length book₀) × Removing (site .settings) v (date₀ .0) (last .0) (reading book₀) (date .0) (reading book) n
 
 abbrev μ-loop : tie.MeasureT-loop
-μ-loop book₀ s g v last n₀ date₀ book n date = suc (last .0) - date .0
+μ-loop book₀ site v last n₀ date₀ book n date = suc (last .0) - date .0
 
 loop-holds : tie.Need-loop-holds Inv-loop μ-loop
 loop-holds c = (refl, record { good = c .before .pre .0; rest = refl; count = omega arith })

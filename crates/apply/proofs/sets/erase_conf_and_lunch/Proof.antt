@@ -29,8 +29,8 @@ drop-requires c κs =
     let s = c .before .before in
     let a = s .args in
     let e = ap (λ (g : Grids). g .conf) (s .pre .1 .0) in (
-      span-of (a .s) (reading (a .book .now)) (s .pre .0) confPairs (a .g .conf) e (reading (a .book .now)) (λ f l. l) (a .last .0)
-          (last-of (a .s) (a .g .conf) e (a .last .0) (s .pre .1 .1 .0)),
+      span-of (a .site .settings) (reading (a .book .now)) (s .pre .0) confPairs (a .site .grids .conf) e (reading (a .book .now)) (λ f l. l) (a .last .0)
+          (last-of (a .site .settings) (a .site .grids .conf) e (a .last .0) (s .pre .1 .1 .0)),
       omega (arith, s .pre .0 .ranges .meetings, s .pre .1 .1 .1),
     )
 
@@ -45,11 +45,11 @@ take-requires c κs =
     let s = c .before .before .before .before .before .before .before .before in
     let a = s .args in
     let e = ap (λ (g : Grids). g .lunch) (s .pre .1 .0) in
-    let q = last-of (a .s) (a .g .conf) (ap (λ (g : Grids). g .conf) (s .pre .1 .0)) (a .last .0) (s .pre .1 .1 .0) in (
-      span-of (a .s) (reading (a .book .now)) (s .pre .0) lunchTriples (a .g .lunch) e _
+    let q = last-of (a .site .settings) (a .site .grids .conf) (ap (λ (g : Grids). g .conf) (s .pre .1 .0)) (a .last .0) (s .pre .1 .1 .0) in (
+      span-of (a .site .settings) (reading (a .book .now)) (s .pre .0) lunchTriples (a .site .grids .lunch) e _
           (c .before .before .before .before .before .drop .ensures .stays) _
-          (omega (arith, c .before .date-of-session2 .ensures, date-lt (a .s) (s .pre .0 .ranges) sessions (a .last .0) q)),
-      item-of (a .s) lunchTriples (a .g .lunch) e (a .b) (s .pre .1 .1 .1),
+          (omega (arith, c .before .date-of-session2 .ensures, date-lt (a .site .settings) (s .pre .0 .ranges) sessions (a .last .0) q)),
+      item-of (a .site .settings) lunchTriples (a .site .grids .lunch) e (a .b) (s .pre .1 .1 .1),
     )
 
 same-length : tie.Need-same-length
@@ -59,12 +59,12 @@ returns : tie.Need-returns
 returns c =
     let a = c .before .before .before .before .before .before .before .before .before .before .before .args in
     let w = wrote-then (c .before .before .before .before .before .before .before .before .drop .ensures) (c .before .before .take .ensures) in
-    let x = swept (a .g .conf) (a .b + 1) (a .first .0) (a .last .0 + 1) (reading (a .book .now)) in
+    let x = swept (a .site .grids .conf) (a .b + 1) (a .first .0) (a .last .0 + 1) (reading (a .book .now)) in
     record {
       is = w .is
-          ∙ ap (λ (d : ℕ). filled (a .g .lunch) (a .b) empty d (c .before .before .before .before .date-of-session2 .result .0 + 1) x)
+          ∙ ap (λ (d : ℕ). filled (a .site .grids .lunch) (a .b) empty d (c .before .before .before .before .date-of-session2 .result .0 + 1) x)
           (c .before .before .before .before .before .date-of-session .ensures)
-          ∙ ap (λ (d : ℕ). filled (a .g .lunch) (a .b) empty (dateOfSession (a .s) (a .first .0)) (d + 1) x)
+          ∙ ap (λ (d : ℕ). filled (a .site .grids .lunch) (a .b) empty (dateOfSession (a .site .settings) (a .first .0)) (d + 1) x)
           (c .before .before .before .before .date-of-session2 .ensures);
       stays = w .stays;
     }

@@ -1,6 +1,6 @@
 -- `step::removed`: refused by the first no of questions 4 to 7, and else the removal's words and its count.
 -- Assumes nothing.
-use mathlib.Core.Path.{_∙_, ap}
+use mathlib.Core.Path.{refl, _∙_, ap}
 use native.Mathlib.Omega.{arith}
 use borrow.Author.Needs.{needs}
 use Rattle.book.proofs.Goods.{good-laid}
@@ -22,8 +22,8 @@ returns c =
     removal-refused (s .pre .0) (s .args .r) (s .pre .1) _
     (c .before .first-no .ensures ∙ ap (λ (w : Row). fieldsNo w (s .args .r)) (c .before .before .row-of .ensures)) (c .if1 .taken)
 
-grids-of-requires : tie.Need-grids-of-requires
-grids-of-requires c κs = good-laid (c .before .before .before .before .pre .0) .ranges
+site-of-requires : tie.Need-site-of-requires
+site-of-requires c κs = good-laid (c .before .before .before .before .pre .0) .ranges
 
 remove-visitor-requires : tie.Need-remove-visitor-requires
 remove-visitor-requires c κs =
@@ -31,7 +31,7 @@ remove-visitor-requires c κs =
     let h = removal-ready (s .pre .0) (s .args .r) (s .pre .1) _
     (c .before .before .before .first-no .ensures ∙ ap (λ (w : Row). fieldsNo w (s .args .r)) (c .before .before .before .before .row-of .ensures))
     (c .before .before .if1 .left) in
-    (s .pre .0, (c .before .grids-of .ensures, (h .b, h .slot)))
+    rw (c .before .site-of .ensures) (s .pre .0, (refl, (h .b, h .slot)))
 
 same-length : tie.Need-same-length
 same-length c = search needs
@@ -52,7 +52,7 @@ removed-spec =
     row-of-requires
     first-no-requires
     returns
-    grids-of-requires
+    site-of-requires
     remove-visitor-requires
     same-length
     returns-2)

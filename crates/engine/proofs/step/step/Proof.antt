@@ -1,6 +1,6 @@
 -- `step::step`: kind 3 by itself; every other kind is judged, and written where it is done.
 -- Assumes nothing.
-use mathlib.Core.Path.{sym, _∙_, ap, ap₂}
+use mathlib.Core.Path.{refl, sym, _∙_, ap, ap₂}
 use borrow.Author.Needs.{needs}
 use Rattle.book.specs.Good.{answered}
 use Rattle.book.proofs.Goods.{good-laid}
@@ -18,11 +18,11 @@ same-length c = search needs
 returns : tie.Need-returns
 returns c = search needs
 
-grids-of-requires : tie.Need-grids-of-requires
-grids-of-requires c κs = good-laid (c .before .before .pre) .ranges
+site-of-requires : tie.Need-site-of-requires
+site-of-requires c κs = good-laid (c .before .before .pre) .ranges
 
 judge-requires : tie.Need-judge-requires
-judge-requires c κs = search needs
+judge-requires c κs = rw (c .before .site-of .ensures) (c .before .before .before .before .pre, refl)
 
 enum-known-answer : tie.Need-enum-known-answer
 enum-known-answer c = search needs
@@ -40,10 +40,11 @@ enum-told c = search needs
 
 apply-requires : tie.Need-apply-requires
 apply-requires c κs =
-    let s = c .before .before .before .before .before .before .before .before in (
+    let s = c .before .before .before .before .before .before .before .before in
+    rw (c .before .before .before .before .before .site-of .ensures) (
       s .pre,
       (
-        c .before .before .before .before .before .grids-of .ensures,
+        refl,
         (
           ap accepted (sym (c .before .before .before .judge .ensures) ∙ c .before .enum-told .given .1),
           c .before .before .before .before .before .before .if1 .left,
@@ -64,7 +65,7 @@ step-spec =
     removed-requires
     same-length
     returns
-    grids-of-requires
+    site-of-requires
     judge-requires
     enum-known-answer
     same-length-2

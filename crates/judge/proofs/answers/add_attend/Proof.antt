@@ -39,7 +39,7 @@ first-not-member-requires : tie.Need-first-not-member-requires
 first-not-member-requires c κs =
     let p = c .before .before .before .before .before .before .pre in
     let a = c .before .before .before .before .before .before .args in
-    ground (p .0) standings (ap (λ (g : Grids). g .standing) (p .1 .0)) (p .1 .1 .0) (group-lt (a .s .meetings) (a .a) (p .1 .1 .1 .0))
+    ground (p .0) standings (ap (λ (g : Grids). g .standing) (p .1 .0)) (p .1 .1 .0) (group-lt (a .site .settings .meetings) (a .a) (p .1 .1 .1 .0))
 
 enum-known-i-2 : tie.Need-enum-known-i-2
 enum-known-i-2 c = search needs

@@ -17,7 +17,7 @@ first-not-member-requires : tie.Need-first-not-member-requires
 first-not-member-requires c κs =
     let p = c .before .before .pre in
     let a = c .before .before .args in
-    ground (p .0) leaves (ap (λ (g : Grids). g .leave) (p .1 .0)) (p .1 .1 .0) (group-lt (a .s .visitors) (a .b) (p .1 .1 .1 .1))
+    ground (p .0) leaves (ap (λ (g : Grids). g .leave) (p .1 .0)) (p .1 .1 .0) (group-lt (a .site .settings .visitors) (a .b) (p .1 .1 .1 .1))
 
 enum-known-i : tie.Need-enum-known-i
 enum-known-i c = search needs

@@ -55,8 +55,8 @@ first-with-requires : tie.Need-first-with-requires
 first-with-requires c κs =
     let p = c .before .before .before .before .before .before .before .before .pre in
     let a = c .before .before .before .before .before .before .before .before .args in
-    let d : c .before .date-of-session2 .result .0 < a .s .dates =
-    rw (c .before .date-of-session2 .ensures) (date-lt (a .s) (good-laid (p .0) .ranges) sessions (a .last .0) (p .1 .1 .0)) in
+    let d : c .before .date-of-session2 .result .0 < a .site .settings .dates =
+    rw (c .before .date-of-session2 .ensures) (date-lt (a .site .settings) (good-laid (p .0) .ranges) sessions (a .last .0) (p .1 .1 .0)) in
     ground (p .0) lunchTriples (ap (λ (g : Grids). g .lunch) (p .1 .0)) d (p .1 .1 .1)
 
 settled-requires : tie.Need-settled-requires
@@ -69,7 +69,7 @@ returns-2 c =
     let a = c .before .before .before .before .before .before .before .before .before .before .args in
     let from = c .before .before .before .before .date-of-session in
     let to = c .before .before .before .date-of-session2 in
-    let d : to .result .0 < a .s .dates = rw (to .ensures) (date-lt (a .s) (good-laid (p .0) .ranges) sessions (a .last .0) (p .1 .1 .0)) in
+    let d : to .result .0 < a .site .settings .dates = rw (to .ensures) (date-lt (a .site .settings) (good-laid (p .0) .ranges) sessions (a .last .0) (p .1 .1 .0)) in
     rw (
       ← (c .before .before .before .before .before .before .before .first-row-without .ensures
           ∙ conf-fail (p .0) (p .1 .0) (a .first .0) (a .last .0) (a .b) (p .1 .1 .1) (p .1 .1 .0)),

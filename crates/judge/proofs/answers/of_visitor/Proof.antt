@@ -31,7 +31,7 @@ unfolding kindOf
 bookings-requires c κs =
     let p = c .before .before .pre in
     let h = ready-at 3 (c .match .keys3) (p .1 .1 .1 .1) in
-    (p .0, (h .b, (omega (arith, h .order), omega (arith, h .order, h .slot))))
+    (p .0, (p .1 .0, (h .b, (h .order, h .slot))))
 
 add-hotel-requires : tie.Need-add-hotel-requires
 unfolding kindOf

@@ -44,10 +44,10 @@ column-count-requires c κs =
       (
         rw (s .pre .1 .0) (s .pre .1 .1 .0),
         rw (s .pre .1 .0) (
-          run-order (s .args .s) sessions _ _ _ _ p (omega arith),
+          run-order (s .args .site .settings) sessions _ _ _ _ p (omega arith),
           p .ends .most,
           omega
-              (arith, all-sessions (s .args .s) (good-laid (s .pre .0) .ranges)),
+              (arith, all-sessions (s .args .site .settings) (good-laid (s .pre .0) .ranges)),
         ),
       ),
     )
@@ -62,7 +62,7 @@ rows-count-requires c κs =
     let s = c .before .before .before .before .before .before .before in
     let t = c .before .before .times-on .ensures in (
       rw (s .pre .1 .0) (good-lies (s .pre .0) rideCells),
-      (rw (s .pre .1 .0) refl, rw (s .pre .1 .0) (run-order (s .args .s) times _ _ _ _ t (omega arith), t .ends .most)),
+      (rw (s .pre .1 .0) refl, rw (s .pre .1 .0) (run-order (s .args .site .settings) times _ _ _ _ t (omega arith), t .ends .most)),
     )
 
 add-result : tie.Need-add-result
@@ -72,7 +72,7 @@ add-result c =
     let e1 = rw (s .pre .1 .0) at (c .before .before .row-count .ensures) in
     let e2 = rw (s .pre .1 .0) at (c .before .column-count .ensures) in
     let e3 = rw (s .pre .1 .0) at (c .rows-count .ensures) in
-    let k = bookings-is (a .s) (reading (a .book .now)) (s .pre .0) (a .visitor) (a .date .0) (s .pre .1 .1 .0) (s .pre .1 .1 .1) _ _ _ _
+    let k = bookings-is (a .site .settings) (reading (a .book .now)) (s .pre .0) (a .visitor) (a .date .0) (s .pre .1 .1 .0) (s .pre .1 .1 .1) _ _ _ _
     (c .before .before .before .before .sessions-on .ensures) (c .before .before .before .times-on .ensures) in
     omega (arith, e1, e2, e3, k, bookings-few (s .pre .0) (a .visitor) (a .date .0) (a .date .0))
 
@@ -83,7 +83,7 @@ add-result-2 c =
     let e1 = rw (s .pre .1 .0) at (c .before .before .row-count .ensures) in
     let e2 = rw (s .pre .1 .0) at (c .before .column-count .ensures) in
     let e3 = rw (s .pre .1 .0) at (c .rows-count .ensures) in
-    let k = bookings-is (a .s) (reading (a .book .now)) (s .pre .0) (a .visitor) (a .date .0) (s .pre .1 .1 .0) (s .pre .1 .1 .1) _ _ _ _
+    let k = bookings-is (a .site .settings) (reading (a .book .now)) (s .pre .0) (a .visitor) (a .date .0) (s .pre .1 .1 .0) (s .pre .1 .1 .1) _ _ _ _
     (c .before .before .before .before .sessions-on .ensures) (c .before .before .before .times-on .ensures) in
     omega (arith, e1, e2, e3, k, bookings-few (s .pre .0) (a .visitor) (a .date .0) (a .date .0))
 
@@ -94,7 +94,7 @@ returns-2 c =
     let e1 = rw (s .pre .1 .0) at (c .before .before .row-count .ensures) in
     let e2 = rw (s .pre .1 .0) at (c .before .column-count .ensures) in
     let e3 = rw (s .pre .1 .0) at (c .rows-count .ensures) in
-    let k = bookings-is (a .s) (reading (a .book .now)) (s .pre .0) (a .visitor) (a .date .0) (s .pre .1 .1 .0) (s .pre .1 .1 .1) _ _ _ _
+    let k = bookings-is (a .site .settings) (reading (a .book .now)) (s .pre .0) (a .visitor) (a .date .0) (s .pre .1 .1 .0) (s .pre .1 .1 .1) _ _ _ _
     (c .before .before .before .before .sessions-on .ensures) (c .before .before .before .times-on .ensures) in
     omega (arith, e1, e2, e3, k)
 

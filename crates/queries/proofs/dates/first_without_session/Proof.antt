@@ -20,11 +20,11 @@ use Rattle.queries.proofs.dates.first_without_session.Statement.{statem
 use Rattle.queries.proofs.dates.first_without_session.Tie as tie
 
 abbrev Inv-loop : tie.InvT-loop
-Inv-loop book s g meeting last date₀ from₀ date from = (date₀ .0 ≤ date .0) × Cut s sessions (date .0) (from .0)
+Inv-loop book site meeting last date₀ from₀ date from = (date₀ .0 ≤ date .0) × Cut (site .settings) sessions (date .0) (from .0)
     × ((d : ℕ) → date₀ .0 ≤ d → d < date .0 → standsOn (stateOf (reading book)) d meeting ≡ true)
 
 abbrev μ-loop : tie.MeasureT-loop
-μ-loop book s g meeting last date₀ from₀ date from = suc (last .0) - date .0
+μ-loop book site meeting last date₀ from₀ date from = suc (last .0) - date .0
 
 first-session-requires : tie.Need-first-session-requires Inv-loop μ-loop
 first-session-requires c κs = let p = c .before .pre in (good-laid (p .0) .ranges, omega (arith, p .1 .1 .1))
@@ -49,7 +49,7 @@ member-between-requires c κs =
       (
         rw (s .pre .1 .0) (c .first-session2 .ensures .most),
         rw (s .pre .1 .0)
-            (group-lt (s .args .s .meetings) (s .args .meeting) (s .pre .1 .1 .0)),
+            (group-lt (s .args .site .settings .meetings) (s .args .meeting) (s .pre .1 .1 .0)),
       ),
     )
 
@@ -61,7 +61,7 @@ returns c =
     let to = rw (c .before .before .before .after .ensures) at (c .before .before .first-session2 .ensures) in
     ap foundOf
     (sym (failing-at _ _ _ (l .date .0) (l .inv .0) (c .before .before .before .before .if1 .taken)
-    (sym (date-bits (s .args .s) (reading (s .args .book .now)) (s .pre .0) (l .date .0) (s .args .meeting) _ _ (l .inv .1) to (s .pre .1 .1 .0))
+    (sym (date-bits (s .args .site .settings) (reading (s .args .book .now)) (s .pre .0) (l .date .0) (s .args .meeting) _ _ (l .inv .1) to (s .pre .1 .1 .0))
     ∙ sym e ∙ not-true _ (c .if2 .taken)) (l .inv .2)))
 
 loop-less : tie.Need-loop-less Inv-loop μ-loop
@@ -75,7 +75,7 @@ loop-again c =
     let e = rw (s .pre .1 .0) at (c .before .member-between .ensures) in
     let to = rw n at (c .before .before .first-session2 .ensures) in
     let q = passed-more _ _ _ (l .inv .2)
-    (sym (date-bits (s .args .s) (reading (s .args .book .now)) (s .pre .0) (l .date .0) (s .args .meeting) _ _ (l .inv .1) to (s .pre .1 .1 .0))
+    (sym (date-bits (s .args .site .settings) (reading (s .args .book .now)) (s .pre .0) (l .date .0) (s .args .meeting) _ _ (l .inv .1) to (s .pre .1 .1 .0))
     ∙ sym e ∙ not-false _ (c .if2 .left)) in
     (omega (arith, n), c .before .before .first-session2 .ensures, λ d g h. q d g (omega (arith, n, h)))
 

@@ -19,7 +19,7 @@ returns : tie.Need-returns
 returns c =
     let s = c .before .before in
     let a = s .args in
-    c .row-members .ensures ∙ rw (s .pre .1 .0) (members-is (a .s) (reading (a .book .now)) (s .pre .0) (a .date .0) (s .pre .1 .1))
+    c .row-members .ensures ∙ rw (s .pre .1 .0) (members-is (a .site .settings) (reading (a .book .now)) (s .pre .0) (a .date .0) (s .pre .1 .1))
 
 pub members-spec : {M : Type 1} → statement M
 members-spec = tie.close (tie.spec row-members-requires returns)

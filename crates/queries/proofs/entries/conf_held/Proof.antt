@@ -22,7 +22,7 @@ returns c =
     let s = c .before .before in
     let a = s .args in
     c .row-has .ensures
-    ∙ rw (s .pre .1 .0) (sym (conf-held-is (a .s) (reading (a .book .now)) (s .pre .0) (a .session .0) (a .meeting) (s .pre .1 .1 .0)
+    ∙ rw (s .pre .1 .0) (sym (conf-held-is (a .site .settings) (reading (a .book .now)) (s .pre .0) (a .session .0) (a .meeting) (s .pre .1 .1 .0)
     (s .pre .1 .1 .1)))
 
 pub conf-held-spec : {M : Type 1} → statement M

@@ -21,7 +21,7 @@ returns c =
     let s = c .before .before in
     let a = s .args in
     ap (λ (w : ℕ). not (eqb w 0)) (c .cell .ensures)
-    ∙ rw (s .pre .1 .0) (sym (lunch-held-is (a .s) (reading (a .book .now)) (s .pre .0) (a .date .0) (a .meeting) (s .pre .1 .1 .0)
+    ∙ rw (s .pre .1 .0) (sym (lunch-held-is (a .site .settings) (reading (a .book .now)) (s .pre .0) (a .date .0) (a .meeting) (s .pre .1 .1 .0)
     (s .pre .1 .1 .1)))
 
 pub lunch-held-spec : {M : Type 1} → statement M

@@ -20,19 +20,19 @@ returns c =
     let s = c .before .before .before in
     let a = s .args in
     let z = rw (s .pre .1 .0) at (sym (c .before .cell .ensures) ∙ c .if1 .taken) in
-    sym (ap foundOf (meeting-of-is (a .s) (reading (a .book .now)) (s .pre .0) (a .session .0) (a .visitor) (s .pre .1 .1 .0) (s .pre .1 .1 .1)
+    sym (ap foundOf (meeting-of-is (a .site .settings) (reading (a .book .now)) (s .pre .0) (a .session .0) (a .visitor) (s .pre .1 .1 .0) (s .pre .1 .1 .1)
     ∙ ap held z))
 
-sub-t8 : tie.Need-sub-t8
-sub-t8 c = search needs
+sub-t7 : tie.Need-sub-t7
+sub-t7 c = search needs
 
 returns-2 : tie.Need-returns-2
 returns-2 c =
     let s = c .before .before .before in
     let a = s .args in
     let z = rw (s .pre .1 .0) at (sym (c .before .cell .ensures)) in
-    sym (ap foundOf (meeting-of-is (a .s) (reading (a .book .now)) (s .pre .0) (a .session .0) (a .visitor) (s .pre .1 .1 .0) (s .pre .1 .1 .1)
+    sym (ap foundOf (meeting-of-is (a .site .settings) (reading (a .book .now)) (s .pre .0) (a .session .0) (a .visitor) (s .pre .1 .1 .0) (s .pre .1 .1 .1)
     ∙ ap held z ∙ held-full (c .before .cell .result) (c .if1 .left)))
 
 pub meeting-of-spec : {M : Type 1} → statement M
-meeting-of-spec = tie.close (tie.spec cell-requires returns sub-t8 returns-2)
+meeting-of-spec = tie.close (tie.spec cell-requires returns sub-t7 returns-2)

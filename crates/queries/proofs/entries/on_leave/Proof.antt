@@ -13,7 +13,7 @@ member-requires : tie.Need-member-requires
 member-requires c κs =
     let s = c .before in (
       rw (s .pre .1 .0) (good-lies (s .pre .0) leaves),
-      (rw (s .pre .1 .0) (s .pre .1 .1 .0), rw (s .pre .1 .0) (group-lt (s .args .s .visitors) (s .args .visitor) (s .pre .1 .1 .1))),
+      (rw (s .pre .1 .0) (s .pre .1 .1 .0), rw (s .pre .1 .0) (group-lt (s .args .site .settings .visitors) (s .args .visitor) (s .pre .1 .1 .1))),
     )
 
 returns : tie.Need-returns
@@ -21,7 +21,7 @@ returns c =
     let s = c .before .before in
     let a = s .args in
     c .member .ensures
-    ∙ rw (s .pre .1 .0) (sym (leave-is (a .s) (reading (a .book .now)) (s .pre .0) (a .date .0) (a .visitor) (s .pre .1 .1 .0) (s .pre .1 .1 .1)))
+    ∙ rw (s .pre .1 .0) (sym (leave-is (a .site .settings) (reading (a .book .now)) (s .pre .0) (a .date .0) (a .visitor) (s .pre .1 .1 .0) (s .pre .1 .1 .1)))
 
 pub on-leave-spec : {M : Type 1} → statement M
 on-leave-spec = tie.close (tie.spec member-requires returns)

@@ -19,17 +19,17 @@ use Rattle.queries.proofs.rooms.lowest_free.Statement.{statement}
 use Rattle.queries.proofs.rooms.lowest_free.Tie as tie
 
 abbrev Inv-loop : tie.InvT-loop
-Inv-loop book g rooms from to next room slot₀ slot = (from ≤ slot) × (slot ≤ to)
+Inv-loop book site rooms from to next room slot₀ slot = (from ≤ slot) × (slot ≤ to)
     × ((k : ℕ) → from ≤ k → k < slot → roomTaken (stateOf (reading book)) room k ≡ false)
 
 abbrev μ-loop : tie.MeasureT-loop
-μ-loop book g rooms from to next room slot₀ slot = to - slot
+μ-loop book site rooms from to next room slot₀ slot = to - slot
 
 abbrev Inv-rooms : tie.InvT-rooms
-Inv-rooms book g rooms from to next₀ next = (next ≤ rooms) × ((c : ℕ) → c < next → freeIn (stateOf (reading book)) from to c ≡ false)
+Inv-rooms book site rooms from to next₀ next = (next ≤ rooms) × ((c : ℕ) → c < next → freeIn (stateOf (reading book)) from to c ≡ false)
 
 abbrev μ-rooms : tie.MeasureT-rooms
-μ-rooms book g rooms from to next₀ next = rooms - next
+μ-rooms book site rooms from to next₀ next = rooms - next
 
 rooms-holds : tie.Need-rooms-holds Inv-loop μ-loop Inv-rooms μ-rooms
 rooms-holds c = (search needs, λ k h. absurd (omega (arith, h)))
@@ -57,7 +57,7 @@ rooms-again c =
     let r = c .before .before .before .before .before .rooms in
     let l = c .before .before .before .loop in
     let e = rw (s .pre .1 .0) at (c .before .cell .ensures) in
-    let t = room-taken-is (a .s) (reading (a .book .now)) (s .pre .0) (r .next) (l .slot) (omega (arith, s .pre .1 .1 .1)) (omega arith) in (
+    let t = room-taken-is (a .site .settings) (reading (a .book .now)) (s .pre .0) (r .next) (l .slot) (omega (arith, s .pre .1 .1 .1)) (omega arith) in (
       omega arith,
       passed-false _ (r .next) (r .inv .1)
           (free-no (stateOf (reading (a .book .now))) (a .first .0) (a .last .0) (r .next) (l .slot) (l .inv .0) (l .inv .1)
@@ -77,7 +77,7 @@ loop-again c =
     let r = c .before .before .before .before .before .before .rooms in
     let l = c .before .before .before .before .loop in
     let e = rw (s .pre .1 .0) at (c .before .before .cell .ensures) in
-    let t = room-taken-is (a .s) (reading (a .book .now)) (s .pre .0) (r .next) (l .slot) (omega (arith, s .pre .1 .1 .1)) (omega arith) in
+    let t = room-taken-is (a .site .settings) (reading (a .book .now)) (s .pre .0) (r .next) (l .slot) (omega (arith, s .pre .1 .1 .1)) (omega arith) in
     (omega arith, omega arith, passed-from _ _ (l .slot) (l .inv .2) (t ∙ rw (← e) (ap not (eq-eqb _ 0 (c .before .if2 .left)))))
 
 returns : tie.Need-returns Inv-loop μ-loop Inv-rooms μ-rooms
@@ -86,7 +86,7 @@ returns c =
     let s = c .before .before .before in
     let a = s .args in
     let r = c .before .rooms in
-    let n : stateOf (reading (a .book .now)) .settings .rooms ≡ a .s .rooms = ap (λ (x : State). x .settings .rooms) (good-state (s .pre .0)) in
+    let n : stateOf (reading (a .book .now)) .settings .rooms ≡ a .site .settings .rooms = ap (λ (x : State). x .settings .rooms) (good-state (s .pre .0)) in
     lowest-none (stateOf (reading (a .book .now))) (a .first .0) (a .last .0) (λ k h. r .inv .1 k (omega (arith, h, n, c .if1 .taken)))
 
 returns-2 : tie.Need-returns-2 Inv-loop μ-loop Inv-rooms μ-rooms
@@ -99,9 +99,9 @@ returns-3 c =
     let a = s .args in
     let r = c .before .before .before .before .before .before .rooms in
     let l = c .before .before .before .before .loop in
-    let n : stateOf (reading (a .book .now)) .settings .rooms ≡ a .s .rooms = ap (λ (x : State). x .settings .rooms) (good-state (s .pre .0)) in
+    let n : stateOf (reading (a .book .now)) .settings .rooms ≡ a .site .settings .rooms = ap (λ (x : State). x .settings .rooms) (good-state (s .pre .0)) in
     let e = rw (s .pre .1 .0) at (c .before .before .cell .ensures) in
-    let t = room-taken-is (a .s) (reading (a .book .now)) (s .pre .0) (r .next) (l .slot) (omega (arith, s .pre .1 .1 .1)) (omega arith) in
+    let t = room-taken-is (a .site .settings) (reading (a .book .now)) (s .pre .0) (r .next) (l .slot) (omega (arith, s .pre .1 .1 .1)) (omega arith) in
     let all = passed-from _ _ (l .slot) (l .inv .2) (t ∙ rw (← e) (ap not (eq-eqb _ 0 (c .before .if2 .left)))) in
     lowest-at (stateOf (reading (a .book .now))) (a .first .0) (a .last .0) (r .next) (omega (arith, n)) (r .inv .1)
     (free-yes (stateOf (reading (a .book .now))) (a .first .0) (a .last .0) (r .next) (λ k h g. all k h (omega (arith, g))))

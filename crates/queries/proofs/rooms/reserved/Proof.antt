@@ -14,11 +14,11 @@ use Rattle.queries.proofs.rooms.reserved.Statement.{statement}
 use Rattle.queries.proofs.rooms.reserved.Tie as tie
 
 abbrev Inv-loop : tie.InvT-loop
-Inv-loop book s g date room meetings seats₀ m₀ seats m = (meetings ≡ s .meetings) × (m ≤ meetings)
+Inv-loop book site date room meetings seats₀ m₀ seats m = (meetings ≡ site .settings .meetings) × (m ≤ meetings)
     × (seats ≡ sum (λ k. seatsOf (stateOf (reading book) .lunch (date .0) room k)) m) × (seats ≤ 1000 * m)
 
 abbrev μ-loop : tie.MeasureT-loop
-μ-loop book s g date room meetings seats₀ m₀ seats m = meetings - m
+μ-loop book site date room meetings seats₀ m₀ seats m = meetings - m
 
 loop-holds : tie.Need-loop-holds Inv-loop μ-loop
 loop-holds c = (search needs, search needs, refl, search needs)
@@ -55,7 +55,7 @@ returns c =
     let s = c .before .before .before in
     let a = s .args in
     let l = c .before .loop in
-    let e : l .m ≡ a .s .meetings = omega arith in
+    let e : l .m ≡ a .site .settings .meetings = omega arith in
     let f : ℕ → ℕ = λ k. seatsOf (stateOf (reading (a .book .now)) .lunch (a .date .0) (a .room) k) in
     l .inv .2 ∙ ap (sum f) (e ∙ sym (ap (λ (x : State). x .settings .meetings) (good-state (s .pre .0))))
 

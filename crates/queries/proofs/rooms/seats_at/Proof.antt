@@ -23,7 +23,7 @@ returns c =
     let s = c .before .before .before in
     let a = s .args in
     let e = rw (s .pre .1 .0) at (c .before .cell .ensures) in
-    seats-other (a .s) (reading (a .book .now)) (s .pre .0) (a .date .0) (a .room) (a .meeting) (s .pre .1 .1 .0) (s .pre .1 .1 .1 .0)
+    seats-other (a .site .settings) (reading (a .book .now)) (s .pre .0) (a .date .0) (a .room) (a .meeting) (s .pre .1 .1 .0) (s .pre .1 .1 .1 .0)
     (s .pre .1 .1 .1 .1)
     (λ q. c .if1 .taken (e ∙ q))
 
@@ -40,9 +40,9 @@ returns-2 c =
     let a = s .args in
     let e = rw (s .pre .1 .0) at (c .before .before .cell .ensures) in
     let w = rw (s .pre .1 .0) at (c .word .ensures) in
-    seats-own (a .s) (reading (a .book .now)) (s .pre .0) (a .date .0) (a .room) (a .meeting) (s .pre .1 .1 .0) (s .pre .1 .1 .1 .0)
+    seats-own (a .site .settings) (reading (a .book .now)) (s .pre .0) (a .date .0) (a .room) (a .meeting) (s .pre .1 .1 .0) (s .pre .1 .1 .1 .0)
     (s .pre .1 .1 .1 .1)
-    _ (sym e ∙ c .before .if1 .left) (w ∙ word-is (a .s) (reading (a .book .now)) lunchTriples (a .date .0) (a .meeting) 1)
+    _ (sym e ∙ c .before .if1 .left) (w ∙ word-is (a .site .settings) (reading (a .book .now)) lunchTriples (a .date .0) (a .meeting) 1)
 
 pub seats-at-spec : {M : Type 1} → statement M
 seats-at-spec = tie.close (tie.spec cell-requires add-if1 returns word-requires returns-2)

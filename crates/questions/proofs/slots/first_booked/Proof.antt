@@ -17,10 +17,10 @@ turned r true e = ap not e
 turned r false e = ap not e
 
 abbrev Inv-loop : tie.InvT-loop
-Inv-loop book s g visitor last date₀ date = Passed (holdsIn s (stateOf (reading book)) NoBookings visitor 0) (date₀ .0) (date .0)
+Inv-loop book site visitor last date₀ date = Passed (holdsIn (site .settings) (stateOf (reading book)) NoBookings visitor 0) (date₀ .0) (date .0)
 
 abbrev μ-loop : tie.MeasureT-loop
-μ-loop book s g visitor last date₀ date = suc (last .0) - date .0
+μ-loop book site visitor last date₀ date = suc (last .0) - date .0
 
 loop-holds : tie.Need-loop-holds Inv-loop μ-loop
 loop-holds c = passed-none _ _

@@ -13,10 +13,10 @@ use Rattle.questions.proofs.slots.first_held.Statement.{statement}
 use Rattle.questions.proofs.slots.first_held.Tie as tie
 
 abbrev Inv-loop : tie.InvT-loop
-Inv-loop book s g meeting last i₀ i = Passed (holdsIn s (stateOf (reading book)) NotHeld meeting 0) i₀ i
+Inv-loop book site meeting last i₀ i = Passed (holdsIn (site .settings) (stateOf (reading book)) NotHeld meeting 0) i₀ i
 
 abbrev μ-loop : tie.MeasureT-loop
-μ-loop book s g meeting last i₀ i = suc (last .0) - i
+μ-loop book site meeting last i₀ i = suc (last .0) - i
 
 loop-holds : tie.Need-loop-holds Inv-loop μ-loop
 loop-holds c = passed-none _ _
@@ -33,7 +33,7 @@ returns c = passed-at (c .before .before .before .before .loop .inv) (c .before 
 add-i : tie.Need-add-i Inv-loop μ-loop
 add-i c =
     let s = c .before .before .before .before .before .before in
-    omega (arith, s .pre .1 .1 .0, c .before .before .if1 .taken, all-sessions (s .args .s) (good-laid (s .pre .0) .ranges))
+    omega (arith, s .pre .1 .1 .0, c .before .before .if1 .taken, all-sessions (s .args .site .settings) (good-laid (s .pre .0) .ranges))
 
 loop-less : tie.Need-loop-less Inv-loop μ-loop
 loop-less c = search needs

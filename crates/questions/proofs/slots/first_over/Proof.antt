@@ -11,10 +11,10 @@ use Rattle.questions.proofs.slots.first_over.Statement.{statement}
 use Rattle.questions.proofs.slots.first_over.Tie as tie
 
 abbrev Inv-loop : tie.InvT-loop
-Inv-loop book s g room n last date₀ date = Passed (holdsIn s (stateOf (reading book)) RoomLeft room n) (date₀ .0) (date .0)
+Inv-loop book site room n last date₀ date = Passed (holdsIn (site .settings) (stateOf (reading book)) RoomLeft room n) (date₀ .0) (date .0)
 
 abbrev μ-loop : tie.MeasureT-loop
-μ-loop book s g room n last date₀ date = suc (last .0) - date .0
+μ-loop book site room n last date₀ date = suc (last .0) - date .0
 
 loop-holds : tie.Need-loop-holds Inv-loop μ-loop
 loop-holds c = passed-none _ _

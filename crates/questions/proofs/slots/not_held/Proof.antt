@@ -17,7 +17,7 @@ lunch-held-requires c κs =
     let p = c .before .before .pre in
     let a = c .before .before .args in (
       p .0,
-      (p .1 .0, (rw (c .date-of-session .ensures) (date-lt (a .s) (good-laid (p .0) .ranges) sessions (a .session .0) (p .1 .1 .0)), p .1 .1 .1)),
+      (p .1 .0, (rw (c .date-of-session .ensures) (date-lt (a .site .settings) (good-laid (p .0) .ranges) sessions (a .session .0) (p .1 .1 .0)), p .1 .1 .1)),
     )
 
 returns : tie.Need-returns
