@@ -68,13 +68,18 @@ pub next-is : (l : List ℕ) {m n : Next} → NextOf l m → m ≡ n → NextOf 
 next-is l q e = subst (λ (k : Next). NextOf l k) e q
 
 module _ {S : Settings} {b : List ℕ} (l : List ℕ) (h : GoodBook S b) where
-  pub taken-frame : {a : Answer} {b′ : List ℕ} {r : Request} (n : ℕ) → NextOf l (Frame n r) → answered a b′ ≡ called (perform (ledgerOf b) (request r))
+  pub taken-frame : {a : Answer} {b′ : List ℕ} {r : Request} (n : ℕ) → NextOf l (Frame n r)
+      → answered a b′ ≡ called (perform (ledgerOf b) (request r))
       → TakenOf l b (record { used = n + 1; answer = a }) b′
   taken-frame {a} {b′} {r} n q e =
       let i : n + 1 - 1 ≡ n = omega arith in
       record {
         none = λ z. absurd (omega arith);
-        some = λ z. rw i (q .0, e ∙ ap called (sym (outcome-yes (ledgerOf b) (take n l) (q .1) ∙ ap (λ (p : Request). perform (ledgerOf b) (request p)) (sym (q .2)))));
+        some = λ z.
+            rw i (
+              q .0,
+              e ∙ ap called (sym (outcome-yes (ledgerOf b) (take n l) (q .1) ∙ ap (λ (p : Request). perform (ledgerOf b) (request p)) (sym (q .2)))),
+            );
       }
 
   pub taken-other : (n : ℕ) → NextOf l (Other n) → TakenOf l b (record { used = n + 1; answer = Refused 23 0 }) b

@@ -1,7 +1,8 @@
 -- `stream::answer_lines`: each turn answers the first line of what is left.
 -- Assumes nothing.
-use Prim.Native.Nat.{_+_, _-_, _≤_, _<_}
+use Prim.Native.Nat.{ℕ, _+_, _-_, _≤_, _<_}
 use mathlib.Core.Path.{sym, _∙_, subst}
+use mathlib.Core.List.{List}
 use native.Mathlib.Omega.{arith}
 use lib.ListN.{length}
 use borrow.Author.Needs.{needs}
@@ -62,14 +63,18 @@ Line = tie.After-put-answer-arg Inv-loop μ-loop
 used : (c : Line) → 0 < c .before .before .before .before .take-line .result .used
 used c = let n = c .before .if1 .left in omega arith
 
+abbrev chunk : Line → List ℕ
+chunk c =
+    let l = c .before .before .before .before .before .before .before .before in
+    l .before .before .before .before .before .before .before .args .chunk .now
+
 reach : (c : Line)
     → c .before .before .before .before .before .before .before .before .loop .i + c .before .before .before .before .take-line .result .used
-    ≤ length (c .before .before .before .before .before .before .before .before .before .before .before .before .before .before .before .args .chunk .now)
+    ≤ length (chunk c)
 reach c =
     let v = c .before .before .before .before .before .before .before .before .loop in
     let t = c .before .before .before .before .take-line in
-    in-reach (c .before .before .before .before .before .before .before .before .before .before .before .before .before .before .before .args .chunk .now)
-    (v .i) (t .result) (v .inv .within) (v .inv .good) (t .ensures) (used c)
+    in-reach (chunk c) (v .i) (t .result) (v .inv .within) (v .inv .good) (t .ensures) (used c)
 
 fits : (c : Line)
     → c .before .before .before .before .before .before .before .before .loop .at + answerBytes
