@@ -1,7 +1,7 @@
 -- The three answers of the model's check, what the answer done leaves to know, and question 2 by the two parts of a book.
 -- Assumes nothing.
-use Prim.Native.Nat.{ℕ, _-_, _≤_}
-use mathlib.Core.Path.{_≡_, refl, sym, _∙_, ap, subst}
+use Prim.Native.Nat.{ℕ, _-_}
+use mathlib.Core.Path.{_≡_, refl, ap, subst}
 use mathlib.Core.Bool.{Bool, true, false}
 use mathlib.Core.List.{List}
 use native.Mathlib.Omega.{arith}
@@ -12,9 +12,8 @@ use Rattle.model.specs.declared.Answer.the-variants.{Done, Refused}
 use Rattle.model.specs.Words.{diaryLength}
 use Rattle.model.specs.Reading.{settingsOf}
 use Rattle.model.specs.Tail.{tailKept}
-use Rattle.model.specs.Ledger.{bookLength}
 use Rattle.model.specs.Laws.{wellLaid, diaryLaid, lawful, diaryLawful}
-use Rattle.model.proofs.Ledger.{first-part, part-behind, laid-long, laid-diary}
+use Rattle.model.proofs.Ledger.{first-part, part-behind, laid-diary}
 use Rattle.model.specs.Calls.{check}
 use Rattle.book.specs.Good.{GoodBook}
 
@@ -42,10 +41,6 @@ module _ (b : List ℕ) where
 
 -- question 2 of a book that passes question 1, by its first n words and those behind them, where the diary has n
 module _ (b : List ℕ) (one : wellLaid b ≡ true) (S : Settings) (is : S ≡ settingsOf b) (n : ℕ) (here : n ≡ diaryLength S) where
-  pub diary-fits : n ≤ length b
-  unfolding bookLength
-  diary-fits = omega (arith, laid-long b one ∙ ap bookLength (sym is), here)
-
   pub first-laid : diaryLaid (take n b) ≡ true
   first-laid = subst (λ (d : List ℕ). diaryLaid d ≡ true) (first-part b is here) (laid-diary b one)
 

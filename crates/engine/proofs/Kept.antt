@@ -1,11 +1,10 @@
 -- A good book stays good: what a laying leaves, and what a step keeps.
 -- Assumes nothing.
-use Prim.Native.Nat.{ℕ, _≤_}
+use Prim.Native.Nat.{ℕ}
 use mathlib.Core.Path.{_≡_, sym, _∙_, ap, ap₂, subst}
 use mathlib.Core.Bool.{true}
 use mathlib.Core.List.{List, _∷_, _++_}
-use native.Mathlib.Omega.{arith}
-use lib.ListN.{length, take, drop}
+use lib.ListN.{take, drop}
 use Rattle.model.specs.declared.Settings.{Settings}
 use Rattle.model.specs.declared.Request.{Request}
 use Rattle.model.specs.declared.Answer.{Answer}
@@ -23,7 +22,7 @@ use Rattle.model.proofs.Ledger.{first-part, part-behind, behind-long, lawful-be
 use Rattle.model.proofs.Frame.{step-settings}
 use Rattle.model.proofs.Calls.{perform-sound, empty-ledger, fresh-words}
 use Rattle.book.specs.Good.{Good, GoodBook, answered, inWords}
-use Rattle.book.proofs.Goods.{good-state, good-part, part-fits, book-words}
+use Rattle.book.proofs.Goods.{good-state, good-part, book-words}
 
 -- a good diary is the words of the state that it shows
 pub good-diary : {S : Settings} {b : List ℕ} → Good S b → words (stateOf b) ≡ b
@@ -37,9 +36,6 @@ module _ {S : Settings} {b : List ℕ} (good : GoodBook S b) where
   -- the first n words are a good diary, where the diary has n
   pub part-good : (n : ℕ) → n ≡ diaryLength S → Good S (take n b)
   part-good n e = subst (Good S) (first-part b (good .read) e) (good-part good)
-
-  pub part-fits-in : (n : ℕ) → n ≡ diaryLength S → n ≤ length b
-  part-fits-in n e = omega (arith, e, part-fits good)
 
   -- a step on the first part of the book is a step of the machine: what stands behind it stays
   pub part-stepped : (n : ℕ) → n ≡ diaryLength S → (r : Request) {a : Answer} {c : List ℕ} → answered a c ≡ inWords (step (stateOf (take n b)) r)

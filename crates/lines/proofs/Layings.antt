@@ -13,9 +13,10 @@ use Rattle.model.specs.declared.Settings.{Settings}
 use Rattle.model.specs.declared.Answer.{Answer}
 use Rattle.model.specs.declared.Answer.the-variants as A
 use Rattle.model.specs.Site.{validSettings, settingsMost}
-use Rattle.model.specs.State.{State, emptyState}
-use Rattle.model.specs.Words.{bookLength}
-use Rattle.model.specs.Reading.{settingsOf, stateOf}
+use Rattle.model.specs.Machine.{told}
+use Rattle.model.specs.Words.{diaryLength}
+use Rattle.model.specs.Reading.{settingsOf}
+use Rattle.model.specs.Ledger.{Ledger, emptyLedger, bookLength, ledgerOf}
 use Rattle.model.specs.Calls.{Called, settingsGood, freshBook, laid, lay}
 use Rattle.model.specs.Lines.{wholeWords, lineWords, answerLine, answerBytes, programWords}
 use Rattle.model.proofs.Search.{never, and-right, both}
@@ -52,7 +53,7 @@ unfolding layable
 layable-book w h = simp (le-leb (bookLength (settingsOf w)) programWords h)
 
 long : (S : Settings) → 9 ≤ bookLength S
-unfolding bookLength
+unfolding bookLength diaryLength
 long S = omega (arith, settings-length S)
 
 -- the length that a list of words asks for
@@ -84,7 +85,7 @@ module _ (w : List ℕ) {size : ℕ} (e : size ≡ neededLength w) where
       }
 
 lay-good : (w b : List ℕ) → settingsGood w ≡ true → length b ≡ bookLength (settingsOf w)
-    → lay w b ≡ record { answer = A.Done 0; book = freshBook (settingsOf w) }
+    → lay w b ≡ record { reply = told (A.Done 0); book = freshBook (settingsOf w) }
 unfolding lay
 lay-good w b h e = simp (h, eq-eqb (length b) (bookLength (settingsOf w)) e)
 
@@ -142,14 +143,14 @@ module _ (l : List ℕ) where
   opened-25 h k = simp (h, k)
 
   opened-book : wholeWords l && settingsGood (lineWords l) ≡ true → leb (bookLength S) programWords ≡ true
-      → opened l ≡ silent (later (emptyState S) [])
+      → opened l ≡ silent (later (emptyLedger S) [])
   unfolding opened
   opened-book h k = simp (h, k)
 
   -- what was found of a line that lays a book, and of one that is refused
   book-by : {n : ℕ} (t u : Bool) → wholeWords l && settingsGood (lineWords l) ≡ t → leb (bookLength S) programWords ≡ u
       → Book n ≡ cond t (cond u (Book (bookLength S)) (Refused 25)) (Refused 24)
-      → (validSettings S ≡ true) × (opened l ≡ silent (later (emptyState S) []))
+      → (validSettings S ≡ true) × (opened l ≡ silent (later (emptyLedger S) []))
   book-by true true h k e = (good-valid (lineWords l) (and-right (wholeWords l) _ h), opened-book h k)
   book-by true false h k e = no-book (sym e)
   book-by false u h k e = no-book (sym e)
@@ -174,8 +175,8 @@ module _ (l : List ℕ) where
         out-past = refl;
         sized = record { fits = f .0; none = λ z. both refl z; good = λ z. rw (f .1) (record { read = refl; laid = g .laid; lawful = g .lawful }) };
         same =
-            ap (λ (b : List ℕ). silent (later (stateOf b) [])) (f .1)
-            ∙ ap (λ (x : State). silent (later x [])) (fresh-shows S (o .0))
+            ap (λ (b : List ℕ). silent (later (ledgerOf b) [])) (f .1)
+            ∙ ap (λ (x : Ledger). silent (later x [])) (fresh-shows S (o .0))
             ∙ sym (o .1);
       }
 

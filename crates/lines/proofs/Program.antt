@@ -4,15 +4,14 @@ use Prim.Native.Nat.{ℕ}
 use mathlib.Core.Path.{_≡_, refl, sym, _∙_, ap}
 use mathlib.Core.List.{List, [], _++_, append-nil}
 use lib.ListN.{take}
-use Rattle.model.specs.Words.{words}
-use Rattle.model.specs.Reading.{stateOf}
+use Rattle.model.specs.Ledger.{bookWords, ledgerOf}
 use Rattle.model.specs.Lines.{frames}
 use Rattle.lines.specs.Stream.{Point, opening, Turn, silent, behind, run, closed}
 use Rattle.lines.specs.Post.{pointAt, pointOf, heldOf, Going, Moved, Begun}
 use Rattle.lines.specs.declared.stream.Phase.{Phase}
 use Rattle.lines.specs.declared.stream.Phase.the-variants.{Later, Over}
 use Rattle.lines.specs.declared.stream.Stream.{Stream}
-use Rattle.engine.proofs.Kept.{good-book}
+use Rattle.model.proofs.Ledger.{words-ledgerOf}
 use Rattle.lines.proofs.Turns.{run-none}
 use Rattle.lines.proofs.Streams.{begun}
 use Rattle.lines.proofs.Whole.{whole, run-append, whole-append, whole-over, whole-frames}
@@ -52,13 +51,13 @@ ran-ends {i} {w} r e =
 -- behind a refused settings line all is written, whatever is left of the input
 pub ran-over : {i w b : List ℕ} {s : Stream} → Ran i w s b → s .phase ≡ Over → (rest : List ℕ) → w ≡ frames (i ++ rest)
 ran-over {i} {w} {b} {s} r h rest =
-    let x = stateOf (take (s .size) b) in
+    let x = ledgerOf (take (s .size) b) in
     sym (append-nil w)
     ∙ ap (λ (k : List ℕ). w ++ k) (sym (ap (λ (p : Phase). whole (pointAt p x (heldOf (s .held))) rest .out) h ∙ whole-over rest))
     ∙ ap (λ (t : Turn). t .out ++ whole (t .point) rest .out) (sym (r .same))
     ∙ ap (λ (t : Turn). t .out) (sym (whole-append (opening []) i rest))
     ∙ whole-frames (i ++ rest)
 
--- behind a good settings line the book's words are those of the machine's state
-pub book-shown : {s : Stream} {b : List ℕ} → Going s b → s .phase ≡ Later → words (stateOf (take (s .size) b)) ≡ take (s .size) b
-book-shown g h = good-book (g .sized .good h)
+-- behind a good settings line the book's words are those of the machine's ledger
+pub book-shown : {s : Stream} {b : List ℕ} → Going s b → s .phase ≡ Later → bookWords (ledgerOf (take (s .size) b)) ≡ take (s .size) b
+book-shown {s} {b} g h = let k = g .sized .good h in words-ledgerOf (take (s .size) b) (k .laid) (k .lawful)

@@ -10,11 +10,11 @@ use lib.ListN.{length, take, drop, length-append, length-drop}
 use borrow.Author.Tests.{eqb-true, eqb-false}
 use lib.Seq.{take-at, drop-at, take-all, length-take-le}
 use Rattle.model.specs.declared.Settings.{Settings}
-use Rattle.model.specs.State.{State}
-use Rattle.model.specs.Reading.{settingsOf, stateOf}
+use Rattle.model.specs.Reading.{settingsOf}
+use Rattle.model.specs.Ledger.{Ledger, ledgerOf}
 use Rattle.model.specs.Lines.{answerBytes, lineOutcome}
 use Rattle.model.proofs.Search.{both}
-use Rattle.book.specs.Good.{Good}
+use Rattle.book.specs.Good.{GoodBook}
 use Rattle.lines.specs.Frame.{LineEnd}
 use Rattle.lines.specs.Stream.{heldMost, kept, Turn, opening, later, over, silent, behind, opened, told, ended, longer, byte, run, closed}
 use Rattle.lines.specs.Post.{Free, heldOf, Holds, pointAt, pointOf, Going, Moved, Begun, endPoint, EndedOf, isLater, Told}
@@ -30,7 +30,7 @@ use Rattle.lines.proofs.Keeping.{holds-own}
 use Rattle.text.proofs.Puts.{drop-behind}
 
 -- a good book by its own settings
-own : {S : Settings} {b : List ℕ} → Good S b → Good (settingsOf b) b
+own : {S : Settings} {b : List ℕ} → GoodBook S b → GoodBook (settingsOf b) b
 own g = record { read = refl; laid = g .laid; lawful = g .lawful }
 
 -- the front of a book was replaced by as many words
@@ -43,22 +43,22 @@ front size b last h e =
 -- a later line that is held is over: it is answered as a chunk of one line
 pub responded : {last out out′ : List ℕ} {used wrote : ℕ} (b l : List ℕ) (size : ℕ) → size ≤ length b → Free l
     → Told (settingsOf (take size b)) (take size b) (l ++ (10 ∷ [])) out 0 last out′ used wrote → length last ≡ length (take size b)
-    → EndedOf (told (lineOutcome (stateOf (take size b)) l)) (record { more = true; size = size; wrote = wrote }) b (last ++ drop size b) out out′
+    → EndedOf (told (lineOutcome (ledgerOf (take size b)) l)) (record { more = true; size = size; wrote = wrote }) b (last ++ drop size b) out out′
 responded {last} {out} {out′} {used} {wrote} b l size h f v k =
     let n = front size b last h k in
     let c = l ++ (10 ∷ []) in
-    let y = stateOf last in
+    let y = ledgerOf last in
     record {
       short = omega (arith, v .short, ends-one l f);
       book-past = n .2;
       out-past = v .past;
       sized = record { fits = n .1; none = λ z. both refl z; good = λ z. rw (n .0) (own (v .good)) };
       same =
-          ap (λ (d : List ℕ). record { out = take wrote out′; point = later (stateOf d) [] }) (n .0)
+          ap (λ (d : List ℕ). record { out = take wrote out′; point = later (ledgerOf d) [] }) (n .0)
           ∙ ap (λ (o : List ℕ). record { out = o; point = later y [] }) (sym (append-nil (take wrote out′)))
           ∙ ap (behind (take wrote out′)) (sym (run-out y (drop used c) (rest-none l used (v .free))))
           ∙ v .same
-          ∙ run-alone (stateOf (take size b)) l f;
+          ∙ run-alone (ledgerOf (take size b)) l f;
     }
 
 -- any line is over
@@ -66,7 +66,7 @@ ended-opening : (l : List ℕ) → ended (opening l) ≡ opened l
 unfolding ended
 ended-opening l = refl
 
-ended-later : (x : State) (l : List ℕ) → ended (later x l) ≡ told (lineOutcome x l)
+ended-later : (x : Ledger) (l : List ℕ) → ended (later x l) ≡ told (lineOutcome x l)
 unfolding ended
 ended-later x l = refl
 
@@ -77,7 +77,7 @@ ended-over = refl
 pub ended-as : {t u : Turn} {e : Ended} {b₀ b out₀ out : List ℕ} → t ≡ u → EndedOf t e b₀ b out₀ out → EndedOf u e b₀ b out₀ out
 ended-as q v = record { short = v .short; sized = v .sized; same = v .same ∙ q; book-past = v .book-past; out-past = v .out-past }
 
-module _ {p : Phase} (x : State) (l : List ℕ) where
+module _ {p : Phase} (x : Ledger) (l : List ℕ) where
   pub turn-opening : p ≡ Opening → opened l ≡ ended (pointAt p x l)
   turn-opening h = sym (ap (λ (q : Phase). ended (pointAt q x l)) h ∙ ended-opening l)
 
@@ -126,13 +126,13 @@ rest-over {b} {out} {h} e c m k =
           };
       same =
           ap (λ (o : List ℕ). record { out = o; point = over }) (sym (append-nil (take (e .wrote) out)))
-          ∙ ap (behind (take (e .wrote) out)) (sym (ap (λ (t : Bool). run (cond t (later (stateOf (take (e .size) b)) []) over) c) m ∙ run-over c));
+          ∙ ap (behind (take (e .wrote) out)) (sym (ap (λ (t : Bool). run (cond t (later (ledgerOf (take (e .size) b)) []) over) c) m ∙ run-over c));
     }
   where
     not-later : Over ≡ Later → ⊥
     not-later z = let q : _≡_ {A = ℕ} 0 1 = cc in omega arith
 
-grown-later : (x : State) (l : List ℕ) → grown (later x []) l ≡ later x (kept l)
+grown-later : (x : Ledger) (l : List ℕ) → grown (later x []) l ≡ later x (kept l)
 unfolding grown
 grown-later x l = refl
 
@@ -143,7 +143,7 @@ pub rest-later : {last out out′ : List ℕ} {h : Held} {used wrote : ℕ} (b :
     → Moved (behind (take (e .wrote) out) (run (endPoint e b) c)) (record { held = h; phase = Later; size = e .size })
     b (last ++ drop (e .size) b) out out′ (e .wrote) wrote (e .wrote + answerBytes * length c)
 rest-later {last} {out} {out′} {h} {used} {wrote} b e c m f v k q =
-    let x = stateOf last in
+    let x = ledgerOf last in
     let r = drop used c in
     let n = front (e .size) b last f k in
     let w = v .short in
@@ -159,30 +159,30 @@ rest-later {last} {out} {out′} {h} {used} {wrote} b e c m f v k q =
             sized = record { fits = n .1; none = λ z. both refl z; good = λ z. rw (n .0) (own (v .good)) };
           };
       same =
-          ap (λ (d : List ℕ). record { out = take wrote out′; point = later (stateOf d) (heldOf h) }) (n .0)
+          ap (λ (d : List ℕ). record { out = take wrote out′; point = later (ledgerOf d) (heldOf h) }) (n .0)
           ∙ ap (λ (l : List ℕ). record { out = take wrote out′; point = later x l }) held
           ∙ ap (λ (o : List ℕ). record { out = o; point = later x (kept r) }) (sym (append-nil (take wrote out′)))
           ∙ ap (behind (take wrote out′)) (sym (run-free r (later x []) (later-kept x) (v .free) ∙ ap silent (grown-later x r)))
           ∙ v .same
-          ∙ ap (λ (t : Bool). behind (take (e .wrote) out) (run (cond t (later (stateOf (take (e .size) b)) []) over) c)) (sym m);
+          ∙ ap (λ (t : Bool). behind (take (e .wrote) out) (run (cond t (later (ledgerOf (take (e .size) b)) []) over) c)) (sym m);
     }
 
 -- a chunk
-grown-at : (p : Phase) (x : State) (h l : List ℕ) → pointAt p x (kept (h ++ l)) ≡ grown (pointAt p x h) l
+grown-at : (p : Phase) (x : Ledger) (h l : List ℕ) → pointAt p x (kept (h ++ l)) ≡ grown (pointAt p x h) l
 unfolding grown
 grown-at Opening x h l = refl
 grown-at Later x h l = refl
 grown-at Over x h l = refl
 
-kept-at : (p : Phase) (x : State) (h : List ℕ) → kept h ≡ h → Kept (pointAt p x h)
+kept-at : (p : Phase) (x : Ledger) (h : List ℕ) → kept h ≡ h → Kept (pointAt p x h)
 unfolding Kept
 kept-at Opening x h k = k
 kept-at Later x h k = k
 kept-at Over x h k = tt
 
 module _ (s : Stream) (b c : List ℕ) (g : Going s b) {h : Held} {n : ℕ} (e : LineEnd c n) (k : Holds h (kept (heldOf (s .held) ++ take n c))) where
-  abbrev x : State
-  x = stateOf (take (s .size) b)
+  abbrev x : Ledger
+  x = ledgerOf (take (s .size) b)
 
   point-kept : Kept (pointOf s b)
   point-kept =
@@ -240,16 +240,16 @@ closed-over : ended over ≡ closed over
 unfolding ended closed
 closed-over = refl
 
-closed-cons : (x : State) (l : List ℕ) → 0 < length l → ended (later x l) ≡ closed (later x l)
+closed-cons : (x : Ledger) (l : List ℕ) → 0 < length l → ended (later x l) ≡ closed (later x l)
 unfolding ended closed
 closed-cons x [] h = absurd (omega arith)
 closed-cons x (b ∷ l) h = refl
 
-closed-none : (x : State) → silent (later x []) ≡ closed (later x [])
+closed-none : (x : Ledger) → silent (later x []) ≡ closed (later x [])
 unfolding closed
 closed-none x = refl
 
-pub ended-closed : (p : Phase) (x : State) (l : List ℕ) → (isLater p ≡ true → 0 < length l) → ended (pointAt p x l) ≡ closed (pointAt p x l)
+pub ended-closed : (p : Phase) (x : Ledger) (l : List ℕ) → (isLater p ≡ true → 0 < length l) → ended (pointAt p x l) ≡ closed (pointAt p x l)
 ended-closed Opening x l h = closed-opening l
 ended-closed Later x l h = closed-cons x l (h refl)
 ended-closed Over x l h = closed-over
@@ -264,7 +264,7 @@ pub closed-silent : {out : List ℕ} (s : Stream) (b : List ℕ) → Going s b �
     → EndedOf (closed (pointOf s b)) (record { more = true; size = s .size; wrote = 0 }) b b out out
 closed-silent s b g h z =
     let l = later-is (s .phase) h in
-    let x = stateOf (take (s .size) b) in
+    let x = ledgerOf (take (s .size) b) in
     let n : heldOf (s .held) ≡ [] = ap (λ (k : ℕ). take k (s .held .bytes)) z in
     record {
       short = omega arith;
@@ -285,7 +285,7 @@ begun {s} b g =
         holds = holds-own h;
         sized = record { fits = rw (g .size) (omega arith); none = λ z. g .size; good = λ z. absurd (not-later (sym (g .phase) ∙ z)) };
       },
-      ap (λ (p : Phase). pointAt p (stateOf (take (s .size) b)) (heldOf (s .held))) (g .phase) ∙ ap opening (h .same),
+      ap (λ (p : Phase). pointAt p (ledgerOf (take (s .size) b)) (heldOf (s .held))) (g .phase) ∙ ap opening (h .same),
     )
   where
     not-later : Opening ≡ Later → ⊥

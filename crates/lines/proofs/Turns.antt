@@ -14,12 +14,11 @@ use lib.Seq.{split-at, take-all, drop-drop, drop-append-le}
 use Rattle.model.specs.declared.Settings.{Settings}
 use Rattle.model.specs.declared.Answer.{Answer}
 use Rattle.model.specs.declared.Answer.the-variants.{Done, Refused}
-use Rattle.model.specs.State.{State}
-use Rattle.model.specs.Reading.{stateOf}
+use Rattle.model.specs.Ledger.{Ledger, ledgerOf}
 use Rattle.model.specs.Calls.{Called, called}
 use Rattle.model.specs.Text.{hexadecimal}
-use Rattle.model.specs.Lines.{answerLine, answerBytes, lineOutcome}
-use Rattle.book.specs.Good.{Good, answered}
+use Rattle.model.specs.Lines.{answerLine, replyLine, answerBytes, lineOutcome}
+use Rattle.book.specs.Good.{GoodBook, answered}
 use Rattle.lines.specs.Stream.{kept, Point, opening, later, over, Turn, silent, behind, told, ended, longer, byte, run}
 use Rattle.text.specs.Put.{Put}
 use Rattle.lines.specs.Post.{Free, ends, Leads, TakenOf, Told}
@@ -131,13 +130,13 @@ pub run-leads : (p : Point) (l : List ℕ) (n : ℕ) → Kept p → Leads l n
     → run p l ≡ behind (ended (grown p (take n l)) .out) (run (ended (grown p (take n l)) .point) (drop (n + 1) l))
 run-leads p l n k e = ap (run p) (leads-split l n e) ∙ run-line p (take n l) (drop (n + 1) l) k (e .free)
 
-pub later-kept : (x : State) → Kept (later x [])
+pub later-kept : (x : Ledger) → Kept (later x [])
 unfolding Kept
 later-kept x = refl
 
 -- behind the settings line
-pub run-later : (x : State) (l : List ℕ) (n : ℕ) → Leads l n
-    → run (later x []) l ≡ behind (answerLine (lineOutcome x (take n l) .answer)) (run (later (lineOutcome x (take n l) .state) []) (drop (n + 1) l))
+pub run-later : (x : Ledger) (l : List ℕ) (n : ℕ) → Leads l n
+    → run (later x []) l ≡ behind (replyLine (lineOutcome x (take n l) .reply)) (run (later (lineOutcome x (take n l) .ledger) []) (drop (n + 1) l))
 unfolding grown
 run-later x l n e =
     run-leads (later x []) l n (later-kept x) e
@@ -148,14 +147,14 @@ pub run-none : (p : Point) → run p [] ≡ silent p
 unfolding run
 run-none p = refl
 
-pub run-alone : (x : State) (l : List ℕ) → Free l → run (later x []) (l ++ (10 ∷ [])) ≡ told (lineOutcome x l)
+pub run-alone : (x : Ledger) (l : List ℕ) → Free l → run (later x []) (l ++ (10 ∷ [])) ≡ told (lineOutcome x l)
 unfolding grown
 run-alone x l f =
     let o = lineOutcome x l in
     run-line (later x []) l [] (later-kept x) f
     ∙ ap (λ (t : Turn). behind (t .out) (run (t .point) [])) (ended-later x l)
-    ∙ ap (behind (answerLine (o .answer))) (run-none (later (o .state) []))
-    ∙ ap (λ (w : List ℕ). record { out = w; point = later (o .state) [] }) (append-nil (answerLine (o .answer)))
+    ∙ ap (behind (replyLine (o .reply))) (run-none (later (o .ledger) []))
+    ∙ ap (λ (w : List ℕ). record { out = w; point = later (o .ledger) [] }) (append-nil (replyLine (o .reply)))
 
 free-ended : (a : List ℕ) → Free (a ++ (10 ∷ [])) → ⊥
 unfolding Free
@@ -169,7 +168,7 @@ rest-none l used f = go (decLe used (length l))
     go (yes h) = absurd (free-ended (drop used l) (rw (drop-append-le used l (10 ∷ []) h) at f))
     go (no h) = drop-of-length-le (l ++ (10 ∷ [])) {i = used} (omega (arith, length-append l (10 ∷ [])))
 
-pub run-out : (x : State) (r : List ℕ) → r ≡ [] → run (later x []) r ≡ silent (later x [])
+pub run-out : (x : Ledger) (r : List ℕ) → r ≡ [] → run (later x []) r ≡ silent (later x [])
 run-out x r e = ap (run (later x [])) e ∙ run-none (later x [])
 
 pub answer-length : (a : Answer) → length (answerLine a) ≡ answerBytes
@@ -192,12 +191,12 @@ pub tail-is : (c : List ℕ) (i : ℕ) → take (length c - i) (drop i c) ≡ dr
 tail-is c i = take-all (length c - i) (drop i c) (omega (arith, length-drop i c))
 
 -- one line more of the chunk c is answered
-module _ {S : Settings} {b b′ : List ℕ} (c : List ℕ) (i : ℕ) (t : Taken) (h : i ≤ length c) (g : Good S b)
+module _ {S : Settings} {b b′ : List ℕ} (c : List ℕ) (i : ℕ) (t : Taken) (h : i ≤ length c) (g : GoodBook S b)
     (k : TakenOf (take (length c - i) (drop i c)) b t b′) (s : 0 < t .used) where
   leads : Leads (drop i c) (t .used - 1)
   leads = rw (tail-is c i) at (k .some s .0)
 
-  gives : answered (t .answer) b′ ≡ called (lineOutcome (stateOf b) (take (t .used - 1) (drop i c)))
+  gives : answered (t .answer) b′ ≡ called (lineOutcome (ledgerOf b) (take (t .used - 1) (drop i c)))
   gives = rw (tail-is c i) at (k .some s .1)
 
   rest-is : drop (i + t .used) c ≡ drop (t .used - 1 + 1) (drop i c)
@@ -211,35 +210,35 @@ module _ {S : Settings} {b b′ : List ℕ} (c : List ℕ) (i : ℕ) (t : Taken)
   pub in-reach : i + t .used ≤ length c
   in-reach = omega (arith, leads .inside, length-drop i c)
 
-  pub more-good : Good S b′
+  pub more-good : GoodBook S b′
   more-good = after-line (take (t .used - 1) (drop i c)) g gives .good
 
   pub more-told : {out out′ : List ℕ} {at : ℕ} → Put out out′ at (answerLine (t .answer))
-      → behind (take (at + answerBytes) out′) (run (later (stateOf b′) []) (drop (i + t .used) c))
-      ≡ behind (take at out) (run (later (stateOf b) []) (drop i c))
+      → behind (take (at + answerBytes) out′) (run (later (ledgerOf b′) []) (drop (i + t .used) c))
+      ≡ behind (take at out) (run (later (ledgerOf b) []) (drop i c))
   more-told {out} {out′} {at} p =
       let l = take (t .used - 1) (drop i c) in
-      let o = lineOutcome (stateOf b) l in
+      let o = lineOutcome (ledgerOf b) l in
       let w : take (at + answerBytes) out′ ≡ take at out ++ answerLine (t .answer) = put-wrote (t .answer) p in
-      let a : t .answer ≡ o .answer = ap (λ (q : Called). q .answer) gives in
-      let x : stateOf b′ ≡ o .state = after-line l g gives .shows in
-      rw (w, a, x, rest-is)
-      (ap (λ (q : List ℕ). record { out = q; point = run (later (o .state) []) (drop (t .used - 1 + 1) (drop i c)) .point })
-      (append-assoc (take at out) (answerLine (o .answer)) _)
-      ∙ ap (behind (take at out)) (sym (run-later (stateOf b) (drop i c) (t .used - 1) leads)))
+      let a : replyLine (o .reply) ≡ answerLine (t .answer) = ap (λ (q : Called). replyLine (q .reply)) (sym gives) in
+      let x : ledgerOf b′ ≡ o .ledger = after-line l g gives .shows in
+      rw (w, ← a, x, rest-is)
+      (ap (λ (q : List ℕ). record { out = q; point = run (later (o .ledger) []) (drop (t .used - 1 + 1) (drop i c)) .point })
+      (append-assoc (take at out) (replyLine (o .reply)) _)
+      ∙ ap (behind (take at out)) (sym (run-later (ledgerOf b) (drop i c) (t .used - 1) leads)))
 
 -- of the chunk c, the first i bytes are lines that are answered
 pub record So (S : Settings) (b₀ c out₀ : List ℕ) (from : ℕ) (b out : List ℕ) (at i : ℕ) : Type 0 where
   pub within : i ≤ length c
   pub more : from ≤ at
   pub room : at + answerBytes * ends (drop i c) ≤ from + answerBytes * ends c
-  pub good : Good S b
+  pub good : GoodBook S b
   pub past : drop at out ≡ drop at out₀
   pub book-kept : length b ≡ length b₀
   pub out-kept : length out ≡ length out₀
-  pub same : behind (take at out) (run (later (stateOf b) []) (drop i c)) ≡ behind (take from out₀) (run (later (stateOf b₀) []) c)
+  pub same : behind (take at out) (run (later (ledgerOf b) []) (drop i c)) ≡ behind (take from out₀) (run (later (ledgerOf b₀) []) c)
 
-pub start : {S : Settings} (b c out : List ℕ) (from : ℕ) → Good S b → So S b c out from b out from 0
+pub start : {S : Settings} (b c out : List ℕ) (from : ℕ) → GoodBook S b → So S b c out from b out from 0
 start b c out from g =
     record { within = omega arith; more = omega arith; room = omega arith; good = g; past = refl; book-kept = refl; out-kept = refl; same = refl }
 

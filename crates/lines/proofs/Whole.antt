@@ -16,14 +16,13 @@ use Rattle.model.specs.Site.{settingsLength, validSettings}
 use Rattle.model.proofs.Search.{and-left, and-right}
 use Rattle.model.proofs.Places.{settings-length}
 use Rattle.model.proofs.ReadBack.{valid-is}
-use Rattle.model.specs.State.{State, emptyState}
-use Rattle.model.specs.Machine.{Outcome}
-use Rattle.model.specs.Words.{bookLength}
+use Rattle.model.specs.Machine.{Performed}
+use Rattle.model.specs.Ledger.{Ledger, emptyLedger, bookLength}
 use Rattle.model.specs.Reading.{settingsOf}
 use Rattle.model.specs.Calls.{settingsGood}
 use Rattle.model.specs.declared.Answer.the-variants.{Refused}
 use Rattle.model.specs.Text.{digitValue}
-use Rattle.model.specs.Lines.{wholeWords, lineWords, linesOf, answerLine, lineOutcome, answerLines, programWords, output, frames}
+use Rattle.model.specs.Lines.{wholeWords, lineWords, linesOf, answerLine, replyLine, lineOutcome, answerLines, programWords, output, frames}
 use Rattle.lines.proofs.Framing.{words-length, not-so, frame-most, no-frame}
 use Rattle.lines.proofs.Keeping.{kept-append}
 use Rattle.lines.specs.Post.{Free}
@@ -72,7 +71,7 @@ module _ (l : List ℕ) where
       go (yes h) = inr (h, length-take-le heldMost l (omega arith))
       go (no h) = inl (take-all heldMost l (omega arith))
 
-  pub outcome-kept : (x : State) → lineOutcome x (kept l) ≡ lineOutcome x l
+  pub outcome-kept : (x : Ledger) → lineOutcome x (kept l) ≡ lineOutcome x l
   unfolding lineOutcome
   outcome-kept x =
       ⊎-elim (λ e. ap (lineOutcome x) e)
@@ -139,24 +138,24 @@ whole-in : (p : Point) (b : ℕ) (bs : List ℕ) → (b ≡ 10 → ⊥) → whol
 whole-in p b bs h =
     ap (λ (t : Turn). t .out) (whole-cons p b bs) ∙ ap (λ (t : Turn). t .out ++ whole (t .point) bs .out) (byte-in p h)
 
-answers-none : (x : State) → [] ≡ answerLines x []
+answers-none : (x : Ledger) → [] ≡ answerLines x []
 unfolding answerLines
 answers-none x = refl
 
-answers-cons : (x : State) (l : List ℕ) (ls : List (List ℕ))
-    → answerLines x (l ∷ ls) ≡ answerLine (lineOutcome x l .answer) ++ answerLines (lineOutcome x l .state) ls
+answers-cons : (x : Ledger) (l : List ℕ) (ls : List (List ℕ))
+    → answerLines x (l ∷ ls) ≡ replyLine (lineOutcome x l .reply) ++ answerLines (lineOutcome x l .ledger) ls
 unfolding answerLines
 answers-cons x l ls = refl
 
-answers-last : (x : State) (l : List ℕ) → answerLines x (l ∷ []) ≡ answerLine (lineOutcome x l .answer)
+answers-last : (x : Ledger) (l : List ℕ) → answerLines x (l ∷ []) ≡ replyLine (lineOutcome x l .reply)
 unfolding answerLines
-answers-last x l = append-nil (answerLine (lineOutcome x l .answer))
+answers-last x l = append-nil (replyLine (lineOutcome x l .reply))
 
-pub ended-later : (x : State) (l : List ℕ) → ended (later x (kept l)) ≡ told (lineOutcome x l)
+pub ended-later : (x : Ledger) (l : List ℕ) → ended (later x (kept l)) ≡ told (lineOutcome x l)
 unfolding ended
 ended-later x l = ap told (outcome-kept l x)
 
-longer-later : (x : State) (l : List ℕ) (b : ℕ) → longer (later x (kept l)) b ≡ later x (kept (l ++ (b ∷ [])))
+longer-later : (x : Ledger) (l : List ℕ) (b : ℕ) → longer (later x (kept l)) b ≡ later x (kept (l ++ (b ∷ [])))
 unfolding longer
 longer-later x l b = ap (later x) (kept-append l (b ∷ []))
 
@@ -175,25 +174,25 @@ whole-over (b ∷ bs) = over-by (eqb b 10) refl (whole-over bs)
     over-by false h e = whole-in over b bs (eqb-false b 10 h) ∙ e
 
 -- a later line of which l was read, and the rest of the input
-later-none : (x : State) (l : List ℕ) → Free l → closed (later x (kept l)) .out ≡ answerLines x (linesOf (l ++ []))
+later-none : (x : Ledger) (l : List ℕ) → Free l → closed (later x (kept l)) .out ≡ answerLines x (linesOf (l ++ []))
 unfolding closed linesOf
 later-none x [] f = answers-none x
 later-none x (b ∷ l) f =
-    ap (λ (o : Outcome). answerLine (o .answer)) (outcome-kept (b ∷ l) x)
+    ap (λ (o : Performed). replyLine (o .reply)) (outcome-kept (b ∷ l) x)
     ∙ sym (ap (λ (k : List ℕ). answerLines x (linesOf k)) (append-nil (b ∷ l)) ∙ ap (answerLines x) (lines-last b l f) ∙ answers-last x (b ∷ l))
 
-later-whole : (bs : List ℕ) (x : State) (l : List ℕ) → Free l → whole (later x (kept l)) bs .out ≡ answerLines x (linesOf (l ++ bs))
+later-whole : (bs : List ℕ) (x : Ledger) (l : List ℕ) → Free l → whole (later x (kept l)) bs .out ≡ answerLines x (linesOf (l ++ bs))
 later-whole [] x l f = ap (λ (t : Turn). t .out) (sym (whole-none (later x (kept l)))) ∙ later-none x l f
 later-whole (b ∷ bs) x l f = by (eqb b 10) refl (later-whole bs)
   where
     by : (t : Bool) → eqb b 10 ≡ t
-        → ((y : State) (k : List ℕ) → Free k → whole (later y (kept k)) bs .out ≡ answerLines y (linesOf (k ++ bs)))
+        → ((y : Ledger) (k : List ℕ) → Free k → whole (later y (kept k)) bs .out ≡ answerLines y (linesOf (k ++ bs)))
         → whole (later x (kept l)) (b ∷ bs) .out ≡ answerLines x (linesOf (l ++ (b ∷ bs)))
     by true h more =
         let e = eqb-true b 10 h in
         whole-end (later x (kept l)) b bs e
         ∙ ap (λ (t : Turn). t .out ++ whole (t .point) bs .out) (ended-later x l)
-        ∙ ap (λ (o : List ℕ). answerLine (lineOutcome x l .answer) ++ o) (more (lineOutcome x l .state) [] free-none)
+        ∙ ap (λ (o : List ℕ). replyLine (lineOutcome x l .reply) ++ o) (more (lineOutcome x l .ledger) [] free-none)
         ∙ sym (ap (λ (c : ℕ). answerLines x (linesOf (l ++ (c ∷ bs)))) e ∙ ap (answerLines x) (lines-cons l bs f) ∙ answers-cons x l (linesOf bs))
     by false h more =
         let n = eqb-false b 10 h in
@@ -212,7 +211,7 @@ fitting l = leb (bookLength (settingsOf (lineWords l))) programWords
 settings-by : (l bs : List ℕ) (t u : Bool) → isSettings l ≡ t → fitting l ≡ u
     → opened l .out ++ whole (opened l .point) bs .out ≡ output (l ∷ linesOf bs)
 unfolding opened output
-settings-by l bs true true h k = simp (h, k) (later-whole bs (emptyState (settingsOf (lineWords l))) [] free-none)
+settings-by l bs true true h k = simp (h, k) (later-whole bs (emptyLedger (settingsOf (lineWords l))) [] free-none)
 settings-by l bs true false h k =
     simp (h, k) (ap (λ (o : List ℕ). answerLine (Refused 25 0) ++ o) (whole-over bs) ∙ append-nil (answerLine (Refused 25 0)))
 settings-by l bs false u h k = simp h (ap (λ (o : List ℕ). answerLine (Refused 24 0) ++ o) (whole-over bs) ∙ append-nil (answerLine (Refused 24 0)))

@@ -7,12 +7,12 @@ use mathlib.Core.List.{List, [], _∷_}
 use lib.Dec.{eqb}
 use lib.ListN.{length, take, drop, getD}
 use Rattle.model.specs.declared.Settings.{Settings}
-use Rattle.model.specs.State.{State}
-use Rattle.model.specs.Reading.{settingsOf, stateOf}
+use Rattle.model.specs.Reading.{settingsOf}
+use Rattle.model.specs.Ledger.{Ledger, ledgerOf}
 use Rattle.model.specs.Machine.{requestOf}
 use Rattle.model.specs.Calls.{called}
 use Rattle.model.specs.Lines.{answerBytes, isFrame, lineWords, lineOutcome}
-use Rattle.book.specs.Good.{Good, answered}
+use Rattle.book.specs.Good.{GoodBook, answered}
 use Rattle.lines.specs.Stream.{heldMost, Point, opening, later, over, Turn, behind, run}
 use Rattle.lines.specs.declared.line.Next.{Next}
 use Rattle.lines.specs.declared.line.Next.the-variants.{Frame, Other, Partial}
@@ -49,19 +49,19 @@ isLater Later = true
 isLater Over = false
 
 -- where the stream is, by its fields and the book's words
-abbrev pub pointAt : Phase → State → List ℕ → Point
+abbrev pub pointAt : Phase → Ledger → List ℕ → Point
 pointAt Opening x l = opening l
 pointAt Later x l = later x l
 pointAt Over x l = over
 
 abbrev pub pointOf : Stream → List ℕ → Point
-pointOf s b = pointAt (s .phase) (stateOf (take (s .size) b)) (heldOf (s .held))
+pointOf s b = pointAt (s .phase) (ledgerOf (take (s .size) b)) (heldOf (s .held))
 
 -- behind a good settings line the book is a good one; before it and behind a bad one there is none
 pub record Sized (p : Phase) (size : ℕ) (b : List ℕ) : Type 0 where
   pub fits : size ≤ length b
   pub none : isLater p ≡ false → size ≡ 0
-  pub good : p ≡ Later → Good (settingsOf (take size b)) (take size b)
+  pub good : p ≡ Later → GoodBook (settingsOf (take size b)) (take size b)
 
 -- what a stream keeps
 pub record Going (s : Stream) (b : List ℕ) : Type 0 where
@@ -86,12 +86,12 @@ pub record Begun (s : Stream) : Type 0 where
 
 -- where the end of a line leads
 abbrev pub endPoint : Ended → List ℕ → Point
-endPoint e b = cond (e .more) (later (stateOf (take (e .size) b)) []) over
+endPoint e b = cond (e .more) (later (ledgerOf (take (e .size) b)) []) over
 
 pub record EndSized (e : Ended) (b : List ℕ) : Type 0 where
   pub fits : e .size ≤ length b
   pub none : e .more ≡ false → e .size ≡ 0
-  pub good : e .more ≡ true → Good (settingsOf (take (e .size) b)) (take (e .size) b)
+  pub good : e .more ≡ true → GoodBook (settingsOf (take (e .size) b)) (take (e .size) b)
 
 -- the same of the end of a line, which writes one answer line at most
 pub record EndedOf (t : Turn) (e : Ended) (b₀ b out₀ out : List ℕ) : Type 0 where
@@ -121,14 +121,14 @@ NextOf l Partial = Free l
 -- the first line of l was answered, the book with it; or there is no whole line
 pub record TakenOf (l b₀ : List ℕ) (t : Taken) (b : List ℕ) : Type 0 where
   pub none : t .used ≡ 0 → Free l × (b ≡ b₀)
-  pub some : 0 < t .used → Leads l (t .used - 1) × (answered (t .answer) b ≡ called (lineOutcome (stateOf b₀) (take (t .used - 1) l)))
+  pub some : 0 < t .used → Leads l (t .used - 1) × (answered (t .answer) b ≡ called (lineOutcome (ledgerOf b₀) (take (t .used - 1) l)))
 
 -- of the chunk c, `used` bytes were lines that are answered now, and no line ends in the rest
 pub record Told (s : Settings) (b₀ c out₀ : List ℕ) (at : ℕ) (b out : List ℕ) (used wrote : ℕ) : Type 0 where
   pub within : used ≤ length c
   pub more : at ≤ wrote
   pub short : wrote ≤ at + answerBytes * ends c
-  pub good : Good s b
+  pub good : GoodBook s b
   pub past : drop wrote out ≡ drop wrote out₀
   pub free : Free (drop used c)
-  pub same : behind (take wrote out) (run (later (stateOf b) []) (drop used c)) ≡ behind (take at out₀) (run (later (stateOf b₀) []) c)
+  pub same : behind (take wrote out) (run (later (ledgerOf b) []) (drop used c)) ≡ behind (take at out₀) (run (later (ledgerOf b₀) []) c)

@@ -7,12 +7,11 @@ use lib.Dec.{leb, eqb}
 use lib.ListN.{take}
 use Rattle.model.specs.declared.Answer.the-variants.{Refused}
 use Rattle.model.specs.Site.{settingsMost}
-use Rattle.model.specs.State.{State, emptyState}
-use Rattle.model.specs.Machine.{Outcome}
-use Rattle.model.specs.Words.{bookLength}
+use Rattle.model.specs.Machine.{Performed}
+use Rattle.model.specs.Ledger.{Ledger, emptyLedger, bookLength}
 use Rattle.model.specs.Reading.{settingsOf}
 use Rattle.model.specs.Calls.{settingsGood}
-use Rattle.model.specs.Lines.{wholeWords, lineWords, answerLine, lineOutcome, programWords}
+use Rattle.model.specs.Lines.{wholeWords, lineWords, answerLine, replyLine, lineOutcome, programWords}
 
 -- A line of more bytes than settings can have is neither a frame nor settings, and no more is one that is cut behind its first byte too
 -- many: of a line that is not over, that many bytes say all.
@@ -22,10 +21,10 @@ heldMost = 8 * settingsMost + 1
 abbrev pub kept : List ℕ → List ℕ
 kept l = take heldMost l
 
--- in the settings line, of which these bytes were read; in a later line, with the machine's state; after a refused settings line
+-- in the settings line, of which these bytes were read; in a later line, with the machine's ledger; after a refused settings line
 pub data Point : Type 0 where
   opening : List ℕ → Point
-  later : State → List ℕ → Point
+  later : Ledger → List ℕ → Point
   over : Point
 
 -- what was written, and where the program is then
@@ -45,13 +44,13 @@ unfoldable pub opened : List ℕ → Turn
 opened l =
     cond (wholeWords l && settingsGood (lineWords l))
     (cond (leb (bookLength (settingsOf (lineWords l))) programWords)
-    (silent (later (emptyState (settingsOf (lineWords l))) []))
+    (silent (later (emptyLedger (settingsOf (lineWords l))) []))
     (record { out = answerLine (Refused 25 0); point = over }))
     (record { out = answerLine (Refused 24 0); point = over })
 
 -- a later line is over
-abbrev pub told : Outcome → Turn
-told o = record { out = answerLine (o .answer); point = later (o .state) [] }
+abbrev pub told : Performed → Turn
+told o = record { out = replyLine (o .reply); point = later (o .ledger) [] }
 
 -- any line is over
 unfoldable pub ended : Point → Turn

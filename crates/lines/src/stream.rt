@@ -7,17 +7,20 @@ use crate::line::Next;
 use crate::line::line_end;
 use crate::line::look;
 use crate::line::put_answer;
+use book::settings::diary_len;
 use book::settings::settings;
-use engine::step::step;
+use engine::step::book_step;
 use model::Answer;
 use model::Settings;
 ghost use mathlib.Core.Path.{_≡_};
 ghost use mathlib.Core.List.{[], _++_};
 ghost use Prim.Native.Nat.{_+_, _*_, _≤_, min};
 ghost use lib.ListN.{length, take};
-ghost use Rattle.model.specs.Reading.{settingsOf, stateOf};
+ghost use Rattle.model.specs.Words.{diaryLength};
+ghost use Rattle.model.specs.Reading.{settingsOf};
+ghost use Rattle.model.specs.Ledger.{ledgerOf};
 ghost use Rattle.model.specs.Lines.{answerBytes, programWords, lineOutcome};
-ghost use Rattle.book.specs.Good.{Good};
+ghost use Rattle.book.specs.Good.{GoodBook};
 ghost use Rattle.lines.specs.Stream.{kept, behind, opened, told, ended, run, closed};
 ghost use Rattle.lines.specs.Post.{Free, ends, heldOf, Holds, pointAt, pointOf, Sized, Going, Begun, isLater};
 ghost use Rattle.lines.specs.Post.{EndSized, endPoint, EndedOf, Moved, TakenOf, Told};
@@ -97,14 +100,15 @@ fn hold(held: Held, piece: &[u8]) -> Held
 }
 
 // The answer of the first line of a chunk, and the book after it.
-fn take_line(book: &mut [u32], s: Settings, chunk: &[u8]) -> Taken
-    requires { ⌜ Good s (now book) ⌝ }
+fn take_line(book: &mut [u32], s: Settings, diary: usize, chunk: &[u8]) -> Taken
+    requires { ⌜ GoodBook s (now book) ⌝ }
+    requires { ⌜ diary ≡ diaryLength s ⌝ }
     ensures { λ r. ⌜ TakenOf (now (chunk .entry)) (now (book .entry)) r (now (book .exit)) ⌝ }
 {
     match look(chunk) {
         Next::Frame { len, request } => Taken {
             used: len + 1,
-            answer: step(book, s, request),
+            answer: book_step(book, s, diary, request),
         },
         Next::Other(n) => Taken {
             used: n + 1,
@@ -123,17 +127,18 @@ fn take_line(book: &mut [u32], s: Settings, chunk: &[u8]) -> Taken
 // The answers of all whole lines of a chunk that begins with a line. Every later line comes here, so that there is one loop into which
 // the compiler can put the step.
 fn answer_lines(book: &mut [u32], chunk: &[u8], out: &mut [u8], from: usize) -> Progress
-    requires { ⌜ Good (settingsOf (now book)) (now book) ⌝ }
+    requires { ⌜ GoodBook (settingsOf (now book)) (now book) ⌝ }
     requires { ⌜ from + answerBytes * ends (now chunk) ≤ length (now out) ⌝ }
     ensures { λ r. ⌜ Told (settingsOf (now (book .entry))) (now (book .entry)) (now (chunk .entry))
         (now (out .entry)) from (now (book .exit)) (now (out .exit)) (r .used) (r .wrote) ⌝ }
 {
     let s = settings(book);
+    let diary = diary_len(s);
     let mut at = from;
     let mut i = 0;
     while i < chunk.len() {
         let rest = &chunk[i..];
-        let t = take_line(book, s, rest);
+        let t = take_line(book, s, diary, rest);
         let used = t.used;
         if used == 0 {
             return Progress { used: i, wrote: at };
@@ -149,10 +154,10 @@ fn answer_lines(book: &mut [u32], chunk: &[u8], out: &mut [u8], from: usize) -> 
 // The end of a later line that is held: it is answered as in a chunk, with byte 10 behind it.
 fn end_later(book: &mut [u32], size: usize, held: Held, out: &mut [u8]) -> Ended
     requires { ⌜ size ≤ length (now book) ⌝ }
-    requires { ⌜ Good (settingsOf (take size (now book))) (take size (now book)) ⌝ }
+    requires { ⌜ GoodBook (settingsOf (take size (now book))) (take size (now book)) ⌝ }
     requires { ⌜ Holds held (heldOf held) ⌝ }
     requires { ⌜ answerBytes ≤ length (now out) ⌝ }
-    ensures { λ r. ⌜ EndedOf (told (lineOutcome (stateOf (take size (now (book .entry)))) (heldOf held)))
+    ensures { λ r. ⌜ EndedOf (told (lineOutcome (ledgerOf (take size (now (book .entry)))) (heldOf held)))
         r (now (book .entry)) (now (book .exit)) (now (out .entry)) (now (out .exit)) ⌝ }
 {
     let mut bytes = held.bytes;
@@ -262,7 +267,7 @@ fn end_held(book: &mut [u32], phase: Phase, size: usize, held: Held, out: &mut [
     requires { ⌜ Sized phase size (now book) ⌝ }
     requires { ⌜ Holds held (heldOf held) ⌝ }
     requires { ⌜ answerBytes ≤ length (now out) ⌝ }
-    ensures { λ r. ⌜ EndedOf (ended (pointAt phase (stateOf (take size (now (book .entry)))) (heldOf held)))
+    ensures { λ r. ⌜ EndedOf (ended (pointAt phase (ledgerOf (take size (now (book .entry)))) (heldOf held)))
         r (now (book .entry)) (now (book .exit)) (now (out .entry)) (now (out .exit)) ⌝ }
 {
     match phase {

@@ -61,6 +61,9 @@ pub settings-in : (S : Settings) → settingsLength S ≤ diaryLength S
 unfolding diaryLength
 settings-in S = omega arith
 
+limits-in : (S : Settings) → limitWords ≤ diaryLength S
+limits-in S = omega (arith, settings-length S, settings-in S)
+
 -- a book has the settings of its first part
 pub diary-settings : (b : List ℕ) → settingsOf (diaryOf b) ≡ settingsOf b
 unfolding diaryOf
@@ -100,12 +103,16 @@ module _ (b : List ℕ) (one : wellLaid b ≡ true) where
   unfolding behindOf bookLength
   behind-long = length-drop (diaryLength (settingsOf b)) b ∙ omega (arith, laid-long)
 
+  pub diary-fits : {S : Settings} {n : ℕ} → S ≡ settingsOf b → n ≡ diaryLength S → n ≤ length b
+  unfolding bookLength
+  diary-fits is e = omega (arith, laid-long, ap diaryLength is, e)
+
   pub laid-diary : diaryLaid (diaryOf b) ≡ true
   unfolding diaryLaid
   laid-diary =
       rw (diary-settings b)
       (and-true
-      (and-true (le-leb limitWords (length (diaryOf b)) (omega (arith, diary-long, settings-length (settingsOf b), settings-in (settingsOf b)))) laid-valid)
+      (and-true (le-leb limitWords (length (diaryOf b)) (omega (arith, diary-long, limits-in (settingsOf b)))) laid-valid)
       (eq-eqb (length (diaryOf b)) (diaryLength (settingsOf b)) diary-long))
 
   -- and question 2
@@ -173,7 +180,7 @@ module _ (l : Ledger) (s : LedgerSound l) where
   well-laid =
       rw book-settings
       (and-true
-      (and-true (le-leb limitWords (length (bookWords l)) (omega (arith, book-long, settings-length (l .diary .settings), settings-in (l .diary .settings)))) (s .diary .valid))
+      (and-true (le-leb limitWords (length (bookWords l)) (omega (arith, book-long, limits-in (l .diary .settings)))) (s .diary .valid))
       (eq-eqb (length (bookWords l)) (bookLength (l .diary .settings)) book-long))
 
   pub lawful-words : lawful (bookWords l) ≡ true

@@ -1,5 +1,5 @@
--- What a book keeps behind the rides: nothing so far. It is kept by every book, and no question of a request about the diary looks at it.
--- What is to stand there gets its fields, words and law here, and only the laws of proofs/Tail look inside.
+-- What a book keeps behind the rides: nothing so far. A request neither asks about it nor changes it. What is to stand there gets its
+-- words, its reading and its law here; beyond this file no more is known of them than proofs/Tail says.
 -- Assumes nothing.
 use Prim.Native.Nat.{ℕ}
 use mathlib.Core.Bool.{Bool, true}

@@ -5,9 +5,9 @@ use native.Mathlib.Omega.{arith}
 use lib.Seq.{length-take-le}
 use borrow.Author.Tests.{not-true, not-false}
 use Rattle.model.specs.Site.{validSettings}
-use Rattle.model.proofs.Ledger.{laid-valid}
+use Rattle.model.proofs.Ledger.{laid-valid, diary-fits}
 use Rattle.book.proofs.Goods.{ranges-by}
-use Rattle.checking.proofs.Verdicts.{diary-fits, first-laid, two-no, two-yes}
+use Rattle.checking.proofs.Verdicts.{first-laid, two-no, two-yes}
 use borrow.Author.Needs.{needs}
 use Rattle.checking.proofs.book_lawful.Statement.{statement}
 use Rattle.checking.proofs.book_lawful.Tie as tie
@@ -21,7 +21,7 @@ diary-len-requires c κs = ranges-by _ (ap validSettings (c .settings .ensures) 
 slice-aggregate-diary-lawful : tie.Need-slice-aggregate-diary-lawful
 slice-aggregate-diary-lawful c =
     let d = c .before in
-    sym (length-take-le _ _ (diary-fits _ (d .before .before .before .pre) _ (d .before .settings .ensures) _ (d .diary-len .ensures)))
+    sym (length-take-le _ _ (diary-fits _ (d .before .before .before .pre) (d .before .settings .ensures) (d .diary-len .ensures)))
 
 diary-lawful-requires : tie.Need-diary-lawful-requires
 diary-lawful-requires c κs =
@@ -37,17 +37,17 @@ returns c =
 mul-tail-kept : tie.Need-mul-tail-kept
 mul-tail-kept c =
     let d = c .before .before .before in
-    omega (arith, diary-fits _ (d .before .before .before .pre) _ (d .before .settings .ensures) _ (d .diary-len .ensures))
+    omega (arith, diary-fits _ (d .before .before .before .pre) (d .before .settings .ensures) (d .diary-len .ensures))
 
 sub-tail-kept : tie.Need-sub-tail-kept
 sub-tail-kept c =
     let d = c .before .before .before in
-    diary-fits _ (d .before .before .before .pre) _ (d .before .settings .ensures) _ (d .diary-len .ensures)
+    diary-fits _ (d .before .before .before .pre) (d .before .settings .ensures) (d .diary-len .ensures)
 
 part-tail-kept-start : tie.Need-part-tail-kept-start
 part-tail-kept-start c =
     let d = c .before .before .before in
-    diary-fits _ (d .before .before .before .pre) _ (d .before .settings .ensures) _ (d .diary-len .ensures)
+    diary-fits _ (d .before .before .before .pre) (d .before .settings .ensures) (d .diary-len .ensures)
 
 part-tail-kept-end : tie.Need-part-tail-kept-end
 part-tail-kept-end c = search needs

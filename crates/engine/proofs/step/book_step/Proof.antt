@@ -2,17 +2,18 @@
 -- Assumes nothing.
 use mathlib.Core.Path.{sym}
 use lib.Seq.{length-take-le}
+use Rattle.model.proofs.Ledger.{diary-fits}
 use Rattle.book.specs.Lent.{reading}
-use Rattle.engine.proofs.Kept.{part-good, part-fits-in, part-stepped}
+use Rattle.engine.proofs.Kept.{part-good, part-stepped}
 use borrow.Author.Needs.{needs}
 use Rattle.engine.proofs.step.book_step.Statement.{statement}
 use Rattle.engine.proofs.step.book_step.Tie as tie
 
 slice-relend-prefix-step : tie.Need-slice-relend-prefix-step
-slice-relend-prefix-step c = let p = c .before .pre in part-fits-in (p .0) _ (p .1)
+slice-relend-prefix-step c = let p = c .before .pre in diary-fits _ (p .0 .laid) (p .0 .read) (p .1)
 
 slice-aggregate-step : tie.Need-slice-aggregate-step
-slice-aggregate-step c = let p = c .before .before .pre in sym (length-take-le _ _ (part-fits-in (p .0) _ (p .1)))
+slice-aggregate-step c = let p = c .before .before .pre in sym (length-take-le _ _ (diary-fits _ (p .0 .laid) (p .0 .read) (p .1)))
 
 step-requires : tie.Need-step-requires
 unfolding reading

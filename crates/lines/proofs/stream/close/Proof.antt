@@ -4,7 +4,7 @@ use Rattle.model.proofs.Search.{both}
 use Prim.Native.Nat.{_<_}
 use mathlib.Core.Bool.{true}
 use lib.ListN.{length, take}
-use Rattle.model.specs.Reading.{stateOf}
+use Rattle.model.specs.Ledger.{ledgerOf}
 use Rattle.lines.specs.Post.{heldOf, isLater}
 use mathlib.Core.Path.{_≡_, sym, _∙_}
 use mathlib.Core.Logic.{⊎-elim}
@@ -47,7 +47,7 @@ returns-2 c =
     let d = c .before .before .before .before .before .before .before .before .before .before .before .before in
     let e = c .before .before .before .before in
     ended-as
-    (ended-closed (d .args .stream .phase) (stateOf (take (d .args .stream .size) (d .args .book .now)))
+    (ended-closed (d .args .stream .phase) (ledgerOf (take (d .args .stream .size) (d .args .book .now)))
     (heldOf (d .args .stream .held)) (begun-line c))
     (e .end-held .ensures)
 

@@ -1,7 +1,6 @@
 -- `stream::take_line`: a frame is one step, any other whole line is refused, and a line that is not over gives nothing.
 -- Assumes nothing.
 use native.Mathlib.Omega.{arith}
-use Rattle.book.specs.Lent.{reading}
 use Rattle.lines.specs.Post.{NextOf}
 use Rattle.lines.specs.declared.line.Next.the-variants.{Frame, Other}
 use Rattle.lines.proofs.Books.{next-is, taken-frame, taken-other, taken-none}
@@ -19,12 +18,11 @@ next-frame : (c : tie.After-known-told)
     → NextOf (c .before .before .before .before .before .before .args .chunk .now) (Frame (c .before .len .given .0 .0) (c .before .len .given .0 .1 .0))
 next-frame c = next-is _ (c .before .before .before .look .ensures) (c .before .len .given .1)
 
-add-t9 : tie.Need-add-t9
-add-t9 c = let n = next-frame c .0 .inside in omega (arith, c .before .before .before .before .before .before .good)
+add-t10 : tie.Need-add-t10
+add-t10 c = let n = next-frame c .0 .inside in omega (arith, c .before .before .before .before .before .before .good)
 
-step-requires : tie.Need-step-requires
-unfolding reading
-step-requires c κs = search needs
+book-step-requires : tie.Need-book-step-requires
+book-step-requires c κs = search needs
 
 enum-known-n : tie.Need-enum-known-n
 enum-known-n c = search needs
@@ -33,8 +31,8 @@ next-other : (c : tie.After-known-told2)
     → NextOf (c .before .before .before .before .before .before .args .chunk .now) (Other (c .before .n .given .0 .0))
 next-other c = next-is _ (c .before .before .before .look .ensures) (c .before .n .given .1)
 
-add-t13 : tie.Need-add-t13
-add-t13 c = let n = next-other c .0 .inside in omega (arith, c .before .before .before .before .before .before .good)
+add-t14 : tie.Need-add-t14
+add-t14 c = let n = next-other c .0 .inside in omega (arith, c .before .before .before .before .before .before .good)
 
 enum-told : tie.Need-enum-told
 enum-told c = search needs
@@ -43,13 +41,12 @@ same-length : tie.Need-same-length
 same-length c = search needs
 
 returns : tie.Need-returns
-unfolding reading
 returns c =
     let d = c .before .before .before .before in
-    taken-frame _ (d .before .before .before .before .before .before .pre) _ (next-frame d) (c .before .before .step .ensures)
+    taken-frame _ (d .before .before .before .before .before .before .pre .0) _ (next-frame d) (c .before .before .book-step .ensures)
 
 returns-2 : tie.Need-returns-2
-returns-2 c = taken-other _ (c .before .before .before .before .before .before .pre) _ (next-other c)
+returns-2 c = taken-other _ (c .before .before .before .before .before .before .pre .0) _ (next-other c)
 
 returns-3 : tie.Need-returns-3
 returns-3 c = taken-none _ (next-is _ (c .before .before .look .ensures) (c .enum-told .given .1))
@@ -60,10 +57,10 @@ take-line-spec =
     (tie.spec
     look-requires
     enum-known-len
-    add-t9
-    step-requires
+    add-t10
+    book-step-requires
     enum-known-n
-    add-t13
+    add-t14
     enum-told
     same-length
     returns
