@@ -80,13 +80,16 @@ module _ {S : Settings} {b : List ℕ} {G : Grids} {r : Request} {k : Kind} (w :
   -- the bounds of its fields and slots
   pub slots-ok : r .last < slotsOf S (row k .unit)
   unfolding stateOf readState
-  slots-ok = subst (λ (S : Settings). r .last < slotsOf S (row k .unit)) (sym (w .good .read)) (slots-fit (stateOf b) r k (said (stateOf b) r k 7 answers) .1)
+  slots-ok =
+      subst (λ (S : Settings). r .last < slotsOf S (row k .unit)) (sym (w .good .read))
+      (slots-fit (stateOf b) r k (said (stateOf b) r k 7 answers) .1)
 
   pub a-ok : (n : ℕ) → limit S (row k .a) ≡ some n → r .a < n
   unfolding test stateOf readState
   a-ok n q =
       let t : below (limit S (row k .a)) (r .a) ≡ true
-      = subst (λ (S : Settings). below (limit S (row k .a)) (r .a) ≡ true) (sym (w .good .read)) (yes (stateOf b) r k aBelow refl (said (stateOf b) r k 5 answers)) in
+      = subst (λ (S : Settings). below (limit S (row k .a)) (r .a) ≡ true) (sym (w .good .read))
+      (yes (stateOf b) r k aBelow refl (said (stateOf b) r k 5 answers)) in
       ltb-true (r .a) n (subst (λ (o : Option ℕ). below o (r .a) ≡ true) q t)
 
   pub b-ok : (n : ℕ) → limit S (row k .b) ≡ some n → r .b < n

@@ -155,19 +155,22 @@ module _ (x : State) (s : Sound x) (r : Request) (b : List ℕ) (a : Carries (x 
   pub write-addLeave : Yes x r addLeave (always ++ further addLeave)
       → Carries S (change x r addLeave) (markedAll (gridOf S leaves) true (r .b) (r .first) (r .last + 1) b)
   unfolding change test
-  write-addLeave y = leave-bits x a (slot r) (r .first) (r .last + 1) true (r .b) (ltb-true _ _ (yes x r addLeave bBelow refl (said x r addLeave 6 y)))
+  write-addLeave y =
+      leave-bits x a (slot r) (r .first) (r .last + 1) true (r .b) (ltb-true _ _ (yes x r addLeave bBelow refl (said x r addLeave 6 y)))
       (last-slot x r addLeave y) (λ i _. in-slots r i)
 
   pub write-endLeave : Yes x r endLeave (always ++ further endLeave)
       → Carries S (change x r endLeave) (markedAll (gridOf S leaves) false (r .b) (r .first) (r .last + 1) b)
   unfolding change test
-  write-endLeave y = leave-bits x a (slot r) (r .first) (r .last + 1) false (r .b) (ltb-true _ _ (yes x r endLeave bBelow refl (said x r endLeave 6 y)))
+  write-endLeave y =
+      leave-bits x a (slot r) (r .first) (r .last + 1) false (r .b) (ltb-true _ _ (yes x r endLeave bBelow refl (said x r endLeave 6 y)))
       (last-slot x r endLeave y) (λ i _. in-slots r i)
 
   pub write-addStanding : Yes x r addStanding (always ++ further addStanding)
       → Carries S (change x r addStanding) (markedAll (gridOf S standings) true (r .a) (r .first) (r .last + 1) b)
   unfolding change test
-  write-addStanding y = standing-bits x a (slot r) (r .first) (r .last + 1) true (r .a) (ltb-true _ _ (yes x r addStanding aBelow refl (said x r addStanding 5 y)))
+  write-addStanding y =
+      standing-bits x a (slot r) (r .first) (r .last + 1) true (r .a) (ltb-true _ _ (yes x r addStanding aBelow refl (said x r addStanding 5 y)))
       (last-slot x r addStanding y) (λ i _. in-slots r i)
 
   -- kind 9: the standing, then the meeting's entries in the attend rows
@@ -201,7 +204,9 @@ module _ (x : State) (s : Sound x) (r : Request) (b : List ℕ) (a : Carries (x 
       (λ i _. up-to (dateOfSession S (r .first)) (dateOfSession S (r .last)) i)
     where
       last-date : dateOfSession S (r .last) + 1 ≤ S .dates
-      last-date = omega (arith, date-lt S (ranges-by S (s .valid)) sessions (r .last) (slots-fit x r eraseConfAndLunch (said x r eraseConfAndLunch 7 y) .1))
+      last-date =
+          let l = slots-fit x r eraseConfAndLunch (said x r eraseConfAndLunch 7 y) .1 in
+          omega (arith, date-lt S (ranges-by S (s .valid)) sessions (r .last) l)
 
 -- kind 3: leave, hotel rows of the dates, ride rows of the times and the attend column of the sessions on those dates
 module _ (x : State) (s : Sound x) (b : List ℕ) (a : Carries (x .settings) x b) (v first last : ℕ) (hv : v < x .settings .visitors)

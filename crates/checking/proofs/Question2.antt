@@ -196,7 +196,8 @@ module _ (S : Settings) (caps b : List ℕ) (r : Ranges S) (cs : Caps S caps) wh
     unfolding readState
     session-is i h = record {
       pad = λ j l.
-          ltb-true _ _ (each-cell S standings (λ i j. ltb (at S b standings i j 0) (2 ^ min 32 (S .meetings - j * 32))) (rules .standing-bits) i j h l);
+          ltb-true _ _ (each-cell S standings (λ i j. ltb (at S b standings i j 0) (2 ^ min 32 (S .meetings - j * 32)))
+          (rules .standing-bits) i j h l);
       range = λ j l. range-is attendCells (S .meetings) (rules .attend-cells) i j h l;
       onLeave = λ j l n.
           let w : at S b attendCells i j 0 ≡ suc (at S b attendCells i j 0 - 1) = omega (arith, n) in
@@ -282,7 +283,8 @@ module _ (S : Settings) (caps b : List ℕ) (r : Ranges S) (cs : Caps S caps) wh
 
     pub kept-is : (d : ℕ) → d < S .dates → Kept S caps b d
     kept-is d h = record {
-      pad = λ j l. ltb-true _ _ (each-cell S leaves (λ i j. ltb (at S b leaves i j 0) (2 ^ min 32 (S .visitors - j * 32))) (rules .leave-bits) d j h l);
+      pad = λ j l.
+          ltb-true _ _ (each-cell S leaves (λ i j. ltb (at S b leaves i j 0) (2 ^ min 32 (S .visitors - j * 32))) (rules .leave-bits) d j h l);
       hotel = hotel-is d h;
       ride = λ t l e. subst (λ (x : ℕ). GuestsAt S b rideCells (S .visitors) t x) e (ride-is t l);
       session = λ i l e. subst (λ (x : ℕ). SessionAt S b i x) e (session-is i l);
