@@ -103,7 +103,7 @@ fn answer_of(number: u32, place: u32, value: u32) -> Answer
 }
 
 // One request on a good book, as a list of one: whatever judges and writes goes through the loop above, which has the only call of
-// `step`, so that the compiler puts the step into it.
+// `book_step`, so that the compiler puts the step into it.
 pub fn answer_one(book: &mut [u32], s: Settings, r: Request) -> Answer
     requires { ⌜ GoodBook s (now book) ⌝ }
     ensures { λ a. ⌜ answered a (now (book .exit)) ≡ called (Machine.perform (ledgerOf (now (book .entry))) (request r)) ⌝ }
