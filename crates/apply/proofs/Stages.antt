@@ -16,9 +16,9 @@ use Rattle.model.specs.State.{State}
 use Rattle.model.specs.Kinds.{Kind, row, slotsOf}
 use Rattle.model.specs.Questions.{always, further}
 use Rattle.model.specs.Machine.{slot}
-use Rattle.model.specs.Words.{Region, slots, items, width, order, bookLength, word, words, blocks}
+use Rattle.model.specs.Words.{Region, slots, items, width, order, diaryLength, word, words, blocks}
 use Rattle.model.specs.Reading.{at, settingsOf, readState, stateOf}
-use Rattle.model.specs.Laws.{wellLaid, lawful}
+use Rattle.model.specs.Laws.{diaryLaid, diaryLawful}
 use Rattle.model.proofs.Search.{bool-eq}
 use Rattle.model.proofs.Places.{Seated, Cell, words-at, words-ext, length-words, length-settings}
 use Rattle.model.proofs.Keeps.{Yes, said, slots-fit}
@@ -32,7 +32,7 @@ use Rattle.apply.proofs.Writes.{index, index-inj, Writes, writes-as, fi
 
 -- the book b, laid out by S, has the words of x
 pub record Carries (S : Settings) (x : State) (b : List ℕ) : Type 0 where
-  pub long : length b ≡ bookLength S
+  pub long : length b ≡ diaryLength S
   pub head : take (settingsLength S) b ≡ settingsWords S
   pub same : (h : Region) (i j k : ℕ) → Cell S h i j k → at S b h i j k ≡ word x h i j k
 
@@ -49,7 +49,7 @@ carries-words x s =
     }
 
 -- a book that passes questions 1 and 2 has the words of the state that it shows
-pub carries-shown : (b : List ℕ) → wellLaid b ≡ true → lawful b ≡ true → Carries (settingsOf b) (stateOf b) b
+pub carries-shown : (b : List ℕ) → diaryLaid b ≡ true → diaryLawful b ≡ true → Carries (settingsOf b) (stateOf b) b
 unfolding stateOf readState
 carries-shown b q1 q2 =
     subst (λ (l : List ℕ). Carries (settingsOf b) (stateOf b) l) (words-stateOf b q1 q2)

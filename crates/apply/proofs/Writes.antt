@@ -14,7 +14,7 @@ use borrow.Author.Tests.{eqb-true, eqb-false, eq-eqb, leb-true, le-leb, ltb-true
 use Rattle.model.specs.declared.Settings.{Settings}
 use Rattle.model.specs.Site.{settingsLength}
 use Rattle.model.specs.Words.{Region, leaves, hotelCells, standings, attendCells, confPairs, lunchTriples, rideCells}
-use Rattle.model.specs.Words.{slots, items, width, address, base, bookLength, word}
+use Rattle.model.specs.Words.{slots, items, width, address, base, diaryLength, word}
 use Rattle.model.specs.Reading.{at}
 use Rattle.model.proofs.Search.{and-left, and-right, and-true, bool-eq}
 use Rattle.model.proofs.Places.{Cell, Same, address-inj, address-lt}
@@ -64,7 +64,7 @@ pub record Writes (S : Settings) (g : Region) (d : ℕ → ℕ → Bool) (f : �
   pub long : (b : List ℕ) → length (F b) ≡ length b
   pub head : (b : List ℕ) → take (settingsLength S) (F b) ≡ take (settingsLength S) b
   pub other : (b : List ℕ) (h : Region) (i j k : ℕ) → Cell S h i j k → among g d h i j ≡ false → at S (F b) h i j k ≡ at S b h i j k
-  pub mine : (b : List ℕ) → length b ≡ bookLength S → (i j k : ℕ) → Cell S g i j k → d i j ≡ true → at S (F b) g i j k
+  pub mine : (b : List ℕ) → length b ≡ diaryLength S → (i j k : ℕ) → Cell S g i j k → d i j ≡ true → at S (F b) g i j k
       ≡ f k (at S b g i j 0) (at S b g i j k)
 
 -- a cell that is not among those of a test is not among those of a narrower one
@@ -140,7 +140,7 @@ module _ (S : Settings) (g : Region) (d : ℕ → ℕ → Bool) (key : ℕ → �
     in-region : {t : Bool} → t ≡ false → eqb (index g) (index g) && t ≡ false
     in-region e = rw (eq-eqb (index g) (index g) refl) e
 
-    one-more : (b : List ℕ) → length b ≡ bookLength S → (i j k : ℕ) → Cell S g i j k → (d i j ≡ true) × (lo ≤ key i j) × (key i j < lo + suc n)
+    one-more : (b : List ℕ) → length b ≡ diaryLength S → (i j k : ℕ) → Cell S g i j k → (d i j ≡ true) × (lo ≤ key i j) × (key i j < lo + suc n)
         → (t : Bool) → eqb (key i j) lo ≡ t → at S (times F lo (suc n) b) g i j k ≡ f k (at S b g i j 0) (at S b g i j k)
     one-more b l i j k c h true e =
         rest .other (F lo b) g i j k c (in-region (not-later i j (eqb-true _ _ e)))
@@ -242,11 +242,11 @@ module _ (S : Settings) (g : Region) where
       let t : d i' j' ≡ true = rw (s .slot, s .item) here in
       true≢false (sym (and-true (eq-eqb (index h) (index g) (ap index (s .region))) t) ∙ q)
 
-  room : {i j k : ℕ} → Cell S g i j k → (b : List ℕ) → length b ≡ bookLength S → place (gridOf S g) i j 0 + width g ≤ length b
+  room : {i j k : ℕ} → Cell S g i j k → (b : List ℕ) → length b ≡ diaryLength S → place (gridOf S g) i j 0 + width g ≤ length b
   room {i} {j} {k} c b l =
       let w : 0 < width g = omega (arith, c .word) in
       let n : width g - 1 < width g = omega arith in
-      let a : address S g i j (width g - 1) < bookLength S = address-lt S g (record { slot = c .slot; item = c .item; word = n }) in
+      let a : address S g i j (width g - 1) < diaryLength S = address-lt S g (record { slot = c .slot; item = c .item; word = n }) in
       omega (arith, a, place-is i j (width g - 1), l)
 
   module _ (i j : ℕ) (hi : i < slots S g) (hj : j < items S g) (d : ℕ → ℕ → Bool) (only : (i' j' : ℕ) → d i' j' ≡ true → (i' ≡ i) × (j' ≡ j))
@@ -294,7 +294,7 @@ module _ (S : Settings) (g : Region) where
         other true b h i' j' k' c q = stored-writes empty .other b h i' j' k' c q
         other false b h i' j' k' c q = refl
 
-        mine : (t : Bool) (b : List ℕ) → length b ≡ bookLength S → (k : ℕ) → Cell S g i j k → t ≡ eqb (at S b g i j 0) w
+        mine : (t : Bool) (b : List ℕ) → length b ≡ diaryLength S → (k : ℕ) → Cell S g i j k → t ≡ eqb (at S b g i j 0) w
             → at S (cond t (stored (gridOf S g) empty i j b) b) g i j k ≡ cond (eqb (at S b g i j 0) w) 0 (at S b g i j k)
         mine true b l k c e = rw (← e) (stored-writes empty .mine b l i j k c here ∙ empty-word k)
         mine false b l k c e = rw (← e)

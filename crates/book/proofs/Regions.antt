@@ -16,7 +16,7 @@ use Rattle.book.specs.Ranges.{Ranges}
 use Rattle.model.specs.Site.{allSessions, allTimes}
 use Rattle.model.proofs.Places.{settings-length}
 use Rattle.model.specs.Words.{Region, leaves, hotelCells, standings, attendCells, confPairs, lunchTriples, rideCells}
-use Rattle.model.specs.Words.{base, slots, items, width, size, bookLength}
+use Rattle.model.specs.Words.{base, slots, items, width, size, diaryLength}
 
 pub all-sessions : (S : Settings) → Ranges S → allSessions S ≤ 6400
 all-sessions S h = mul-le-mul {n₂ = 400} {m₂ = 16} (h .dates .1) (h .sessions .1)
@@ -55,8 +55,8 @@ size-le : (S : Settings) → Ranges S → (g : Region) → size S g ≤ 58982400
 unfolding size
 size-le S h g = mul-le-mul {n₂ = 19660800} {m₂ = 3} (mul-le-mul {n₂ = 38400} {m₂ = 512} (slots-le S h g) (items-le S h g)) (width-le g .1)
 
-pub book-le : (S : Settings) → Ranges S → bookLength S ≤ 1000000000
-unfolding bookLength
+pub book-le : (S : Settings) → Ranges S → diaryLength S ≤ 1000000000
+unfolding diaryLength
 book-le S h =
     omega (
       arith,
@@ -72,8 +72,8 @@ book-le S h =
     )
 
 -- a region ends where the next begins, and the last where the book ends
-pub end-le : (S : Settings) (g : Region) → base S g + size S g ≤ bookLength S
-unfolding base bookLength
+pub end-le : (S : Settings) (g : Region) → base S g + size S g ≤ diaryLength S
+unfolding base diaryLength
 end-le S leaves = omega arith
 end-le S hotelCells = omega arith
 end-le S standings = omega arith

@@ -6,7 +6,7 @@ use mathlib.Core.List.{List, [], _∷_}
 use Rattle.capi.specs.declared.AnswerWords.{AnswerWords}
 use Rattle.capi.specs.declared.RequestWords.{RequestWords}
 use Rattle.model.specs.declared.Request.{Request}
-use Rattle.model.specs.Machine.{answerWords, requestOf}
+use Rattle.model.specs.Machine.{answerWords, replyWords, requestOf}
 use Rattle.model.specs.Calls.{Called, Listed}
 
 -- the three words of the struct, in the order of its fields
@@ -17,9 +17,9 @@ wordsOf r = r .number ∷ r .place ∷ r .value ∷ []
 abbrev pub requestBy : RequestWords → Request
 requestBy w = requestOf (w .kind ∷ w .a ∷ w .b ∷ w .first ∷ w .last ∷ w .n ∷ w .info ∷ [])
 
--- the answer r and the book b are those of the model's call
+-- the answer r, all that the call replies, and the book b are those of the model's call
 pub record Tells (c : Called) (r : AnswerWords) (b : List ℕ) : Type 0 where
-  pub answer : wordsOf r ≡ answerWords (c .answer)
+  pub answer : wordsOf r ≡ replyWords (c .reply)
   pub book : b ≡ c .book
 
 -- the answer r, the book b and the lent words a of the answers are those of the model's list

@@ -30,7 +30,7 @@ use Rattle.model.proofs.Laws.{Sound, law-by, oneA-by, oneB-by, each-by}
 use Rattle.model.proofs.Shown.{CellRules, cell-rules-is, each-cell, some-is}
 use Rattle.model.proofs.Sound.{book-sound, held-some}
 use Rattle.model.specs.Reading.{settingsOf, stateOf}
-use Rattle.model.specs.Laws.{wellLaid, lawful}
+use Rattle.model.specs.Laws.{diaryLaid, diaryLawful}
 use Rattle.rules.specs.Rows.{Decides, Caps}
 use Rattle.checking.specs.Days.{Eaten}
 use Rattle.checking.specs.Kept.{GuestsAt, SessionAt, seatsAt, Kept}
@@ -290,18 +290,18 @@ module _ (S : Settings) (caps b : List ℕ) (r : Ranges S) (cs : Caps S caps) wh
       sums = λ g l. sums-is d g h l;
     }
 
-rules-of : (b : List ℕ) → lawful b ≡ true → CellRules (settingsOf b) b
-unfolding lawful
+rules-of : (b : List ℕ) → diaryLawful b ≡ true → CellRules (settingsOf b) b
+unfolding diaryLawful
 rules-of b q = cell-rules-is (settingsOf b) b (and-left (cellRules (settingsOf b) b) _ q)
 
 -- question 2
-pub lawful-said : (b caps : List ℕ) → wellLaid b ≡ true → (S : Settings) → S ≡ settingsOf b → Ranges S → Caps S caps
-    → (answer : Bool) → Decides answer ((d : ℕ) → d < S .dates → Kept S caps b d) → answer ≡ lawful b
-unfolding lawful stateOf
+pub lawful-said : (b caps : List ℕ) → diaryLaid b ≡ true → (S : Settings) → S ≡ settingsOf b → Ranges S → Caps S caps
+    → (answer : Bool) → Decides answer ((d : ℕ) → d < S .dates → Kept S caps b d) → answer ≡ diaryLawful b
+unfolding diaryLawful stateOf
 lawful-said b caps q1 S e r cs true k = sym (ap (λ (T : Settings). cellRules T b && laws (readState T b)) (sym e) ∙ lawful-by S caps b r cs k)
-lawful-said b caps q1 S e r cs false k = go (lawful b) refl
+lawful-said b caps q1 S e r cs false k = go (diaryLawful b) refl
   where
-    go : (t : Bool) → lawful b ≡ t → false ≡ lawful b
+    go : (t : Bool) → diaryLawful b ≡ t → false ≡ diaryLawful b
     go false q = sym q
     go true q =
         absurd (k (subst (λ (T : Settings). Caps T caps → Ranges T → (d : ℕ) → d < T .dates → Kept T caps b d) (sym e)

@@ -1,15 +1,22 @@
--- The three answers of the model's check, and what the answer done leaves to know.
+-- The three answers of the model's check, what the answer done leaves to know, and question 2 by the two parts of a book.
 -- Assumes nothing.
-use Prim.Native.Nat.{ℕ}
-use mathlib.Core.Path.{_≡_, refl}
+use Prim.Native.Nat.{ℕ, _-_, _≤_}
+use mathlib.Core.Path.{_≡_, refl, sym, _∙_, ap, subst}
 use mathlib.Core.Bool.{Bool, true, false}
 use mathlib.Core.List.{List}
 use native.Mathlib.Omega.{arith}
+use lib.ListN.{length, take, drop, length-drop}
+use lib.Seq.{take-all}
+use Rattle.model.specs.declared.Settings.{Settings}
 use Rattle.model.specs.declared.Answer.the-variants.{Done, Refused}
+use Rattle.model.specs.Words.{diaryLength}
 use Rattle.model.specs.Reading.{settingsOf}
-use Rattle.model.specs.Laws.{wellLaid, lawful}
+use Rattle.model.specs.Tail.{tailKept}
+use Rattle.model.specs.Ledger.{bookLength}
+use Rattle.model.specs.Laws.{wellLaid, diaryLaid, lawful, diaryLawful}
+use Rattle.model.proofs.Ledger.{first-part, part-behind, laid-long, laid-diary}
 use Rattle.model.specs.Calls.{check}
-use Rattle.book.specs.Good.{Good}
+use Rattle.book.specs.Good.{GoodBook}
 
 module _ (b : List ℕ) where
   pub check-one : wellLaid b ≡ false → check b ≡ Refused 1 0
@@ -25,10 +32,27 @@ module _ (b : List ℕ) where
   check-done e f = rw (e, f)
 
   -- done: the book passes questions 1 and 2
-  pub done-good : (n : ℕ) → check b ≡ Done n → Good (settingsOf b) b
+  pub done-good : (n : ℕ) → check b ≡ Done n → GoodBook (settingsOf b) b
   done-good n e = go (wellLaid b) refl (lawful b) refl
     where
-      go : (p : Bool) → wellLaid b ≡ p → (q : Bool) → lawful b ≡ q → Good (settingsOf b) b
+      go : (p : Bool) → wellLaid b ≡ p → (q : Bool) → lawful b ≡ q → GoodBook (settingsOf b) b
       go true p true q = record { read = refl; laid = p; lawful = q }
       go true p false q = let h = check-two p q in let z : _≡_ {A = ℕ} 0 1 = cc in absurd (omega arith)
       go false p q r = let h = check-one p in let z : _≡_ {A = ℕ} 0 1 = cc in absurd (omega arith)
+
+-- question 2 of a book that passes question 1, by its first n words and those behind them, where the diary has n
+module _ (b : List ℕ) (one : wellLaid b ≡ true) (S : Settings) (is : S ≡ settingsOf b) (n : ℕ) (here : n ≡ diaryLength S) where
+  pub diary-fits : n ≤ length b
+  unfolding bookLength
+  diary-fits = omega (arith, laid-long b one ∙ ap bookLength (sym is), here)
+
+  pub first-laid : diaryLaid (take n b) ≡ true
+  first-laid = subst (λ (d : List ℕ). diaryLaid d ≡ true) (first-part b is here) (laid-diary b one)
+
+  pub two-no : diaryLawful (take n b) ≡ false → lawful b ≡ false
+  unfolding lawful
+  two-no e = rw (first-part b is here, e)
+
+  pub two-yes : diaryLawful (take n b) ≡ true → tailKept (take (length b - n) (drop n b)) ≡ lawful b
+  unfolding lawful
+  two-yes e = rw (first-part b is here, e, part-behind b is here) (ap tailKept (take-all (length b - n) (drop n b) (omega (arith, length-drop n b))))

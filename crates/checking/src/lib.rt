@@ -8,18 +8,38 @@ use model::Answer;
 use rules::tables;
 ghost use mathlib.Core.Path.{_≡_};
 ghost use mathlib.Core.Bool.{true};
-ghost use Rattle.model.specs.Laws.{wellLaid, lawful};
+ghost use Rattle.model.specs.Tail.{tailKept};
+ghost use Rattle.model.specs.Laws.{wellLaid, diaryLaid, lawful, diaryLawful};
 ghost use Rattle.model.specs.Calls;
 
-// Question 2, of a book that passes question 1.
-pub fn lawful(book: &[u32]) -> bool
-    requires { ⌜ wellLaid (now book) ≡ true ⌝ }
-    ensures { λ r. ⌜ r ≡ lawful (now (book .entry)) ⌝ }
+// Question 2 of a diary that passes question 1.
+fn diary_lawful(book: &[u32]) -> bool
+    requires { ⌜ diaryLaid (now book) ≡ true ⌝ }
+    ensures { λ r. ⌜ r ≡ diaryLawful (now (book .entry)) ⌝ }
 {
     let s = settings::settings(book);
     let caps = tables::caps_of(s);
     let grids = grid::grids_of(s);
     dates::dates(book, s, grids, &caps)
+}
+
+// Question 2 of what stands behind the diary: so far nothing, and nothing is asked.
+fn tail_kept(tail: &[u32]) -> bool
+    ensures { λ r. ⌜ r ≡ tailKept (now (tail .entry)) ⌝ }
+{
+    true
+}
+
+// Question 2 of a book that passes question 1: its diary, then what stands behind it.
+fn book_lawful(book: &[u32]) -> bool
+    requires { ⌜ wellLaid (now book) ≡ true ⌝ }
+    ensures { λ r. ⌜ r ≡ lawful (now (book .entry)) ⌝ }
+{
+    let n = settings::diary_len(settings::settings(book));
+    if !diary_lawful(&book[..n]) {
+        return false;
+    }
+    tail_kept(&book[n..])
 }
 
 // Questions 1 and 2: done with 0 for a book that passes both.
@@ -32,7 +52,7 @@ pub fn check(book: &[u32]) -> Answer
             place: 0,
         };
     }
-    if !lawful(book) {
+    if !book_lawful(book) {
         return Answer::Refused {
             number: 2,
             place: 0,

@@ -1,57 +1,79 @@
 -- A good book stays good: what a laying leaves, and what a step keeps.
 -- Assumes nothing.
-use Prim.Native.Nat.{ℕ}
-use mathlib.Core.Path.{_≡_, _∙_, ap, subst}
+use Prim.Native.Nat.{ℕ, _≤_}
+use mathlib.Core.Path.{_≡_, sym, _∙_, ap, ap₂, subst}
 use mathlib.Core.Bool.{true}
-use mathlib.Core.List.{List, _∷_}
+use mathlib.Core.List.{List, _∷_, _++_}
+use native.Mathlib.Omega.{arith}
+use lib.ListN.{length, take, drop}
 use Rattle.model.specs.declared.Settings.{Settings}
 use Rattle.model.specs.declared.Request.{Request}
+use Rattle.model.specs.declared.Answer.{Answer}
 use Rattle.model.specs.State.{State, emptyState}
-use Rattle.model.specs.Machine.{step, Call, request}
-use Rattle.model.specs.Words.{words}
+use Rattle.model.specs.Machine.{step, Call, request, perform}
+use Rattle.model.specs.Words.{words, diaryLength}
 use Rattle.model.specs.Reading.{stateOf, readState}
+use Rattle.model.specs.Tail.{tailWords}
+use Rattle.model.specs.Ledger.{emptyLedger, bookWords, diaryOf, behindOf, ledgerOf}
 use Rattle.model.specs.Calls.{Called, called, call, calls, freshBook}
 use Rattle.model.specs.Site.{validSettings}
+use Rattle.model.proofs.Tail.{tail-shown}
 use Rattle.model.proofs.Shown.{words-stateOf}
-use Rattle.model.proofs.Sound.{book-sound}
+use Rattle.model.proofs.Ledger.{first-part, part-behind, behind-long, lawful-behind, ledger-sound}
 use Rattle.model.proofs.Frame.{step-settings}
-use Rattle.model.proofs.Calls.{step-sound, empty-sound, fresh-words}
-use Rattle.model.proofs.Laws.{Sound}
-use Rattle.book.specs.Good.{Good}
-use Rattle.book.proofs.Goods.{good-state, good-words}
+use Rattle.model.proofs.Calls.{perform-sound, empty-ledger, fresh-words}
+use Rattle.book.specs.Good.{Good, GoodBook, answered, inWords}
+use Rattle.book.proofs.Goods.{good-state, good-part, part-fits, book-words}
 
-module _ {S : Settings} {b : List ℕ} (good : Good S b) where
-  sound : Sound (stateOf b)
-  sound = book-sound b (good .laid) (good .lawful)
+-- a good diary is the words of the state that it shows
+pub good-diary : {S : Settings} {b : List ℕ} → Good S b → words (stateOf b) ≡ b
+good-diary {S} {b} good = words-stateOf b (good .laid) (good .lawful)
 
-  settings-are : stateOf b .settings ≡ S
-  unfolding readState
-  settings-are = ap (λ (x : State). x .settings) (good-state good)
+module _ {S : Settings} {b : List ℕ} (good : GoodBook S b) where
+  settings-are : ledgerOf b .diary .settings ≡ S
+  unfolding ledgerOf readState
+  settings-are = ap (λ (x : State). x .settings) (good-state (good-part good))
 
-  -- a good book is the words of the state that it shows
-  pub good-book : words (stateOf b) ≡ b
-  good-book = words-stateOf b (good .laid) (good .lawful)
+  -- the first n words are a good diary, where the diary has n
+  pub part-good : (n : ℕ) → n ≡ diaryLength S → Good S (take n b)
+  part-good n e = subst (Good S) (first-part b (good .read) e) (good-part good)
 
-  pub good-step : (r : Request) → Good S (words (step (stateOf b) r .state))
+  pub part-fits-in : (n : ℕ) → n ≡ diaryLength S → n ≤ length b
+  part-fits-in n e = omega (arith, e, part-fits good)
+
+  -- a step on the first part of the book is a step of the machine: what stands behind it stays
+  pub part-stepped : (n : ℕ) → n ≡ diaryLength S → (r : Request) {a : Answer} {c : List ℕ} → answered a c ≡ inWords (step (stateOf (take n b)) r)
+      → answered a (c ++ drop n b) ≡ called (perform (ledgerOf b) (request r))
+  unfolding bookWords ledgerOf
+  part-stepped n e r {a} {c} h =
+      let q : answered a c ≡ inWords (step (stateOf (diaryOf b)) r)
+      = h ∙ ap (λ (d : List ℕ). inWords (step (stateOf d) r)) (sym (first-part b (good .read) e)) in
+      let t : drop n b ≡ tailWords (ledgerOf b .tail)
+      = sym (part-behind b (good .read) e)
+      ∙ sym (tail-shown (behindOf b) (behind-long b (good .laid)) (lawful-behind b (good .laid) (good .lawful))) in
+      ap₂ (λ (v : Called) (w : List ℕ). record { reply = v .reply; book = v .book ++ w }) q t
+
+  pub good-step : (r : Request) → GoodBook S (bookWords (perform (ledgerOf b) (request r) .ledger))
   good-step r =
-      subst (λ (T : Settings). Good T (words (step (stateOf b) r .state))) (step-settings (stateOf b) r ∙ settings-are)
-      (good-words (step (stateOf b) r .state) (step-sound (stateOf b) sound r))
+      subst (λ (T : Settings). GoodBook T (bookWords (perform (ledgerOf b) (request r) .ledger)))
+      (step-settings (ledgerOf b .diary) r ∙ settings-are)
+      (book-words (perform (ledgerOf b) (request r) .ledger)
+      (perform-sound (ledgerOf b) (ledger-sound b (good .laid) (good .lawful)) (request r)))
 
-  pub good-call : (r : Request) → call b r ≡ called (step (stateOf b) r)
+  pub good-call : (r : Request) → call b r ≡ called (perform (ledgerOf b) (request r))
   unfolding call
   good-call r = rw (good .laid, good .lawful)
 
   -- the first of a list of requests
   pub good-calls : (r : Request) (cs : List Call) → calls b (request r ∷ cs)
       ≡ record {
-        answers = step (stateOf b) r .answer ∷ calls (words (step (stateOf b) r .state)) cs .answers;
-        book = calls
-            (words (step (stateOf b) r .state)) cs .book;
+        replies = perform (ledgerOf b) (request r) .reply ∷ calls (bookWords (perform (ledgerOf b) (request r) .ledger)) cs .replies;
+        book = calls (bookWords (perform (ledgerOf b) (request r) .ledger)) cs .book;
       }
   unfolding calls
-  good-calls r cs = ap (λ (c : Called). record { answers = c .answer ∷ calls (c .book) cs .answers; book = calls (c .book) cs .book }) (good-call r)
+  good-calls r cs = ap (λ (c : Called). record { replies = c .reply ∷ calls (c .book) cs .replies; book = calls (c .book) cs .book }) (good-call r)
 
 -- a freshly laid book
-pub fresh-good : (S : Settings) → validSettings S ≡ true → Good S (freshBook S)
-unfolding emptyState
-fresh-good S e = rw (fresh-words S e) (good-words (emptyState S) (empty-sound S e))
+pub fresh-good : (S : Settings) → validSettings S ≡ true → GoodBook S (freshBook S)
+unfolding emptyLedger emptyState
+fresh-good S e = rw (fresh-words S e) (book-words (emptyLedger S) (empty-ledger S e))

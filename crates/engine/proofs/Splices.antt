@@ -8,12 +8,11 @@ use lib.ListN.{length, set, take, drop, length-append, length-take, length-drop,
 use lib.Seq.{take-at, drop-at, drop-drop, sets-eq}
 use Rattle.model.specs.declared.Settings.{Settings}
 use Rattle.model.specs.declared.Request.{Request}
-use Rattle.model.specs.declared.Answer.{Answer}
 use Rattle.model.specs.declared.Answer.the-variants.{Done, Refused}
-use Rattle.model.specs.Machine.{step, Call, request, requestOf, answerWords}
-use Rattle.model.specs.Reading.{stateOf}
-use Rattle.model.specs.Calls.{Calls, calls, requestsOf, answersWords}
-use Rattle.book.specs.Good.{Good}
+use Rattle.model.specs.Machine.{Call, request, Reply, told, replyWords, perform, requestOf}
+use Rattle.model.specs.Ledger.{ledgerOf}
+use Rattle.model.specs.Calls.{Calls, calls, requestsOf, repliesWords}
+use Rattle.book.specs.Good.{GoodBook}
 use Rattle.engine.specs.Lists.{spliced, One, All}
 use Rattle.engine.proofs.Kept.{good-calls}
 
@@ -26,9 +25,9 @@ write-three l i x y z h =
     ap₂ (λ (j k : ℕ). set (set (set l i x) j y) k z) e1 e2 ∙ sets-eq (x ∷ y ∷ z ∷ []) l i h
     ∙ append-assoc (take i l) (x ∷ y ∷ z ∷ []) (drop (i + 3) l)
 
-pub three : (a : Answer) → length (answerWords a) ≡ 3
-three (Done v) = refl
-three (Refused n p) = refl
+pub three : (a : Reply) → length (replyWords a) ≡ 3
+three (told (Done v)) = refl
+three (told (Refused n p)) = refl
 
 module _ (l : List ℕ) (i : ℕ) (h : i + 3 ≤ length l) (ws : List ℕ) (long : length ws ≡ 3) where
   split : length (take i l ++ ws) ≡ i + 3
@@ -51,8 +50,8 @@ pub record Left (w : List ℕ) (n : ℕ) (b₀ a₀ : List ℕ) (i : ℕ) (b a :
   pub most : i ≤ n
   pub long : length a ≡ length a₀
   pub book : calls b (requestsOf (n - i) (drop (i * 7) w)) .book ≡ calls b₀ (requestsOf n w) .book
-  pub answers : take (i * 3) a ++ answersWords (calls b (requestsOf (n - i) (drop (i * 7) w)) .answers)
-      ≡ answersWords (calls b₀ (requestsOf n w) .answers)
+  pub answers : take (i * 3) a ++ repliesWords (calls b (requestsOf (n - i) (drop (i * 7) w)) .replies)
+      ≡ repliesWords (calls b₀ (requestsOf n w) .replies)
   pub behind : drop (i * 3) a ≡ drop (i * 3) a₀
 
 pub left-start : (w : List ℕ) (n : ℕ) (b a : List ℕ) → Left w n b a 0 b a
@@ -62,12 +61,12 @@ left-start w n b a =
       most = omega arith;
       long = refl;
       book = ap (λ (k : ℕ). calls b (requestsOf k w) .book) e;
-      answers = ap (λ (k : ℕ). answersWords (calls b (requestsOf k w) .answers)) e;
+      answers = ap (λ (k : ℕ). repliesWords (calls b (requestsOf k w) .replies)) e;
       behind = refl;
     }
 
-module _ (S : Settings) (w : List ℕ) (n : ℕ) (b₀ a₀ : List ℕ) (i : ℕ) (b a b′ a′ : List ℕ) (good : Good S b) (h : i < n) (room : n * 3 ≤ length a₀)
-    (l : Left w n b₀ a₀ i b a) (one : One w i b a b′ a′) where
+module _ (S : Settings) (w : List ℕ) (n : ℕ) (b₀ a₀ : List ℕ) (i : ℕ) (b a b′ a′ : List ℕ) (good : GoodBook S b) (h : i < n)
+    (room : n * 3 ≤ length a₀) (l : Left w n b₀ a₀ i b a) (one : One w i b a b′ a′) where
   r : Request
   r = requestOf (drop (i * 7) w)
 
@@ -83,11 +82,12 @@ module _ (S : Settings) (w : List ℕ) (n : ℕ) (b₀ a₀ : List ℕ) (i : ℕ
       ∙ ap (λ (v : List ℕ). request (requestOf (drop (i * 7) w)) ∷ requestsOf (n - (i + 1)) v) (drop-drop 7 (i * 7) w ∙ ap (λ (k : ℕ). drop k w) f)
 
   taken : calls b (requestsOf (n - i) (drop (i * 7) w))
-      ≡ record { answers = step (stateOf b) r .answer ∷ calls b′ rest .answers; book = calls b′ rest .book }
+      ≡ record { replies = perform (ledgerOf b) (request r) .reply ∷ calls b′ rest .replies; book = calls b′ rest .book }
   unfolding r
   taken =
       ap (calls b) first ∙ good-calls good r rest
-      ∙ ap (λ (v : List ℕ). record { answers = step (stateOf b) r .answer ∷ calls v rest .answers; book = calls v rest .book }) (sym (one .book))
+      ∙ ap (λ (v : List ℕ). record { replies = perform (ledgerOf b) (request r) .reply ∷ calls v rest .replies; book = calls v rest .book })
+      (sym (one .book))
 
   fits : i * 3 + 3 ≤ length a
   fits = omega (arith, l .long)
@@ -96,39 +96,40 @@ module _ (S : Settings) (w : List ℕ) (n : ℕ) (b₀ a₀ : List ℕ) (i : ℕ
   next = omega arith
 
   aw : List ℕ
-  aw = answerWords (step (stateOf b) r .answer)
+  aw = replyWords (perform (ledgerOf b) (request r) .reply)
 
   written : take ((i + 1) * 3) a′ ≡ take (i * 3) a ++ aw
   unfolding r aw
   written =
       ap (λ (k : ℕ). take k a′) (sym next) ∙ ap (take (i * 3 + 3)) (one .answers)
-      ∙ spliced-take a (i * 3) fits (answerWords (step (stateOf b) r .answer)) (three (step (stateOf b) r .answer))
+      ∙ spliced-take a (i * 3) fits (replyWords (perform (ledgerOf b) (request r) .reply)) (three (perform (ledgerOf b) (request r) .reply))
 
   kept : drop ((i + 1) * 3) a′ ≡ drop ((i + 1) * 3) a₀
   unfolding r
   kept =
       ap (λ (k : ℕ). drop k a′) (sym next) ∙ ap (drop (i * 3 + 3)) (one .answers)
-      ∙ spliced-drop a (i * 3) fits (answerWords (step (stateOf b) r .answer)) (three (step (stateOf b) r .answer))
+      ∙ spliced-drop a (i * 3) fits (replyWords (perform (ledgerOf b) (request r) .reply)) (three (perform (ledgerOf b) (request r) .reply))
       ∙ sym (drop-drop 3 (i * 3) a) ∙ ap (drop 3) (l .behind) ∙ drop-drop 3 (i * 3) a₀ ∙ ap (λ (k : ℕ). drop k a₀) next
 
   pub left-turn : Left w n b₀ a₀ (i + 1) b′ a′
-  unfolding answersWords r rest aw
+  unfolding repliesWords r rest aw
   left-turn =
       record {
         most = omega arith;
         long = ap length (one .answers)
-            ∙ spliced-length a (i * 3) fits (answerWords (step (stateOf b) r .answer)) (three (step (stateOf b) r .answer)) ∙ l .long;
+            ∙ spliced-length a (i * 3) fits (replyWords (perform (ledgerOf b) (request r) .reply)) (three (perform (ledgerOf b) (request r) .reply))
+            ∙ l .long;
         book = sym (ap (λ (c : Calls). c .book) taken) ∙ l .book;
         answers =
-            ap (λ (v : List ℕ). v ++ answersWords (calls b′ rest .answers)) written
-            ∙ append-assoc (take (i * 3) a) aw (answersWords (calls b′ rest .answers))
-            ∙ sym (ap (λ (c : Calls). take (i * 3) a ++ answersWords (c .answers)) taken)
+            ap (λ (v : List ℕ). v ++ repliesWords (calls b′ rest .replies)) written
+            ∙ append-assoc (take (i * 3) a) aw (repliesWords (calls b′ rest .replies))
+            ∙ sym (ap (λ (c : Calls). take (i * 3) a ++ repliesWords (c .replies)) taken)
             ∙ l .answers;
         behind = kept;
       }
 
 pub left-end : (w : List ℕ) (n : ℕ) (b₀ a₀ : List ℕ) (i : ℕ) (b a : List ℕ) → n ≤ i → Left w n b₀ a₀ i b a → All w n b₀ a₀ b a
-unfolding calls requestsOf answersWords
+unfolding calls requestsOf repliesWords
 left-end w n b₀ a₀ i b a h l =
     let e : n - i ≡ 0 = omega arith in
     let q : i * 3 ≡ 3 * n = omega (arith, l .most) in
@@ -137,6 +138,6 @@ left-end w n b₀ a₀ i b a h l =
       answers =
           sym (take-append-drop (i * 3) a)
           ∙ ap₂ _++_ (sym (append-nil (take (i * 3) a))
-          ∙ sym (ap (λ (k : ℕ). take (i * 3) a ++ answersWords (calls b (requestsOf k (drop (i * 7) w)) .answers)) e) ∙ l .answers)
+          ∙ sym (ap (λ (k : ℕ). take (i * 3) a ++ repliesWords (calls b (requestsOf k (drop (i * 7) w)) .replies)) e) ∙ l .answers)
           (l .behind ∙ ap (λ (k : ℕ). drop k a₀) q);
     }

@@ -13,10 +13,10 @@ use Rattle.model.specs.declared.Answer.the-variants.{Done, Refused}
 use Rattle.model.specs.State.{State}
 use Rattle.model.specs.Kinds.{Kind, kindOf}
 use Rattle.model.specs.Questions.{Question, number, always, further, ask, judge, refusal, Refusal}
-use Rattle.model.specs.Machine.{step, stepKind, finish, answerWords}
-use Rattle.model.specs.Reading.{stateOf}
-use Rattle.model.specs.Calls.{Calls, called, calls, requestsOf, answersWords}
-use Rattle.book.specs.Good.{Good, answered}
+use Rattle.model.specs.Machine.{step, stepKind, finish, answerWords, request, perform}
+use Rattle.model.specs.Ledger.{ledgerOf}
+use Rattle.model.specs.Calls.{Calls, called, calls, requestsOf, repliesWords}
+use Rattle.book.specs.Good.{GoodBook, answered}
 use Rattle.engine.specs.Lists.{All, toldBy}
 use Rattle.engine.proofs.Kept.{good-calls}
 
@@ -81,12 +81,13 @@ told-refused zero p v h = absurd (omega (arith, h))
 told-refused (suc n) p v h = refl
 
 -- a list of one request on a good book is one step
-pub one-told : {S : Settings} {b : List ℕ} → Good S b → (r : Request) {a b′ a′ : List ℕ}
-    → All (r .kind ∷ r .a ∷ r .b ∷ r .first ∷ r .last ∷ r .n ∷ r .info ∷ []) 1 b a b′ a′ → answered (read a′) b′ ≡ called (step (stateOf b) r)
-unfolding calls requestsOf answersWords
+pub one-told : {S : Settings} {b : List ℕ} → GoodBook S b → (r : Request) {a b′ a′ : List ℕ}
+    → All (r .kind ∷ r .a ∷ r .b ∷ r .first ∷ r .last ∷ r .n ∷ r .info ∷ []) 1 b a b′ a′
+    → answered (read a′) b′ ≡ called (perform (ledgerOf b) (request r))
+unfolding calls requestsOf repliesWords
 one-told {S} {b} good r {a} {b′} {a′} all =
     let e = good-calls good r [] in
     ap₂ answered
-    (ap read (all .answers ∙ ap (λ (c : Calls). answersWords (c .answers) ++ drop 3 a) e)
-    ∙ told-back (stateOf b) r (step (stateOf b) r .answer) (drop 3 a) refl)
+    (ap read (all .answers ∙ ap (λ (c : Calls). repliesWords (c .replies) ++ drop 3 a) e)
+    ∙ told-back (ledgerOf b .diary) r (step (ledgerOf b .diary) r .answer) (drop 3 a) refl)
     (all .book ∙ ap (λ (c : Calls). c .book) e)

@@ -10,21 +10,29 @@ use lib.ListN.{length}
 use Rattle.model.specs.declared.Request.{Request}
 use Rattle.model.specs.declared.Answer.{Answer}
 use Rattle.model.specs.declared.Answer.the-variants.{Done, Refused}
-use Rattle.model.specs.Words.{bookLength}
-use Rattle.model.specs.Reading.{settingsOf, stateOf}
+use Rattle.model.specs.Machine.{told}
+use Rattle.model.specs.Reading.{settingsOf}
+use Rattle.model.specs.Ledger.{bookLength, ledgerOf}
 use Rattle.model.specs.Laws.{wellLaid, lawful}
 use Rattle.model.specs.Calls.{Called, call, calls, check, lay, freshBook, settingsGood, requestsOf, answerable, listed, callList, serveList}
 use Rattle.model.proofs.Calls.{from-fresh}
 use Rattle.model.proofs.Shows.{good-valid}
 use Rattle.model.specs.Removal.{Removed, RemovalKept}
 use Rattle.model.proofs.Removal.{removal}
-use Rattle.book.specs.Good.{Good, answered}
+use Rattle.book.specs.Good.{GoodBook, answered}
 use Rattle.engine.specs.Lists.{All, asListed}
 use Rattle.checking.proofs.Verdicts.{done-good}
 use Rattle.engine.proofs.Kept.{fresh-good}
 
 done-refused : {n p v : ℕ} {A : Type 0} → Done v ≡ Refused n p → A
 done-refused e = absurd (let z : _≡_ {A = ℕ} 0 1 = cc in omega arith)
+
+-- calls that are the same were told the same answer
+answer-is : {a f : Answer} {b c : List ℕ} → answered a b ≡ answered f c → a ≡ f
+answer-is {a} {f} e = let q : told a ≡ told f = ap (λ (x : Called). x .reply) e in cc
+
+told-listed : {a f : Answer} {b c : List ℕ} (w : List ℕ) → answered a b ≡ answered f c → asListed a b w ≡ asListed f c w
+told-listed w e = ap₂ (λ (x : Answer) (y : List ℕ). asListed x y w) (answer-is e) (ap (λ (x : Called). x .book) e)
 
 -- the book after a refusal of question 1 or 2
 pub request-refused : (b : List ℕ) (r : Request) {n p : ℕ} → check b ≡ Refused n p → answered (Refused n p) b ≡ call b r
@@ -39,8 +47,8 @@ request-refused b r {n} {p} e = go (wellLaid b) refl (lawful b) refl e
 -- a call takes out what a removal promises
 call-removes : (b : List ℕ) (r : Request) (a : Answer) (c : List ℕ) → answered a c ≡ call b r → RemovalKept b r a c
 call-removes b r a c e one two k n q =
-    subst (λ (d : List ℕ). Removed (stateOf b) (stateOf d) (r .b) (r .first) (r .last) n) (sym (ap (λ (x : Called). x .book) e))
-    (removal b (record { one = one; two = two }) r k n (sym (ap (λ (x : Called). x .answer) e) ∙ q))
+    subst (λ (d : List ℕ). Removed (ledgerOf b .diary) (ledgerOf d .diary) (r .b) (r .first) (r .last) n) (sym (ap (λ (x : Called). x .book) e))
+    (removal b (record { one = one; two = two }) r k n (sym (ap (λ (x : Called). x .reply) e) ∙ ap told q))
 
 pub with-removal : (b : List ℕ) (r : Request) (a : Answer) (c : List ℕ) → answered a c ≡ call b r → (answered a c ≡ call b r) × RemovalKept b r a c
 with-removal b r a c e = (e, call-removes b r a c e)
@@ -74,9 +82,9 @@ module _ (s b : List ℕ) where
     where
       go : (o : Bool) → settingsGood s ≡ o → (t : Bool) → eqb (length b) (bookLength (settingsOf s)) ≡ t → answered (Refused n p) b′ ≡ lay s b
           → asListed (Refused n p) b′ a ≡ serveList s b w a
-      go true q true r e = done-refused (sym (ap (λ (c : Called). c .answer) (rw (q, r) at e)))
-      go true q false r e = rw (q, r) (ap (λ (c : Called). asListed (c .answer) (c .book) a) (rw (q, r) at e))
-      go false q t r e = rw q (ap (λ (c : Called). asListed (c .answer) (c .book) a) (rw q at e))
+      go true q true r e = done-refused (sym (answer-is (rw (q, r) at e)))
+      go true q false r e = rw (q, r) (told-listed a (rw (q, r) at e))
+      go false q t r e = rw q (told-listed a (rw q at e))
 
   -- a done laying
   pub record Laying (b′ : List ℕ) : Type 0 where
@@ -90,10 +98,10 @@ module _ (s b : List ℕ) where
     where
       go : (o : Bool) → settingsGood s ≡ o → (t : Bool) → eqb (length b) (bookLength (settingsOf s)) ≡ t → answered (Done v) b′ ≡ lay s b → Laying b′
       go true q true r e = record { good = q; fits = r; fresh = ap (λ (c : Called). c .book) (rw (q, r) at e) }
-      go true q false r e = done-refused (ap (λ (c : Called). c .answer) (rw (q, r) at e))
-      go false q t r e = done-refused (ap (λ (c : Called). c .answer) (rw q at e))
+      go true q false r e = done-refused (answer-is (rw (q, r) at e))
+      go false q t r e = done-refused (answer-is (rw q at e))
 
-  pub serve-laid : (v : ℕ) (b′ : List ℕ) → answered (Done v) b′ ≡ lay s b → Good (settingsOf s) b′
+  pub serve-laid : (v : ℕ) (b′ : List ℕ) → answered (Done v) b′ ≡ lay s b → GoodBook (settingsOf s) b′
   serve-laid v b′ e = let l = laying e in rw (l .fresh) (fresh-good (settingsOf s) (good-valid s (l .good)))
 
   -- demand 3: from a fresh book the answers are the machine's, and the book shows its state

@@ -6,10 +6,9 @@ use mathlib.Core.List.{List, _++_}
 use lib.ListN.{take, drop}
 use Rattle.model.specs.declared.Answer.{Answer}
 use Rattle.model.specs.declared.Answer.the-variants.{Done, Refused}
-use Rattle.model.specs.Machine.{step, requestOf, answerWords}
-use Rattle.model.specs.Words.{words}
-use Rattle.model.specs.Reading.{stateOf}
-use Rattle.model.specs.Calls.{Listed, calls, requestsOf, answersWords}
+use Rattle.model.specs.Machine.{request, replyWords, perform, requestOf}
+use Rattle.model.specs.Ledger.{bookWords, ledgerOf}
+use Rattle.model.specs.Calls.{Listed, calls, requestsOf, repliesWords}
 
 -- l with the words ws in place of the three at i
 unfoldable pub spliced : List ℕ → ℕ → List ℕ → List ℕ
@@ -17,13 +16,13 @@ spliced l i ws = take i l ++ (ws ++ drop (i + 3) l)
 
 -- request i of the list w, from the book b and the answers a to b′ and a′
 pub record One (w : List ℕ) (i : ℕ) (b a b′ a′ : List ℕ) : Type 0 where
-  pub book : b′ ≡ words (step (stateOf b) (requestOf (drop (i * 7) w)) .state)
-  pub answers : a′ ≡ spliced a (i * 3) (answerWords (step (stateOf b) (requestOf (drop (i * 7) w)) .answer))
+  pub book : b′ ≡ bookWords (perform (ledgerOf b) (request (requestOf (drop (i * 7) w))) .ledger)
+  pub answers : a′ ≡ spliced a (i * 3) (replyWords (perform (ledgerOf b) (request (requestOf (drop (i * 7) w))) .reply))
 
 -- the first n requests of the list w
 pub record All (w : List ℕ) (n : ℕ) (b a b′ a′ : List ℕ) : Type 0 where
   pub book : b′ ≡ calls b (requestsOf n w) .book
-  pub answers : a′ ≡ answersWords (calls b (requestsOf n w) .answers) ++ drop (3 * n) a
+  pub answers : a′ ≡ repliesWords (calls b (requestsOf n w) .replies) ++ drop (3 * n) a
 
 abbrev pub asListed : Answer → List ℕ → List ℕ → Listed
 asListed r b a = record { answer = r; book = b; answers = a }

@@ -1,7 +1,8 @@
 // Lists of requests: seven words a request, three words an answer. The book is checked or laid once; that each step keeps the laws is
 // what lets the next one go without a check.
-use crate::step::step;
+use crate::step::book_step;
 use book::lay::lay;
+use book::settings::diary_len;
 use book::settings::settings;
 use model::Answer;
 use model::Request;
@@ -11,10 +12,11 @@ ghost use mathlib.Core.List.{[], _∷_};
 ghost use Prim.Native.Nat.{_+_, _*_, _/_, _≤_, min};
 ghost use lib.ListN.{length, drop};
 ghost use Rattle.model.specs.Machine;
-ghost use Rattle.model.specs.Machine.{requestOf, answerWords};
-ghost use Rattle.model.specs.Reading.{stateOf};
+ghost use Rattle.model.specs.Machine.{request, requestOf, answerWords};
+ghost use Rattle.model.specs.Words.{diaryLength};
+ghost use Rattle.model.specs.Ledger.{ledgerOf};
 ghost use Rattle.model.specs.Calls.{called, callList, serveList};
-ghost use Rattle.book.specs.Good.{Good, answered};
+ghost use Rattle.book.specs.Good.{GoodBook, answered};
 ghost use Rattle.engine.specs.Lists.{spliced, One, All, asListed, toldBy};
 
 // Request i of a list.
@@ -56,27 +58,36 @@ fn put_answer(answers: &mut [u32], i: usize, a: Answer)
 }
 
 // Request i of the list, and its answer.
-fn answer_at(book: &mut [u32], s: Settings, list: &[u32], answers: &mut [u32], i: usize)
-    requires { ⌜ Good s (now book) ⌝ }
+fn answer_at(
+    book: &mut [u32],
+    s: Settings,
+    diary: usize,
+    list: &[u32],
+    answers: &mut [u32],
+    i: usize,
+)
+    requires { ⌜ GoodBook s (now book) ⌝ }
+    requires { ⌜ diary ≡ diaryLength s ⌝ }
     requires { ⌜ i * 7 + 7 ≤ length (now list) ⌝ }
     requires { ⌜ i * 3 + 3 ≤ length (now answers) ⌝ }
     ensures { λ _. ⌜ One (now (list .entry)) i (now (book .entry)) (now (answers .entry)) (now (book .exit)) (now (answers .exit)) ⌝ }
 {
     let r = request_at(list, i);
-    let a = step(book, s, r);
+    let a = book_step(book, s, diary, r);
     put_answer(answers, i, a);
 }
 
 // The first n requests of the list, and their answers.
 fn answer_all(book: &mut [u32], s: Settings, list: &[u32], answers: &mut [u32], n: usize)
-    requires { ⌜ Good s (now book) ⌝ }
+    requires { ⌜ GoodBook s (now book) ⌝ }
     requires { ⌜ n * 7 ≤ length (now list) ⌝ }
     requires { ⌜ n * 3 ≤ length (now answers) ⌝ }
     ensures { λ _. ⌜ All (now (list .entry)) n (now (book .entry)) (now (answers .entry)) (now (book .exit)) (now (answers .exit)) ⌝ }
 {
+    let diary = diary_len(s);
     let mut i: usize = 0;
     while i < n {
-        answer_at(book, s, list, answers, i);
+        answer_at(book, s, diary, list, answers, i);
         i += 1;
     }
 }
@@ -94,8 +105,8 @@ fn answer_of(number: u32, place: u32, value: u32) -> Answer
 // One request on a good book, as a list of one: whatever judges and writes goes through the loop above, which has the only call of
 // `step`, so that the compiler puts the step into it.
 pub fn answer_one(book: &mut [u32], s: Settings, r: Request) -> Answer
-    requires { ⌜ Good s (now book) ⌝ }
-    ensures { λ a. ⌜ answered a (now (book .exit)) ≡ called (Machine.step (stateOf (now (book .entry))) r) ⌝ }
+    requires { ⌜ GoodBook s (now book) ⌝ }
+    ensures { λ a. ⌜ answered a (now (book .exit)) ≡ called (Machine.perform (ledgerOf (now (book .entry))) (request r)) ⌝ }
 {
     let list = [r.kind, r.a, r.b, r.first, r.last, r.n, r.info];
     let mut words = [0u32; 3];

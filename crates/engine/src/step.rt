@@ -1,4 +1,4 @@
-// One request on a good book: every question is answered before the first word is written.
+// One request on a good diary, where every question is answered before the first word is written, and on a good book.
 use apply::apply;
 use apply::removal::remove_visitor;
 use book::grid::grids_of;
@@ -11,9 +11,12 @@ use model::Request;
 use model::Settings;
 ghost use mathlib.Core.Path.{_≡_};
 ghost use Rattle.model.specs.Machine;
+ghost use Rattle.model.specs.Machine.{request};
+ghost use Rattle.model.specs.Words.{diaryLength};
 ghost use Rattle.model.specs.Reading.{stateOf};
+ghost use Rattle.model.specs.Ledger.{ledgerOf};
 ghost use Rattle.model.specs.Calls.{called};
-ghost use Rattle.book.specs.Good.{Good, answered};
+ghost use Rattle.book.specs.Good.{Good, GoodBook, answered, inWords};
 ghost use Rattle.book.specs.Lent.{reading};
 
 // The number of the kind that removes a visitor.
@@ -23,7 +26,7 @@ const REMOVAL: u32 = 3;
 fn removed(book: &mut [u32], s: Settings, r: Request) -> Answer
     requires { ⌜ Good s (reading (now book)) ⌝ }
     requires { ⌜ r .kind ≡ 3 ⌝ }
-    ensures { λ a. ⌜ answered a (reading (now (book .exit))) ≡ called (Machine.step (stateOf (reading (now (book .entry)))) r) ⌝ }
+    ensures { λ a. ⌜ answered a (reading (now (book .exit))) ≡ inWords (Machine.step (stateOf (reading (now (book .entry)))) r) ⌝ }
 {
     let no = first_no(row_of(s, REMOVAL), r);
     if no != 0 {
@@ -39,7 +42,7 @@ fn removed(book: &mut [u32], s: Settings, r: Request) -> Answer
 // The grids are computed in the step because they are a few products, and a struct of that size passed by value is copied at every call.
 pub fn step(book: &mut [u32], s: Settings, r: Request) -> Answer
     requires { ⌜ Good s (reading (now book)) ⌝ }
-    ensures { λ a. ⌜ answered a (reading (now (book .exit))) ≡ called (Machine.step (stateOf (reading (now (book .entry)))) r) ⌝ }
+    ensures { λ a. ⌜ answered a (reading (now (book .exit))) ≡ inWords (Machine.step (stateOf (reading (now (book .entry)))) r) ⌝ }
 {
     let kind = r.kind;
     if kind == REMOVAL {
@@ -52,4 +55,13 @@ pub fn step(book: &mut [u32], s: Settings, r: Request) -> Answer
     }
     apply(book, s, g, r);
     answer
+}
+
+// The same on a whole book: its first `diary` words are the diary, and what stands behind them stays.
+pub fn book_step(book: &mut [u32], s: Settings, diary: usize, r: Request) -> Answer
+    requires { ⌜ GoodBook s (now book) ⌝ }
+    requires { ⌜ diary ≡ diaryLength s ⌝ }
+    ensures { λ a. ⌜ answered a (now (book .exit)) ≡ called (Machine.perform (ledgerOf (now (book .entry))) (request r)) ⌝ }
+{
+    step(&mut book[..diary], s, r)
 }

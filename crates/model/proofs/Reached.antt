@@ -9,21 +9,25 @@ use mathlib.Core.Option.{Option, none, some}
 use mathlib.Core.List.{List, [], _∷_}
 use native.Mathlib.Omega.{arith}
 use lib.Dec.{ltb}
-use lib.ListN.{getD}
+use lib.ListN.{getD, take}
 use borrow.Author.Tests.{lt-ltb, ltb-true}
 use Rattle.model.specs.declared.Settings.{Settings}
+use Rattle.model.specs.declared.Request.{Request}
 use Rattle.model.specs.Bounded.{every, isSome}
 use Rattle.model.specs.Site.{validSettings}
-use Rattle.model.specs.State.{State, Lunch, emptyState, Pairs, hotels, rides, attends, confs, lunches}
-use Rattle.model.specs.Words.{words, address, confPairs, lunchTriples}
-use Rattle.model.specs.Machine.{Call, request, run}
+use Rattle.model.specs.State.{State, Lunch, Pairs, hotels, rides, attends, confs, lunches}
+use Rattle.model.specs.Words.{diaryLength, address, confPairs, lunchTriples}
+use Rattle.model.specs.Machine.{Run, run}
 use Rattle.model.specs.Reading.{holds, readState, stateOf, settingsOf}
+use Rattle.model.specs.Ledger.{Ledger, emptyLedger, bookWords, diaryOf, ledgerOf}
 use Rattle.model.specs.Calls.{Calls, calls, freshBook}
 use Rattle.model.proofs.Search.{and-true, and-left, and-right}
 use Rattle.model.proofs.Laws.{Sound, Bounds}
 use Rattle.model.proofs.ReadBack.{Valid, valid-is}
 use Rattle.model.proofs.Lengths.{sessions-le, times-le}
-use Rattle.model.proofs.Calls.{empty-sound, from-fresh, run-sound}
+use Rattle.model.proofs.Tail.{no-other-tail}
+use Rattle.model.proofs.Calls.{empty-ledger, from-fresh, run-sound}
+use Rattle.model.proofs.Runs.{sent, run-sent}
 use Rattle.model.proofs.Shows.{Shows, Passes, passes-shows, shows-passes}
 use Rattle.model.proofs.Reachable.{Stage, toLeave, toStanding, toHotel, toRide, toAttend, toConf, toLunch}
 use Rattle.model.proofs.Reachable.{adding, addIf, addConfIf, addLunchIf, entry, entriesOf, Made, made-each, built}
@@ -32,8 +36,8 @@ use Rattle.model.proofs.Reachable.{adding, addIf, addConfIf, addLunchIf
 abbrev pub isWord : ℕ → Bool
 isWord w = ltb w 4294967296
 
-abbrev pub ofWords : Call → Bool
-ofWords (request r) = every isWord (r .kind ∷ r .a ∷ r .b ∷ r .first ∷ r .last ∷ r .n ∷ r .info ∷ [])
+abbrev pub ofWords : Request → Bool
+ofWords r = every isWord (r .kind ∷ r .a ∷ r .b ∷ r .first ∷ r .last ∷ r .n ∷ r .info ∷ [])
 
 is-word : (w : ℕ) → w < 4294967296 → isWord w ≡ true
 is-word w l = lt-ltb w 4294967296 l
@@ -44,8 +48,18 @@ word-at [] k e = omega arith
 word-at (w ∷ b) zero e = ltb-true w 4294967296 (and-left (isWord w) _ e)
 word-at (w ∷ b) (suc k) e = word-at b k (and-right (isWord w) _ e)
 
+-- so is what its diary has
+words-in : (b : List ℕ) → every isWord b ≡ true → every isWord (diaryOf b) ≡ true
+unfolding diaryOf
+words-in b e = go (diaryLength (settingsOf b)) b e
+  where
+    go : (n : ℕ) (l : List ℕ) → every isWord l ≡ true → every isWord (take n l) ≡ true
+    go zero l e = refl
+    go (suc n) [] e = refl
+    go (suc n) (w ∷ l) e = and-true (and-left (isWord w) _ e) (go n l (and-right (isWord w) _ e))
+
 adding-words : (k i a b n w : ℕ) → k < 4294967296 → i < 4294967296 → a < 4294967296 → b < 4294967296 → n < 4294967296 → w < 4294967296
-    → ofWords (request (adding k i a b n w)) ≡ true
+    → ofWords (adding k i a b n w) ≡ true
 adding-words k i a b n w hk hi ha hb hn hw =
     and-true (is-word k hk)
     (and-true (is-word a ha) (and-true (is-word b hb)
@@ -190,33 +204,37 @@ module _ (x : State) (s : Sound x) (infos : (i c m w : ℕ) → x .conf i c m �
 pub record Reached (b : List ℕ) : Type 0 where
   pub settings : Settings
   pub valid : validSettings settings ≡ true
-  pub list : List Call
+  pub list : List Request
   pub small : every ofWords list ≡ true
-  pub book : calls (freshBook settings) list .book ≡ b
+  pub book : calls (freshBook settings) (sent list) .book ≡ b
 
 -- "A book of 32-bit words passes questions 1 and 2 exactly when a list of requests leads to it from a fresh book."
 pub passes-iff-reached : (b : List ℕ) → every isWord b ≡ true → Passes b ↔ Reached b
+unfolding ledgerOf emptyLedger
 passes-iff-reached b w = (to, from)
   where
     to : Passes b → Reached b
     to q =
-        let x : State = stateOf b in
-        let h : Shows b x = passes-shows b q in
+        let l : Ledger = ledgerOf b in
+        let x : State = l .diary in
+        let h : Shows b l = passes-shows b q in
+        let e : run (emptyLedger (x .settings)) (sent (entriesOf x)) .ledger ≡ l
+        = ap (λ (u : Run). u .ledger) (run-sent (emptyLedger (x .settings)) (entriesOf x))
+        ∙ (λ i. record { diary = built x (h .sound .diary) .state i; tail = sym (no-other-tail (l .tail)) i }) in
         record {
           settings = x .settings;
-          valid = h .sound .valid;
+          valid = h .sound .diary .valid;
           list = entriesOf x;
-          small = words-each x (h .sound) (info-word b w) (lunch-words b w);
+          small = words-each x (h .sound .diary) (info-word (diaryOf b) (words-in b w)) (lunch-words (diaryOf b) (words-in b w));
           book =
-              ap (λ (l : Calls). l .book) (from-fresh (x .settings) (h .sound .valid) (entriesOf x)) ∙ ap words (built x (h .sound) .state)
+              ap (λ (c : Calls). c .book) (from-fresh (x .settings) (h .sound .diary .valid) (sent (entriesOf x))) ∙ ap bookWords e
               ∙ sym (h .is);
         }
 
     from : Reached b → Passes b
     from h =
-        let y : State = run (emptyState (h .settings)) (h .list) .state in
-        shows-passes b y
+        shows-passes b (run (emptyLedger (h .settings)) (sent (h .list)) .ledger)
         (record {
-          sound = run-sound (emptyState (h .settings)) (empty-sound (h .settings) (h .valid)) (h .list);
-          is = sym (h .book) ∙ ap (λ (l : Calls). l .book) (from-fresh (h .settings) (h .valid) (h .list));
+          sound = run-sound (emptyLedger (h .settings)) (empty-ledger (h .settings) (h .valid)) (sent (h .list));
+          is = sym (h .book) ∙ ap (λ (c : Calls). c .book) (from-fresh (h .settings) (h .valid) (sent (h .list)));
         })

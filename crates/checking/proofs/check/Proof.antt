@@ -13,20 +13,20 @@ well-laid-requires c κs = search needs
 returns : tie.Need-returns
 returns c = sym (check-one _ (sym (c .before .well-laid .ensures) ∙ not-true _ (c .if1 .taken)))
 
-lawful-requires : tie.Need-lawful-requires
-lawful-requires c κs = sym (c .before .well-laid .ensures) ∙ not-false _ (c .if1 .left)
+book-lawful-requires : tie.Need-book-lawful-requires
+book-lawful-requires c κs = sym (c .before .well-laid .ensures) ∙ not-false _ (c .if1 .left)
 
 returns-2 : tie.Need-returns-2
 returns-2 c =
     let c1 = c .before .before in
     sym (check-two _ (sym (c1 .before .well-laid .ensures) ∙ not-false _ (c1 .if1 .left))
-    (sym (c .before .lawful .ensures) ∙ not-true _ (c .if2 .taken)))
+    (sym (c .before .book-lawful .ensures) ∙ not-true _ (c .if2 .taken)))
 
 returns-3 : tie.Need-returns-3
 returns-3 c =
     let c1 = c .before .before in
     sym (check-done _ (sym (c1 .before .well-laid .ensures) ∙ not-false _ (c1 .if1 .left))
-    (sym (c .before .lawful .ensures) ∙ not-false _ (c .if2 .left)))
+    (sym (c .before .book-lawful .ensures) ∙ not-false _ (c .if2 .left)))
 
 pub check-spec : {M : Type 1} → statement M
-check-spec = tie.close (tie.spec well-laid-requires returns lawful-requires returns-2 returns-3)
+check-spec = tie.close (tie.spec well-laid-requires returns book-lawful-requires returns-2 returns-3)

@@ -5,27 +5,31 @@ use mathlib.Core.Path.{sym, _∙_, subst}
 use native.Mathlib.Omega.{arith}
 use lib.ListN.{drop}
 use Rattle.model.specs.Machine.{requestOf}
-use Rattle.book.specs.Good.{Good}
-use Rattle.book.proofs.Goods.{good-laid}
+use Rattle.book.specs.Good.{GoodBook}
+use Rattle.book.proofs.Goods.{good-laid, good-part, good-long}
 use Rattle.engine.proofs.Kept.{good-step}
 use Rattle.engine.proofs.Splices.{Left, left-start, left-turn, left-end}
 use Rattle.engine.proofs.list.answer_all.Statement.{statement}
 use Rattle.engine.proofs.list.answer_all.Tie as tie
 
 abbrev Inv-loop : tie.InvT-loop
-Inv-loop book₀ s list answers₀ n i₀ book answers i = Good s book × Left list n book₀ answers₀ i book answers
+Inv-loop book₀ s list answers₀ n diary i₀ book answers i = GoodBook s book × Left list n book₀ answers₀ i book answers
 
 abbrev μ-loop : tie.MeasureT-loop
-μ-loop book₀ s list answers₀ n i₀ book answers i = n - i
+μ-loop book₀ s list answers₀ n diary i₀ book answers i = n - i
+
+diary-len-requires : tie.Need-diary-len-requires Inv-loop μ-loop
+diary-len-requires c κs = good-laid (good-part (c .before .before .before .pre .0)) .ranges
 
 loop-holds : tie.Need-loop-holds Inv-loop μ-loop
-loop-holds c = (c .before .before .before .pre .0, left-start _ _ _ _)
+loop-holds c = (c .before .before .before .before .pre .0, left-start _ _ _ _)
 
 answer-at-requires : tie.Need-answer-at-requires Inv-loop μ-loop
 answer-at-requires c κs =
-    let s = c .before .before .before .before .before .before .before in
+    let s = c .before .before .before .before .before .before .before .before in
     let l = c .before .before .before .loop in
-    (l .inv .0, (omega (arith, s .pre .1 .0), omega (arith, s .pre .1 .1, l .inv .1 .long)))
+    let d = c .before .before .before .before .diary-len .ensures in
+    (l .inv .0, (d, (omega (arith, s .pre .1 .0), omega (arith, s .pre .1 .1, l .inv .1 .long))))
 
 add-i : tie.Need-add-i Inv-loop μ-loop
 add-i c = omega arith
@@ -35,17 +39,17 @@ loop-less c = omega arith
 
 loop-again : tie.Need-loop-again Inv-loop μ-loop
 loop-again c =
-    let s = c .before .before .before .before .before .before .before .before .before .before .before .before in
+    let s = c .before .before .before .before .before .before .before .before .before .before .before .before .before in
     let a = s .args in
     let l = c .before .before .before .before .before .before .before .before .loop in
     let e = c .before .before .before .before .answer-at .ensures in (
-      subst (Good (a .s)) (sym (e .book)) (good-step (l .inv .0) (requestOf (drop (l .i * 7) (a .list .now)))),
+      subst (GoodBook (a .s)) (sym (e .book)) (good-step (l .inv .0) (requestOf (drop (l .i * 7) (a .list .now)))),
       left-turn (a .s) (a .list .now) (a .n) _ _ (l .i) _ _ _ _ (l .inv .0)
           (c .before .before .before .before .before .before .before .loop-test .taken) (s .pre .1 .1) (l .inv .1) e,
     )
 
 same-length : tie.Need-same-length Inv-loop μ-loop
-same-length c = good-laid (c .before .loop .inv .0) .long ∙ sym (good-laid (c .before .before .before .before .before .pre .0) .long)
+same-length c = good-long (c .before .loop .inv .0) ∙ sym (good-long (c .before .before .before .before .before .before .pre .0))
 
 same-length-2 : tie.Need-same-length-2 Inv-loop μ-loop
 same-length-2 c = c .before .loop .inv .1 .long
@@ -59,6 +63,7 @@ answer-all-spec =
     (tie.spec
     Inv-loop
     μ-loop
+    diary-len-requires
     loop-holds
     answer-at-requires
     add-i

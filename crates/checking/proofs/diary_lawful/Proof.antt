@@ -5,8 +5,8 @@ use Rattle.model.specs.Site.{validSettings}
 use Rattle.book.specs.Lent.{reading}
 use Rattle.book.proofs.Heads.{seats-low, laid-valid, laid-is}
 use Rattle.checking.proofs.Question2.{lawful-said}
-use Rattle.checking.proofs.lawful.Statement.{statement}
-use Rattle.checking.proofs.lawful.Tie as tie
+use Rattle.checking.proofs.diary_lawful.Statement.{statement}
+use Rattle.checking.proofs.diary_lawful.Tie as tie
 
 settings-requires : tie.Need-settings-requires
 settings-requires c κs = tt
@@ -33,7 +33,7 @@ returns c =
     lawful-said _ _ p _ (c1 .settings .ensures) (laid-is _ p _ (c1 .settings .ensures) .ranges) (c2 .caps-of .ensures) (c .dates .result)
     (c .dates .ensures)
 
-pub lawful-spec : {M : Type 1} → statement M
-lawful-spec =
+pub diary-lawful-spec : {M : Type 1} → statement M
+diary-lawful-spec =
     tie.close
     (tie.spec settings-requires caps-of-requires grids-of-requires dates-requires returns)

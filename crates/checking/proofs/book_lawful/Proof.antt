@@ -1,0 +1,79 @@
+-- The diary's words, then those behind them.
+-- Assumes nothing.
+use mathlib.Core.Path.{sym, _∙_, ap}
+use native.Mathlib.Omega.{arith}
+use lib.Seq.{length-take-le}
+use borrow.Author.Tests.{not-true, not-false}
+use Rattle.model.specs.Site.{validSettings}
+use Rattle.model.proofs.Ledger.{laid-valid}
+use Rattle.book.proofs.Goods.{ranges-by}
+use Rattle.checking.proofs.Verdicts.{diary-fits, first-laid, two-no, two-yes}
+use borrow.Author.Needs.{needs}
+use Rattle.checking.proofs.book_lawful.Statement.{statement}
+use Rattle.checking.proofs.book_lawful.Tie as tie
+
+settings-requires : tie.Need-settings-requires
+settings-requires c κs = search needs
+
+diary-len-requires : tie.Need-diary-len-requires
+diary-len-requires c κs = ranges-by _ (ap validSettings (c .settings .ensures) ∙ laid-valid _ (c .before .before .pre))
+
+slice-aggregate-diary-lawful : tie.Need-slice-aggregate-diary-lawful
+slice-aggregate-diary-lawful c =
+    let d = c .before in
+    sym (length-take-le _ _ (diary-fits _ (d .before .before .before .pre) _ (d .before .settings .ensures) _ (d .diary-len .ensures)))
+
+diary-lawful-requires : tie.Need-diary-lawful-requires
+diary-lawful-requires c κs =
+    let d = c .before in
+    first-laid _ (d .before .before .before .pre) _ (d .before .settings .ensures) _ (d .diary-len .ensures)
+
+returns : tie.Need-returns
+returns c =
+    let d = c .before .before .before in
+    sym (two-no _ (d .before .before .before .pre) _ (d .before .settings .ensures) _ (d .diary-len .ensures)
+    (sym (c .before .diary-lawful .ensures) ∙ not-true _ (c .if1 .taken)))
+
+mul-tail-kept : tie.Need-mul-tail-kept
+mul-tail-kept c =
+    let d = c .before .before .before in
+    omega (arith, diary-fits _ (d .before .before .before .pre) _ (d .before .settings .ensures) _ (d .diary-len .ensures))
+
+sub-tail-kept : tie.Need-sub-tail-kept
+sub-tail-kept c =
+    let d = c .before .before .before in
+    diary-fits _ (d .before .before .before .pre) _ (d .before .settings .ensures) _ (d .diary-len .ensures)
+
+part-tail-kept-start : tie.Need-part-tail-kept-start
+part-tail-kept-start c =
+    let d = c .before .before .before in
+    diary-fits _ (d .before .before .before .pre) _ (d .before .settings .ensures) _ (d .diary-len .ensures)
+
+part-tail-kept-end : tie.Need-part-tail-kept-end
+part-tail-kept-end c = search needs
+
+tail-kept-requires : tie.Need-tail-kept-requires
+tail-kept-requires c κs = search needs
+
+returns-2 : tie.Need-returns-2
+returns-2 c =
+    let d = c .before .before .before .before .before in
+    c .tail-kept .ensures
+    ∙ two-yes _ (d .before .before .before .pre) _ (d .before .settings .ensures) _ (d .diary-len .ensures)
+    (sym (c .before .before .before .diary-lawful .ensures) ∙ not-false _ (c .before .before .if1 .left))
+
+pub book-lawful-spec : {M : Type 1} → statement M
+book-lawful-spec =
+    tie.close
+    (tie.spec
+    settings-requires
+    diary-len-requires
+    slice-aggregate-diary-lawful
+    diary-lawful-requires
+    returns
+    mul-tail-kept
+    sub-tail-kept
+    part-tail-kept-start
+    part-tail-kept-end
+    tail-kept-requires
+    returns-2)

@@ -1,0 +1,189 @@
+-- A whole book and its two parts: what questions 1 and 2 say of the book they say of its diary and of its tail, and the book's words
+-- and the ledger that it shows are read from each other.
+-- Assumes nothing.
+use Prim.Native.Nat.{ℕ, _+_, _≤_, _<_}
+use mathlib.Core.Path.{_≡_, refl, sym, _∙_, ap, ap₂}
+use mathlib.Core.Bool.{Bool, true, false, _&&_, cond}
+use mathlib.Core.List.{List, _++_}
+use native.Mathlib.Omega.{arith}
+use lib.Dec.{leb, ltb, eqb}
+use lib.ListN.{length, getD, take, drop, length-append, length-take, length-drop, take-append-drop, List·getD-append}
+use lib.Seq.{getD-take, take-at, drop-at}
+use borrow.Author.Tests.{ltb-true, le-leb, eqb-true, eq-eqb}
+use Rattle.model.specs.declared.Settings.{Settings}
+use Rattle.model.specs.Bounded.{list}
+use Rattle.model.specs.Site.{validSettings, limitWords, settingsLength}
+use Rattle.model.specs.Words.{diaryLength, words}
+use Rattle.model.specs.Reading.{settingsOf, stateOf}
+use Rattle.model.specs.Tail.{tailLength, tailWords, tailOf, tailKept}
+use Rattle.model.specs.Ledger.{Ledger, bookLength, bookWords, diaryOf, behindOf, ledgerOf}
+use Rattle.model.specs.Laws.{wellLaid, diaryLaid, lawful, diaryLawful}
+use Rattle.model.proofs.Search.{and-left, and-right, and-true}
+use Rattle.model.proofs.Laws.{Sound}
+use Rattle.model.proofs.Places.{settings-length, length-words}
+use Rattle.model.proofs.ReadBack.{Valid, valid-is, seated, settings-back, stateOf-words}
+use Rattle.model.proofs.Shown.{words-stateOf}
+use Rattle.model.proofs.Sound.{book-sound}
+use Rattle.model.proofs.Passes.{diary-lawful}
+use Rattle.model.proofs.Tail.{TailSound, tail-shown, tail-read}
+
+-- a ledger that a book can show
+pub record LedgerSound (l : Ledger) : Type 0 where
+  pub diary : Sound (l .diary)
+  pub tail : TailSound (l .tail)
+
+-- two lists with the same words up to the end of the settings have the same settings
+same-head : (a b : List ℕ) (n : ℕ) → settingsLength (settingsOf b) ≤ n → ((i : ℕ) → i < n → getD a i 0 ≡ getD b i 0) → settingsOf a ≡ settingsOf b
+unfolding settingsOf settingsLength
+same-head a b n h e =
+    λ i. record {
+      dates = e 0 (omega (arith, h)) i;
+      sessions = e 1 (omega (arith, h)) i;
+      times = e 2 (omega (arith, h)) i;
+      visitors = e 3 (omega (arith, h)) i;
+      meetings = e 4 (omega (arith, h)) i;
+      rooms = e 5 (omega (arith, h)) i;
+      dining = e 6 (omega (arith, h)) i;
+      hotels = e 7 (omega (arith, h)) i;
+      transports = e 8 (omega (arith, h)) i;
+      capacities = list (λ g. seat g i) 16;
+    }
+  where
+    seat : (g : ℕ) → cond (ltb g (getD a 6 0)) (getD a (limitWords + g) 0) 0 ≡ cond (ltb g (getD b 6 0)) (getD b (limitWords + g) 0) 0
+    seat g = ap (λ (n : ℕ). cond (ltb g n) (getD a (limitWords + g) 0) 0) (e 6 (omega (arith, h))) ∙ go (ltb g (getD b 6 0)) refl
+      where
+        go : (t : Bool) → ltb g (getD b 6 0) ≡ t → cond t (getD a (limitWords + g) 0) 0 ≡ cond t (getD b (limitWords + g) 0) 0
+        go true q = e (limitWords + g) (omega (arith, h, ltb-true g (getD b 6 0) q))
+        go false q = refl
+
+-- the settings stand in the diary
+pub settings-in : (S : Settings) → settingsLength S ≤ diaryLength S
+unfolding diaryLength
+settings-in S = omega arith
+
+-- a book has the settings of its first part
+pub diary-settings : (b : List ℕ) → settingsOf (diaryOf b) ≡ settingsOf b
+unfolding diaryOf
+diary-settings b =
+    same-head (take (diaryLength (settingsOf b)) b) b (diaryLength (settingsOf b)) (settings-in (settingsOf b))
+    (λ i h. getD-take (diaryLength (settingsOf b)) b i 0 h)
+
+pub diary-behind : (b : List ℕ) → diaryOf b ++ behindOf b ≡ b
+unfolding diaryOf behindOf
+diary-behind b = take-append-drop (diaryLength (settingsOf b)) b
+
+-- the two parts by the number of the diary's words
+module _ (b : List ℕ) {S : Settings} {n : ℕ} (is : S ≡ settingsOf b) (e : n ≡ diaryLength S) where
+  pub first-part : diaryOf b ≡ take n b
+  unfolding diaryOf
+  first-part = ap (λ (k : ℕ). take k b) (ap diaryLength (sym is) ∙ sym e)
+
+  pub part-behind : behindOf b ≡ drop n b
+  unfolding behindOf
+  part-behind = ap (λ (k : ℕ). drop k b) (ap diaryLength (sym is) ∙ sym e)
+
+-- question 1 of the book
+module _ (b : List ℕ) (one : wellLaid b ≡ true) where
+  pub laid-valid : validSettings (settingsOf b) ≡ true
+  unfolding wellLaid
+  laid-valid = and-right (leb limitWords (length b)) _ (and-left _ (eqb (length b) (bookLength (settingsOf b))) one)
+
+  pub laid-long : length b ≡ bookLength (settingsOf b)
+  unfolding wellLaid
+  laid-long = eqb-true _ _ (and-right (leb limitWords (length b) && validSettings (settingsOf b)) _ one)
+
+  pub diary-long : length (diaryOf b) ≡ diaryLength (settingsOf b)
+  unfolding diaryOf bookLength
+  diary-long = length-take (diaryLength (settingsOf b)) b ∙ omega (arith, laid-long)
+
+  pub behind-long : length (behindOf b) ≡ tailLength
+  unfolding behindOf bookLength
+  behind-long = length-drop (diaryLength (settingsOf b)) b ∙ omega (arith, laid-long)
+
+  pub laid-diary : diaryLaid (diaryOf b) ≡ true
+  unfolding diaryLaid
+  laid-diary =
+      rw (diary-settings b)
+      (and-true
+      (and-true (le-leb limitWords (length (diaryOf b)) (omega (arith, diary-long, settings-length (settingsOf b), settings-in (settingsOf b)))) laid-valid)
+      (eq-eqb (length (diaryOf b)) (diaryLength (settingsOf b)) diary-long))
+
+  -- and question 2
+  module _ (two : lawful b ≡ true) where
+    pub lawful-diary : diaryLawful (diaryOf b) ≡ true
+    unfolding lawful
+    lawful-diary = and-left _ (tailKept (behindOf b)) two
+
+    pub lawful-behind : tailKept (behindOf b) ≡ true
+    unfolding lawful
+    lawful-behind = and-right (diaryLawful (diaryOf b)) _ two
+
+    -- the book has the words of the ledger that it shows
+    pub words-ledgerOf : bookWords (ledgerOf b) ≡ b
+    unfolding bookWords ledgerOf
+    words-ledgerOf =
+        ap₂ (λ (l r : List ℕ). l ++ r) (words-stateOf (diaryOf b) laid-diary lawful-diary) (tail-shown (behindOf b) behind-long lawful-behind)
+        ∙ diary-behind b
+
+    pub ledger-sound : LedgerSound (ledgerOf b)
+    unfolding ledgerOf
+    ledger-sound =
+        record {
+          diary = book-sound (diaryOf b) laid-diary lawful-diary;
+          tail = tail-read (behindOf b) behind-long lawful-behind;
+        }
+
+-- the words of a ledger
+module _ (l : Ledger) (s : LedgerSound l) where
+  seats : Valid (l .diary .settings)
+  seats = valid-is (l .diary .settings) (s .diary .valid)
+
+  first-long : length (words (l .diary)) ≡ diaryLength (l .diary .settings)
+  first-long = length-words (l .diary) (seated seats)
+
+  pub book-settings : settingsOf (bookWords l) ≡ l .diary .settings
+  unfolding bookWords
+  book-settings =
+      let back : settingsOf (words (l .diary)) ≡ l .diary .settings = settings-back (l .diary) seats in
+      let room : settingsLength (settingsOf (words (l .diary))) ≤ length (words (l .diary))
+      = rw (back, first-long) (settings-in (l .diary .settings)) in
+      same-head (words (l .diary) ++ tailWords (l .tail)) (words (l .diary)) (length (words (l .diary))) room
+      (λ i h. List·getD-append (words (l .diary)) (tailWords (l .tail)) 0 i h) ∙ back
+
+  -- its two parts
+  pub book-diary : diaryOf (bookWords l) ≡ words (l .diary)
+  unfolding diaryOf bookWords
+  book-diary =
+      ap (λ (S : Settings). take (diaryLength S) (bookWords l)) book-settings
+      ∙ take-at (words (l .diary)) (tailWords (l .tail)) (diaryLength (l .diary .settings)) first-long
+
+  pub book-behind : behindOf (bookWords l) ≡ tailWords (l .tail)
+  unfolding behindOf bookWords
+  book-behind =
+      ap (λ (S : Settings). drop (diaryLength S) (bookWords l)) book-settings
+      ∙ drop-at (words (l .diary)) (tailWords (l .tail)) (diaryLength (l .diary .settings)) first-long
+
+  pub book-long : length (bookWords l) ≡ bookLength (l .diary .settings)
+  unfolding bookWords bookLength
+  book-long = length-append (words (l .diary)) (tailWords (l .tail)) ∙ omega (arith, first-long, s .tail .long)
+
+  -- they pass questions 1 and 2, and show the ledger
+  pub well-laid : wellLaid (bookWords l) ≡ true
+  unfolding wellLaid bookLength
+  well-laid =
+      rw book-settings
+      (and-true
+      (and-true (le-leb limitWords (length (bookWords l)) (omega (arith, book-long, settings-length (l .diary .settings), settings-in (l .diary .settings)))) (s .diary .valid))
+      (eq-eqb (length (bookWords l)) (bookLength (l .diary .settings)) book-long))
+
+  pub lawful-words : lawful (bookWords l) ≡ true
+  unfolding lawful
+  lawful-words = rw (book-diary, book-behind) (and-true (diary-lawful (l .diary) (s .diary)) (s .tail .kept))
+
+  pub ledgerOf-words : ledgerOf (bookWords l) ≡ l
+  unfolding ledgerOf
+  ledgerOf-words =
+      λ i. record {
+        diary = (ap stateOf book-diary ∙ stateOf-words (l .diary) (s .diary)) i;
+        tail = (ap tailOf book-behind ∙ s .tail .back) i;
+      }
