@@ -8,15 +8,11 @@ use mathlib.Core.List.{List, [], _∷_, _++_, append-assoc, append-nil}
 use lib.ListN.{length, take, drop, length-append, take-append-drop}
 use Rattle.model.specs.Text.{decimalField}
 use Rattle.model.specs.Page.{PageLine, joinFrom, lineBytes, pageBytes}
+use Rattle.model.proofs.Page.{join-same}
 use Rattle.text.specs.Put.{Put}
 use Rattle.text.proofs.Puts.{join-at, put-none, put-as}
 use Rattle.text.proofs.Decimals.{field-length}
 use Rattle.pages.specs.Pages.{Written, lineOf}
-
-pub join-same : {A : Type 0} (f g : ℕ → List A) (i n : ℕ) → ((j : ℕ) → i ≤ j → j < i + n → f j ≡ g j) → joinFrom f i n ≡ joinFrom g i n
-join-same f g i zero h = refl
-join-same {A} f g i (suc n) h =
-    ap₂ (λ (x y : List A). x ++ y) (h i (omega arith) (omega arith)) (join-same f g (suc i) n (λ j l k. h j (omega arith) (omega arith)))
 
 -- one list more, and the lists of a run
 module _ {A : Type 0} (f : ℕ → List A) where
