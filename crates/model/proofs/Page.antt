@@ -1,4 +1,4 @@
--- The porter's page: what it depends on, what leaves it as it is, and the page of the worked example.
+-- The porter's page: pages of worked examples, and what leaves a page as it is.
 -- Assumes nothing.
 use Prim.Native.Nat.{ℕ, zero, suc, _+_, _≤_, _<_, _*_}
 use mathlib.Core.Path.{_≡_, refl, sym, _∙_, ap, ap₂}
@@ -11,6 +11,7 @@ use lib.ListN.{length}
 use borrow.Author.Tests.{eqb-true}
 use Rattle.model.specs.declared.Settings.{Settings}
 use Rattle.model.specs.declared.Request.{Request}
+use Rattle.model.specs.declared.Answer.the-variants.{Refused}
 use Rattle.model.specs.Bounded.{isSome, one}
 use Rattle.model.specs.Site.{allSessions, dateOfSession}
 use Rattle.model.specs.State.{State, emptyState, reserved}
@@ -30,6 +31,87 @@ use Rattle.model.proofs.Frame.{step-settings}
 use Rattle.model.proofs.Shows.{Shows, Passes, shows-passes, shown-is, passes-shows, passes-next}
 use Rattle.model.proofs.Locality.{onDate, local-change}
 use Rattle.model.proofs.Rehearsal.{site, send}
+
+-- the requests of the example (rule 16.7)
+abbrev pub orders : List Call
+orders =
+    send 1 0 1 0 1 0 0
+    ∷ send 4 0 1 0 1 0 0
+    ∷ send 8 0 0 1 2 0 0
+    ∷ send 10 0 1 1 2 0 0
+    ∷ send 20 0 0 1 2 0 0
+    ∷ send 12 0 0 1 2 0 0
+    ∷ send 14 0 0 0 0 3 7
+    ∷ send 19 0 0 0 0 0 0
+    ∷ send 1 0 2 1 1 0 0
+    ∷ send 4 0 2 1 1 0 0
+    ∷ send 4 1 2 1 1 0 0
+    ∷ send 10 0 2 2 2 0 0
+    ∷ send 12 1 0 2 2 0 12
+    ∷ send 3 0 1 0 1 0 0
+    ∷ send 4 0 1 0 0 0 0
+    ∷ []
+
+-- date 1: meeting 0 has two rooms in session 2, and one visitor attends it
+pub example-page : pageBytes (pageLines (run (emptyLedger site) orders .ledger .diary) 1)
+    ≡ 32 ∷ 32 ∷ 32 ∷ 32 ∷ 50 ∷ 32 ∷ 32 ∷ 32 ∷ 48 ∷ 32 ∷ 32 ∷ 32 ∷ 48 ∷ 32 ∷ 32 ∷ 32 ∷ 32 ∷ 32 ∷ 49
+    ∷ 32 ∷ 32 ∷ 32 ∷ 32 ∷ 32 ∷ 32 ∷ 32 ∷ 32 ∷ 32 ∷ 32 ∷ 48 ∷ 10
+    ∷ 32 ∷ 32 ∷ 32 ∷ 32 ∷ 50 ∷ 32 ∷ 32 ∷ 32 ∷ 49 ∷ 32 ∷ 32 ∷ 32 ∷ 48 ∷ 32 ∷ 32 ∷ 32 ∷ 32 ∷ 32 ∷ 49
+    ∷ 32 ∷ 32 ∷ 32 ∷ 32 ∷ 32 ∷ 32 ∷ 32 ∷ 32 ∷ 32 ∷ 49 ∷ 50 ∷ 10
+    ∷ []
+unfolding run step change value kindOf ask test emptyLedger emptyState reserved bookings standsOn confHeld lunchHeld meetingOf lowestFree
+    pageLines sessionLines attending holder pageBytes decimalField
+example-page = refl
+
+-- date 0: nobody attends meeting 0 in session 1 any more, and its room has a line all the same
+pub unattended-page : pageBytes (pageLines (run (emptyLedger site) orders .ledger .diary) 0)
+    ≡ 32 ∷ 32 ∷ 32 ∷ 32 ∷ 49 ∷ 32 ∷ 32 ∷ 32 ∷ 48 ∷ 32 ∷ 32 ∷ 32 ∷ 48 ∷ 32 ∷ 32 ∷ 32 ∷ 32 ∷ 32 ∷ 48
+    ∷ 32 ∷ 32 ∷ 32 ∷ 32 ∷ 32 ∷ 32 ∷ 32 ∷ 32 ∷ 32 ∷ 32 ∷ 48 ∷ 10
+    ∷ []
+unfolding run step change value kindOf ask test emptyLedger emptyState reserved bookings standsOn confHeld lunchHeld meetingOf lowestFree
+    pageLines sessionLines attending holder pageBytes decimalField
+unattended-page = refl
+
+-- rooms 1 and 0 in the two sessions of date 0, session first; visitors 0 and 1 attend meeting 1 in session 0, and visitor 2 in session 1
+abbrev pub others : List Call
+others =
+    send 1 0 0 0 0 0 0
+    ∷ send 1 0 1 0 0 0 0
+    ∷ send 1 0 2 0 0 0 0
+    ∷ send 8 0 0 1 1 0 0
+    ∷ send 8 1 0 0 1 0 0
+    ∷ send 10 1 0 0 0 0 0
+    ∷ send 10 1 1 0 0 0 0
+    ∷ send 10 1 2 1 1 0 0
+    ∷ send 12 1 1 0 0 0 4294967295
+    ∷ send 12 0 0 1 1 0 0
+    ∷ []
+
+pub session-first : pageBytes (pageLines (run (emptyLedger site) others .ledger .diary) 0)
+    ≡ 32 ∷ 32 ∷ 32 ∷ 32 ∷ 48 ∷ 32 ∷ 32 ∷ 32 ∷ 49 ∷ 32 ∷ 32 ∷ 32 ∷ 49 ∷ 32 ∷ 32 ∷ 32 ∷ 32 ∷ 32 ∷ 50
+    ∷ 32 ∷ 52 ∷ 50 ∷ 57 ∷ 52 ∷ 57 ∷ 54 ∷ 55 ∷ 50 ∷ 57 ∷ 53 ∷ 10
+    ∷ 32 ∷ 32 ∷ 32 ∷ 32 ∷ 49 ∷ 32 ∷ 32 ∷ 32 ∷ 48 ∷ 32 ∷ 32 ∷ 32 ∷ 48 ∷ 32 ∷ 32 ∷ 32 ∷ 32 ∷ 32 ∷ 48
+    ∷ 32 ∷ 32 ∷ 32 ∷ 32 ∷ 32 ∷ 32 ∷ 32 ∷ 32 ∷ 32 ∷ 32 ∷ 48 ∷ 10
+    ∷ []
+unfolding run step change value kindOf ask test emptyLedger emptyState reserved bookings standsOn confHeld lunchHeld meetingOf lowestFree
+    pageLines sessionLines attending holder pageBytes decimalField
+session-first = refl
+
+-- "Refused, every byte of the page is as before."
+pub page-kept : (b : List ℕ) (d : ℕ) (p : List ℕ) {n i : ℕ} → page b d p .answer ≡ Refused n i → page b d p .page ≡ p
+unfolding page
+page-kept b d p {n} {i} e =
+    go (wellLaid b) (lawful b) (ltb d (ledgerOf b .diary .settings .dates)) (leb (lineWidth * length ls) (length p)) e
+  where
+    ls : List PageLine
+    ls = pageLines (ledgerOf b .diary) d
+
+    go : (o t s r : Bool) → pageBy o t s r ls p .answer ≡ Refused n i → pageBy o t s r ls p .page ≡ p
+    go true true true true e = absurd (let z : _≡_ {A = ℕ} 0 1 = cc in omega arith)
+    go true true true false e = refl
+    go true true false r e = refl
+    go true false s r e = refl
+    go false t s r e = refl
 
 -- lists that agree, one behind another
 pub join-same : {A : Type 0} (f g : ℕ → List A) (i n : ℕ) → ((j : ℕ) → i ≤ j → j < i + n → f j ≡ g j) → joinFrom f i n ≡ joinFrom g i n
@@ -129,43 +211,3 @@ other-date-book b r d h p = go (wellLaid b) refl (lawful b) refl
         ∙ sym (shown-page b (ledgerOf b) (passes-shows b q) d p)
     go true e false f = ap (λ (c : List ℕ). page c d p) (rw (e, f))
     go false e t f = ap (λ (c : List ℕ). page c d p) (rw e)
-
--- the requests of the example (rule 16.7)
-abbrev pub orders : List Call
-orders =
-    send 1 0 1 0 1 0 0
-    ∷ send 4 0 1 0 1 0 0
-    ∷ send 8 0 0 1 2 0 0
-    ∷ send 10 0 1 1 2 0 0
-    ∷ send 20 0 0 1 2 0 0
-    ∷ send 12 0 0 1 2 0 0
-    ∷ send 14 0 0 0 0 3 7
-    ∷ send 19 0 0 0 0 0 0
-    ∷ send 1 0 2 1 1 0 0
-    ∷ send 4 0 2 1 1 0 0
-    ∷ send 4 1 2 1 1 0 0
-    ∷ send 10 0 2 2 2 0 0
-    ∷ send 12 1 0 2 2 0 12
-    ∷ send 3 0 1 0 1 0 0
-    ∷ send 4 0 1 0 0 0 0
-    ∷ []
-
--- date 1: meeting 0 has two rooms in session 2, and one visitor attends it
-pub example-page : pageBytes (pageLines (run (emptyLedger site) orders .ledger .diary) 1)
-    ≡ 32 ∷ 32 ∷ 32 ∷ 32 ∷ 50 ∷ 32 ∷ 32 ∷ 32 ∷ 48 ∷ 32 ∷ 32 ∷ 32 ∷ 48 ∷ 32 ∷ 32 ∷ 32 ∷ 32 ∷ 32 ∷ 49
-    ∷ 32 ∷ 32 ∷ 32 ∷ 32 ∷ 32 ∷ 32 ∷ 32 ∷ 32 ∷ 32 ∷ 32 ∷ 48 ∷ 10
-    ∷ 32 ∷ 32 ∷ 32 ∷ 32 ∷ 50 ∷ 32 ∷ 32 ∷ 32 ∷ 49 ∷ 32 ∷ 32 ∷ 32 ∷ 48 ∷ 32 ∷ 32 ∷ 32 ∷ 32 ∷ 32 ∷ 49
-    ∷ 32 ∷ 32 ∷ 32 ∷ 32 ∷ 32 ∷ 32 ∷ 32 ∷ 32 ∷ 32 ∷ 49 ∷ 50 ∷ 10
-    ∷ []
-unfolding run step change value kindOf ask test emptyLedger emptyState reserved bookings standsOn confHeld lunchHeld meetingOf lowestFree
-    pageLines sessionLines attending holder pageBytes decimalField
-example-page = refl
-
--- date 0: nobody attends meeting 0 in session 1 any more, and its room has a line all the same
-pub unattended-page : pageBytes (pageLines (run (emptyLedger site) orders .ledger .diary) 0)
-    ≡ 32 ∷ 32 ∷ 32 ∷ 32 ∷ 49 ∷ 32 ∷ 32 ∷ 32 ∷ 48 ∷ 32 ∷ 32 ∷ 32 ∷ 48 ∷ 32 ∷ 32 ∷ 32 ∷ 32 ∷ 32 ∷ 48
-    ∷ 32 ∷ 32 ∷ 32 ∷ 32 ∷ 32 ∷ 32 ∷ 32 ∷ 32 ∷ 32 ∷ 32 ∷ 48 ∷ 10
-    ∷ []
-unfolding run step change value kindOf ask test emptyLedger emptyState reserved bookings standsOn confHeld lunchHeld meetingOf lowestFree
-    pageLines sessionLines attending holder pageBytes decimalField
-unattended-page = refl

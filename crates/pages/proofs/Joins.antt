@@ -95,8 +95,10 @@ pub line-length : (l : PageLine) → length (lineBytes l) ≡ 31
 line-length l =
     omega (
       arith,
-      length-append (decimalField 5 (l .session)) (decimalField 4 (l .room) ++ (decimalField 4 (l .meeting) ++ (decimalField 6 (l .attending) ++ (decimalField 11 (l .info) ++ (10 ∷ []))))),
-      length-append (decimalField 4 (l .room)) (decimalField 4 (l .meeting) ++ (decimalField 6 (l .attending) ++ (decimalField 11 (l .info) ++ (10 ∷ [])))),
+      length-append (decimalField 5 (l .session))
+          (decimalField 4 (l .room) ++ (decimalField 4 (l .meeting) ++ (decimalField 6 (l .attending) ++ (decimalField 11 (l .info) ++ (10 ∷ []))))),
+      length-append (decimalField 4 (l .room))
+          (decimalField 4 (l .meeting) ++ (decimalField 6 (l .attending) ++ (decimalField 11 (l .info) ++ (10 ∷ [])))),
       length-append (decimalField 4 (l .meeting)) (decimalField 6 (l .attending) ++ (decimalField 11 (l .info) ++ (10 ∷ []))),
       length-append (decimalField 6 (l .attending)) (decimalField 11 (l .info) ++ (10 ∷ [])),
       length-append (decimalField 11 (l .info)) (10 ∷ []),
@@ -143,7 +145,8 @@ join-two {at = at} {m = m} {n = n} e f u v w =
 
 -- the five fields of a line and byte 10, of which the first three are written at once
 pub line-by : (s c m n i : ℕ) {p q r u v : List ℕ} {at : ℕ} → Put p q at (decimalField 5 s ++ (decimalField 4 c ++ decimalField 4 m))
-    → Put q r (at + 13) (decimalField 6 n) → Put r u (at + 19) (decimalField 11 i) → Put u v (at + 30) (10 ∷ []) → Put p v at (lineBytes (lineOf s c m n i))
+    → Put q r (at + 13) (decimalField 6 n) → Put r u (at + 19) (decimalField 11 i) → Put u v (at + 30) (10 ∷ []) → Put p v at
+    (lineBytes (lineOf s c m n i))
 line-by s c m n i {at = at} a b d e =
     let front = decimalField 5 s ++ (decimalField 4 c ++ decimalField 4 m) in
     let rest = decimalField 6 n ++ (decimalField 11 i ++ (10 ∷ [])) in

@@ -140,7 +140,8 @@ cell-few S b good e s h v k f =
     omega (arith, rw e at f, good-cell good attends s v h k, good-laid good .ranges .meetings)
 
 -- the rooms of the site are all of a session
-pub session-rooms : (S : Settings) (b : List ℕ) → Good S b → (s : ℕ) {n : ℕ} → n ≡ S .rooms → joinFrom (roomLine (stateOf b) s) 0 n ≡ sessionLines (stateOf b) s
+pub session-rooms : (S : Settings) (b : List ℕ) → Good S b → (s : ℕ) {n : ℕ} → n ≡ S .rooms → joinFrom (roomLine (stateOf b) s) 0 n ≡ sessionLines
+    (stateOf b) s
 unfolding sessionLines readState
 session-rooms S b good s e =
     ap (joinFrom (roomLine (stateOf b) s) 0) (e ∙ sym (ap (λ (x : State). x .settings .rooms) (good-state good)))

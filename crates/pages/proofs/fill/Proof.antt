@@ -56,7 +56,8 @@ returns-2 c =
     let s = c .before .before .before .before .before .before .before .before .before .before in
     let p = c .before .before .before .before .before .before .sessions-on .ensures in
     long-enough (s .pre .0) (s .args .date .0) _ _ (run-order (s .args .s) sessions _ _ _ _ p (omega arith)) p
-    (c .before .before .before .before .before .lines-between .ensures .is) (omega (arith, c .before .before .before .before .if1 .left)) (c .before .before .put-sessions .ensures)
+    (c .before .before .before .before .before .lines-between .ensures .is) (omega (arith, c .before .before .before .before .if1 .left))
+    (c .before .before .put-sessions .ensures)
 
 pub fill-spec : {M : Type 1} → statement M
 fill-spec =

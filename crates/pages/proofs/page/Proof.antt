@@ -35,21 +35,24 @@ returns-2 : tie.Need-returns-2
 returns-2 c =
     let s = c .before .before .before .before .before .before .before .before in
     let a = s .args in
-    let good = done-good (a .book .now) _ (sym (c .before .before .before .before .before .check .ensures) ∙ c .before .before .before .enum-told .given .1) in
+    let good = done-good (a .book .now) _ (sym (c .before .before .before .before .before .check .ensures)
+    ∙ c .before .before .before .enum-told .given .1) in
     page-late good (a .date) (a .page .now) (rw (c .before .before .settings .ensures) at (c .if1 .taken))
 
 diary-len-requires : tie.Need-diary-len-requires
 diary-len-requires c κs =
     let s = c .before .before .before .before .before .before .before .before in
     let a = s .args in
-    let good = done-good (a .book .now) _ (sym (c .before .before .before .before .before .check .ensures) ∙ c .before .before .before .enum-told .given .1) in
+    let good = done-good (a .book .now) _ (sym (c .before .before .before .before .before .check .ensures)
+    ∙ c .before .before .before .enum-told .given .1) in
     rw (c .before .before .settings .ensures) (ranges-by _ (laid-valid _ (good .laid)))
 
 slice-aggregate-fill : tie.Need-slice-aggregate-fill
 slice-aggregate-fill c =
     let s = c .before .before .before .before .before .before .before .before .before .before in
     let a = s .args in
-    let good = done-good (a .book .now) _ (sym (c .before .before .before .before .before .before .before .check .ensures) ∙ c .before .before .before .before .before .enum-told .given .1) in
+    let good = done-good (a .book .now) _ (sym (c .before .before .before .before .before .before .before .check .ensures)
+    ∙ c .before .before .before .before .before .enum-told .given .1) in
     let n = c .before .diary-len .ensures ∙ ap diaryLength (c .before .before .before .before .settings .ensures) in
     sym (length-take-le _ _ (omega (arith, n, part-fits good)))
 
@@ -58,10 +61,12 @@ unfolding reading
 fill-requires c κs =
     let s = c .before .before .before .before .before .before .before .before .before .before .before in
     let a = s .args in
-    let good = done-good (a .book .now) _ (sym (c .before .before .before .before .before .before .before .before .check .ensures) ∙ c .before .before .before .before .before .before .enum-told .given .1) in
+    let good = done-good (a .book .now) _ (sym (c .before .before .before .before .before .before .before .before .check .ensures)
+    ∙ c .before .before .before .before .before .before .enum-told .given .1) in
     let n = c .before .before .diary-len .ensures ∙ ap diaryLength (c .before .before .before .before .before .settings .ensures) in (
       rw (c .before .before .before .before .before .settings .ensures) (subst (Good _) (first-part _ (good .read) n) (good-part good)),
-      rw (c .before .before .before .before .before .settings .ensures) (rw (c .before .before .before .before .before .settings .ensures) at (c .before .before .before .if1 .left)),
+      rw (c .before .before .before .before .before .settings .ensures)
+          (rw (c .before .before .before .before .before .settings .ensures) at (c .before .before .before .if1 .left)),
     )
 
 same-length : tie.Need-same-length
@@ -72,10 +77,13 @@ unfolding reading
 returns-3 c =
     let s = c .before .before .before .before .before .before .before .before .before .before .before .before .before .before in
     let a = s .args in
-    let good = done-good (a .book .now) _ (sym (c .before .before .before .before .before .before .before .before .before .before .before .check .ensures) ∙ c .before .before .before .before .before .before .before .before .before .enum-told .given .1) in
+    let good = done-good (a .book .now) _
+    (sym (c .before .before .before .before .before .before .before .before .before .before .before .check .ensures)
+    ∙ c .before .before .before .before .before .before .before .before .before .enum-told .given .1) in
     let e = c .before .before .before .before .before .before .before .before .settings .ensures in
     c .before .before .fill .ensures
-    ∙ page-diary good (a .date) (a .page .now) _ (c .before .before .before .before .before .diary-len .ensures ∙ ap diaryLength e) (rw e at (c .before .before .before .before .before .before .if1 .left))
+    ∙ page-diary good (a .date) (a .page .now) _ (c .before .before .before .before .before .diary-len .ensures ∙ ap diaryLength e)
+    (rw e at (c .before .before .before .before .before .before .if1 .left))
 
 pub page-spec : {M : Type 1} → statement M
 page-spec =

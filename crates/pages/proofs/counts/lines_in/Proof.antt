@@ -20,7 +20,8 @@ use Rattle.pages.proofs.counts.lines_in.Statement.{statement}
 use Rattle.pages.proofs.counts.lines_in.Tie as tie
 
 abbrev Inv-loop : tie.InvT-loop
-Inv-loop diary g session rooms n₀ room₀ n room = (room ≤ rooms) × (n ≡ length (joinFrom (roomLine (stateOf (reading diary)) (session .0)) 0 room)) × (n ≤ room)
+Inv-loop diary g session rooms n₀ room₀ n room = (room ≤ rooms) × (n ≡ length (joinFrom (roomLine (stateOf (reading diary)) (session .0)) 0 room))
+    × (n ≤ room)
 
 abbrev μ-loop : tie.MeasureT-loop
 μ-loop diary g session rooms n₀ room₀ n room = rooms - room
@@ -37,7 +38,13 @@ full-requires : tie.Need-full-requires Inv-loop μ-loop
 full-requires c κs = search needs
 
 add-n : tie.Need-add-n Inv-loop μ-loop
-add-n c = omega (arith, c .full .ensures, one-le (not (eqb (c .before .cell .result) 0)), good-laid (c .before .before .before .before .before .pre .0) .ranges .rooms)
+add-n c = omega (
+  arith,
+  c .full .ensures,
+  one-le (not (eqb (c .before .cell .result) 0)),
+  good-laid
+      (c .before .before .before .before .before .pre .0) .ranges .rooms,
+)
 
 add-room : tie.Need-add-room Inv-loop μ-loop
 add-room c = omega arith

@@ -46,21 +46,36 @@ shared-slice-read-put-line c =
     let s = c .before .before .before .before .before .before .before .before in
     let a = s .args in
     let e = rw (s .pre .1 .0) at (c .before .before .before .before .cell .ensures) in
-    omega (arith, s .pre .1 .1 .0 .long, full-few (a .s) (reading (a .diary .now)) (s .pre .0) (a .session .0) (s .pre .1 .1 .1 .0 .0) (a .room) (s .pre .1 .1 .1 .0 .1) e)
+    omega (
+      arith,
+      s .pre .1 .1 .0 .long,
+      full-few (a .s) (reading (a .diary .now)) (s .pre .0) (a .session .0) (s .pre .1 .1 .1 .0 .0) (a .room)
+          (s .pre .1 .1 .1 .0 .1) e,
+    )
 
 put-line-requires : tie.Need-put-line-requires
 put-line-requires c κs =
     let s = c .before .before .before .before .before .before .before .before in
     let a = s .args in
     let e = rw (s .pre .1 .0) at (c .before .before .before .before .cell .ensures) in
-    omega (arith, s .pre .1 .1 .1 .1, line-one (a .s) (reading (a .diary .now)) (s .pre .0) (a .session .0) (s .pre .1 .1 .1 .0 .0) (a .room) (s .pre .1 .1 .1 .0 .1) e (c .before .before .before .if1 .left))
+    omega (
+      arith,
+      s .pre .1 .1 .1 .1,
+      line-one (a .s) (reading (a .diary .now)) (s .pre .0) (a .session .0) (s .pre .1 .1 .1 .0 .0) (a .room)
+          (s .pre .1 .1 .1 .0 .1) e (c .before .before .before .if1 .left),
+    )
 
 add-result : tie.Need-add-result
 add-result c =
     let s = c .before .before .before .before .before .before .before .before .before .before .before in
     let a = s .args in
     let e = rw (s .pre .1 .0) at (c .before .before .before .before .before .before .before .cell .ensures) in
-    omega (arith, s .pre .1 .1 .1 .1, line-one (a .s) (reading (a .diary .now)) (s .pre .0) (a .session .0) (s .pre .1 .1 .1 .0 .0) (a .room) (s .pre .1 .1 .1 .0 .1) e (c .before .before .before .before .before .before .if1 .left))
+    omega (
+      arith,
+      s .pre .1 .1 .1 .1,
+      line-one (a .s) (reading (a .diary .now)) (s .pre .0) (a .session .0) (s .pre .1 .1 .1 .0 .0) (a .room)
+          (s .pre .1 .1 .1 .0 .1) e (c .before .before .before .before .before .before .if1 .left),
+    )
 
 same-length : tie.Need-same-length
 same-length c = search needs
@@ -71,7 +86,8 @@ returns-2 c =
     let a = s .args in
     let e = rw (s .pre .1 .0) at (c .before .before .before .before .before .before .before .cell .ensures) in
     let i = rw (s .pre .1 .0) at (c .before .before .before .before .before .word .ensures) in
-    written-one (table-line (a .s) (reading (a .diary .now)) (s .pre .0) (a .session .0) (s .pre .1 .1 .1 .0 .0) (a .room) (s .pre .1 .1 .1 .0 .1) e (c .before .before .before .before .before .before .if1 .left) (s .pre .1 .1 .0) i)
+    written-one (table-line (a .s) (reading (a .diary .now)) (s .pre .0) (a .session .0) (s .pre .1 .1 .1 .0 .0) (a .room)
+    (s .pre .1 .1 .1 .0 .1) e (c .before .before .before .before .before .before .if1 .left) (s .pre .1 .1 .0) i)
     (c .before .before .put-line .ensures)
 
 pub put-room-spec : {M : Type 1} → statement M

@@ -15,7 +15,8 @@ use Rattle.pages.proofs.lines.put_session.Statement.{statement}
 use Rattle.pages.proofs.lines.put_session.Tie as tie
 
 abbrev Inv-loop : tie.InvT-loop
-Inv-loop diary s g session page₀ at table rooms next₀ room₀ page next room = (room ≤ rooms) × Written page₀ page at (joinFrom (roomLine (stateOf (reading diary)) (session .0)) 0 room) next
+Inv-loop diary s g session page₀ at table rooms next₀ room₀ page next room = (room ≤ rooms) × Written page₀ page at
+    (joinFrom (roomLine (stateOf (reading diary)) (session .0)) 0 room) next
 
 abbrev μ-loop : tie.MeasureT-loop
 μ-loop diary s g session page₀ at table rooms next₀ room₀ page next room = rooms - room
@@ -40,7 +41,9 @@ put-room-requires c κs =
     (s .pre .0, (s .pre .1 .0, (c .before .before .before .before .tally .ensures, ((s .pre .1 .1 .0, omega arith), room))))
 
 add-room : tie.Need-add-room Inv-loop μ-loop
-add-room c = omega (arith, c .before .before .before .before .before .before .loop .inv .0, c .before .before .before .before .before .loop-test .taken, good-laid (c .before .before .before .before .before .before .before .before .before .before .pre .0) .ranges .rooms)
+add-room c =
+    let l = c .before .before .before .before .before in
+    omega (arith, l .before .loop .inv .0, l .loop-test .taken, good-laid (l .before .before .before .before .before .pre .0) .ranges .rooms)
 
 loop-less : tie.Need-loop-less Inv-loop μ-loop
 loop-less c = omega arith
@@ -48,8 +51,11 @@ loop-less c = omega arith
 loop-again : tie.Need-loop-again Inv-loop μ-loop
 loop-again c =
     let a = c .before .before .before .before .before .before .before .before .before .before .args in
-    let l = c .before .before .before .before .before .before .loop in
-    (omega arith, written-more (join-upto (roomLine (stateOf (reading (a .diary .now))) (a .session .0)) (l .room)) (l .inv .1) (c .before .before .put-room .ensures))
+    let l = c .before .before .before .before .before .before .loop in (
+      omega arith,
+      written-more (join-upto (roomLine (stateOf (reading (a .diary .now))) (a .session .0)) (l .room)) (l .inv .1)
+          (c .before .before .put-room .ensures),
+    )
 
 same-length : tie.Need-same-length Inv-loop μ-loop
 same-length c = c .before .loop .inv .1 .put .kept

@@ -15,7 +15,8 @@ use Rattle.pages.proofs.lines.put_sessions.Statement.{statement}
 use Rattle.pages.proofs.lines.put_sessions.Tie as tie
 
 abbrev Inv-loop : tie.InvT-loop
-Inv-loop diary s g page₀ end at₀ i₀ page at i = (i₀ ≤ i) × (i ≤ end) × Written page₀ page 0 (joinFrom (sessionLines (stateOf (reading diary))) i₀ (i - i₀)) at
+Inv-loop diary s g page₀ end at₀ i₀ page at i = (i₀ ≤ i) × (i ≤ end) × Written page₀ page 0
+    (joinFrom (sessionLines (stateOf (reading diary))) i₀ (i - i₀)) at
 
 abbrev μ-loop : tie.MeasureT-loop
 μ-loop diary s g page₀ end at₀ i₀ page at i = end - i
@@ -23,8 +24,12 @@ abbrev μ-loop : tie.MeasureT-loop
 loop-holds : tie.Need-loop-holds Inv-loop μ-loop
 loop-holds c =
     let s = c .before .before in
-    let a = s .args in
-    (omega arith, omega (arith, s .pre .1 .1 .0), written-none (a .page .now) 0 (join-start (sessionLines (stateOf (reading (a .diary .now)))) (a .from .0)))
+    let a = s .args in (
+      omega arith,
+      omega (arith, s .pre .1 .1 .0),
+      written-none (a .page .now) 0
+          (join-start (sessionLines (stateOf (reading (a .diary .now)))) (a .from .0)),
+    )
 
 put-session-requires : tie.Need-put-session-requires Inv-loop μ-loop
 unfolding between
@@ -32,7 +37,8 @@ put-session-requires c κs =
     let s = c .before .before .before .before .before in
     let a = s .args in
     let l = c .before .before .loop in
-    let room = still-room (sessionLines (stateOf (reading (a .diary .now)))) (a .from .0) (l .i) (a .to .0) (l .inv .0) (omega arith) (omega (arith, s .pre .1 .1 .1)) (l .inv .2) in
+    let room = still-room (sessionLines (stateOf (reading (a .diary .now)))) (a .from .0) (l .i) (a .to .0) (l .inv .0) (omega arith)
+    (omega (arith, s .pre .1 .1 .1)) (l .inv .2) in
     (s .pre .0, (s .pre .1 .0, (omega (arith, s .pre .1 .1 .0), room)))
 
 add-i : tie.Need-add-i Inv-loop μ-loop
@@ -49,7 +55,8 @@ loop-again c =
     let l = c .before .before .before .before .before .loop in (
       omega (arith, l .inv .0),
       omega (arith, c .before .before .before .before .loop-test .taken),
-      written-more (join-next (sessionLines (stateOf (reading (a .diary .now)))) (a .from .0) (l .i) (l .inv .0)) (l .inv .2) (c .before .before .put-session .ensures),
+      written-more (join-next (sessionLines (stateOf (reading (a .diary .now)))) (a .from .0) (l .i) (l .inv .0)) (l .inv .2)
+          (c .before .before .put-session .ensures),
     )
 
 same-length : tie.Need-same-length Inv-loop μ-loop
@@ -61,7 +68,8 @@ returns c =
     let a = c .before .before .before .before .args in
     let l = c .before .loop in
     let e : l .i ≡ a .to .0 = omega arith in
-    subst (λ (k : ℕ). Put (a .page .now) (l .page) 0 (pageBytes (joinFrom (sessionLines (stateOf (reading (a .diary .now)))) (a .from .0) (k - a .from .0)))) e (l .inv .2 .put)
+    subst (λ (k : ℕ). Put (a .page .now) (l .page) 0
+    (pageBytes (joinFrom (sessionLines (stateOf (reading (a .diary .now)))) (a .from .0) (k - a .from .0)))) e (l .inv .2 .put)
 
 pub put-sessions-spec : {M : Type 1} → statement M
 put-sessions-spec =

@@ -36,18 +36,33 @@ mul-table c = omega arith
 array-read-table : tie.Need-array-read-table Inv-loop μ-loop
 array-read-table c =
     let s = c .before .before .before .before in
-    omega (arith, c .before .before .loop .inv .1 .long, cell-few (s .args .s) _ (s .pre .0) (s .pre .1 .0) _ (s .pre .1 .1) _ (omega arith) (c .cell .ensures))
+    omega (
+      arith,
+      c .before .before .loop .inv .1 .long,
+      cell-few (s .args .s) _ (s .pre .0) (s .pre .1 .0) _ (s .pre .1 .1) _ (omega arith)
+          (c .cell .ensures),
+    )
 
 add-table : tie.Need-add-table Inv-loop μ-loop
 add-table c =
     let s = c .before .before .before .before in
     let few = cell-few (s .args .s) _ (s .pre .0) (s .pre .1 .0) _ (s .pre .1 .1) _ (omega arith) (c .cell .ensures) in
-    omega (arith, tallied-few (s .args .g .attend) (reading (s .args .diary .now)) (s .args .session .0) few (c .before .before .loop .inv .1), good-laid (s .pre .0) .ranges .visitors)
+    omega (
+      arith,
+      tallied-few (s .args .g .attend) (reading (s .args .diary .now)) (s .args .session .0) few
+          (c .before .before .loop .inv .1),
+      good-laid (s .pre .0) .ranges .visitors,
+    )
 
 array-write-table : tie.Need-array-write-table Inv-loop μ-loop
 array-write-table c =
     let s = c .before .before .before .before in
-    omega (arith, c .before .before .loop .inv .1 .long, cell-few (s .args .s) _ (s .pre .0) (s .pre .1 .0) _ (s .pre .1 .1) _ (omega arith) (c .cell .ensures))
+    omega (
+      arith,
+      c .before .before .loop .inv .1 .long,
+      cell-few (s .args .s) _ (s .pre .0) (s .pre .1 .0) _ (s .pre .1 .1) _ (omega arith)
+          (c .cell .ensures),
+    )
 
 add-v : tie.Need-add-v Inv-loop μ-loop
 add-v c = omega arith
@@ -58,14 +73,18 @@ loop-less c = omega arith
 loop-again : tie.Need-loop-again Inv-loop μ-loop
 loop-again c =
     let s = c .before .before .before .before in
-    let few = cell-few (s .args .s) _ (s .pre .0) (s .pre .1 .0) _ (s .pre .1 .1) _ (omega arith) (c .cell .ensures) in
-    (omega arith, tallied-more (s .args .g .attend) (reading (s .args .diary .now)) (s .args .session .0) (c .cell .ensures) few (c .before .before .loop .inv .1))
+    let few = cell-few (s .args .s) _ (s .pre .0) (s .pre .1 .0) _ (s .pre .1 .1) _ (omega arith) (c .cell .ensures) in (
+      omega arith,
+      tallied-more (s .args .g .attend) (reading (s .args .diary .now)) (s .args .session .0) (c .cell .ensures) few
+          (c .before .before .loop .inv .1),
+    )
 
 returns : tie.Need-returns Inv-loop μ-loop
 returns c =
     let s = c .before .before .before in
     let l = c .before .loop in
-    tally-all (s .args .s) (reading (s .args .diary .now)) (s .pre .0) (s .args .session .0) (s .pre .1 .1) {n = l .v} (omega arith) (rw (s .pre .1 .0) at (l .inv .1))
+    tally-all (s .args .s) (reading (s .args .diary .now)) (s .pre .0) (s .args .session .0) (s .pre .1 .1) {n = l .v} (omega arith)
+    (rw (s .pre .1 .0) at (l .inv .1))
 
 pub tally-spec : {M : Type 1} → statement M
 tally-spec =
