@@ -8,6 +8,7 @@ use Rattle.capi.specs.declared.RequestWords.{RequestWords}
 use Rattle.model.specs.declared.Request.{Request}
 use Rattle.model.specs.Machine.{answerWords, replyWords, requestOf}
 use Rattle.model.specs.Calls.{Called, Listed}
+use Rattle.model.specs.Page.{Paged}
 
 -- the three words of the struct, in the order of its fields
 abbrev pub wordsOf : AnswerWords → List ℕ
@@ -27,3 +28,8 @@ pub record TellsList (l : Listed) (r : AnswerWords) (b a : List ℕ) : Type 0 wh
   pub answer : wordsOf r ≡ answerWords (l .answer)
   pub book : b ≡ l .book
   pub answers : a ≡ l .answers
+
+-- the answer r and the lent page p are those of the model's page
+pub record TellsPage (c : Paged) (r : AnswerWords) (p : List ℕ) : Type 0 where
+  pub answer : wordsOf r ≡ answerWords (c .answer)
+  pub page : p ≡ c .page

@@ -12,7 +12,8 @@ ghost use Rattle.model.specs.Reading.{settingsOf};
 ghost use Rattle.model.specs.Ledger.{bookLength};
 ghost use Rattle.model.specs.Calls;
 ghost use Rattle.model.specs.Calls.{settingsGood};
-ghost use Rattle.capi.specs.Answers.{wordsOf, requestBy, Tells, TellsList};
+ghost use Rattle.model.specs.Page;
+ghost use Rattle.capi.specs.Answers.{wordsOf, requestBy, Tells, TellsList, TellsPage};
 
 // An answer as three words: a number, which is 0 where the call is done, a place and a value.
 #[repr(C)]
@@ -126,4 +127,12 @@ pub extern "C" fn caviar_serve(
         ⌝ }
 {
     told(list::serve(settings, book, requests, answers))
+}
+
+// The porter's page of a date, from any words as a book: its lines at the front of the lent page.
+#[no_mangle]
+pub extern "C" fn caviar_page(book: &[u32], date: u32, page: &mut [u8]) -> AnswerWords
+    ensures { λ r. ⌜ TellsPage (Page.page (now (book .entry)) date (now (page .entry))) r (now (page .exit)) ⌝ }
+{
+    told(pages::page(book, date, page))
 }

@@ -1,0 +1,4 @@
+pub mod Joins
+pub mod Shows
+pub mod Dates
+pub mod Readable
