@@ -44,7 +44,7 @@ pub fn lines(state: &State, date: Date) -> Vec<Line> {
 
 /// How many visitors attend the meeting in the session.
 fn attending(state: &State, session: Session, meeting: u32) -> u32 {
-    state.attend.iter().filter(|(at, a, _)| *at == session && *a == meeting).count() as u32
+    state.attend.range((session, meeting, 0)..=(session, meeting, u32::MAX)).count() as u32
 }
 
 /// The call (rules 16.4 to 16.6): questions 1, 2, 7 and 26; done, the page begins with the lines, and
