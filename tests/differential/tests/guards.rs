@@ -104,7 +104,7 @@ fn inside_what_is_lent() {
             read_only_calls(&words, end, &mut answered);
             single_calls(&words, end, &mut answered);
             list_calls(&words, end, &mut answered);
-            page_call(&mut rng, end, &mut answered);
+            (0..3).for_each(|_| page_call(&mut rng, end, &mut answered));
         }
     }
     println!("seed {}: {turns} turns between guard pages, by function, end and number: {answered}", seed(40));
