@@ -11,11 +11,11 @@
  * Every function takes any words in the arrays that it is lent, of any length, and says so where they are not a book: none has a
  * condition on contents. What each one promises below is proved, for all words. What the caller owes is what C owes any function that
  * takes arrays: a pointer to as many words as the length says (an empty array may be a null pointer), aligned for uint32_t, no two of
- * the arrays overlapping where one of them is written. All lengths are counted in words, not in bytes.
+ * the arrays overlapping where one of them is written. All lengths are counted in words, not in bytes, but for a page, which is bytes.
  *
- * Threads: calls on different books may run at the same time. On one book, calls of caviar_check may run beside each other; every
- * other call that is lent a book or answers counts as writing to them, whatever its requests are, so nobody else may read or write
- * them meanwhile.
+ * Threads: calls on different books may run at the same time. On one book, calls of caviar_check and caviar_page may run beside each
+ * other, the latter with a page each; every other call that is lent a book or answers counts as writing to them, whatever its requests
+ * are, so nobody else may read or write them meanwhile.
  *
  * SETTINGS (rules 1.1 to 1.3)
  *
@@ -77,7 +77,8 @@
  * ANSWERS (section 6)
  *
  * An answer is the three words of struct caviar_answer. Done: number and place are 0. Refused: `number` says which question was the
- * first with the answer no, `value` is 0, and nothing has changed: not a word of the book, nor of a lent list of answers.
+ * first with the answer no, `value` is 0, and nothing has changed: not a word of the book, nor of a lent list of answers, nor a byte
+ * of a lent page.
  *
  *     number  means (asked of the kinds)                                                        place
  *      1      no book: under 9 words, a limit or capacity out of range, or another length       0
@@ -86,7 +87,8 @@
  *      4      a field that the kind does not use is not 0                                       0
  *      5      a is not below its limit                                                          0
  *      6      b is not below its limit                                                          0
- *      7      first after last, last past the end, or several slots for 17, 18 or 19            0
+ *      7      first after last, last past the end, or several slots for 17, 18 or 19;           0
+ *             for a page: the date is past the last one
  *      8      no seat, or more than the dining room has (14)                                    0
  *      9      the visitor has no leave on the slot's date (4, 6, 10)                            the slot
  *     10      the meeting does not stand (10, 12), or in no session of the date (14)            the slot
@@ -105,6 +107,7 @@
  *     23      (the program `frames` alone: the line is no frame)                                0
  *     24      bad settings                                                                      0
  *     25      the book has another length than the settings ask for                             0
+ *     26      the lent page is shorter than its lines                                           0
  *
  * Questions are asked in the order of their numbers, each of all slots before the next. The place is the lowest slot with the answer
  * no, in the unit of the kind; for 17 it is a date though the slots of kind 16 are sessions.
@@ -144,10 +147,14 @@ extern "C" {
 #define CAVIAR_REQUEST_WORDS 7
 #define CAVIAR_ANSWER_WORDS 3
 
+/* How many bytes a line of a porter's page has, its byte 10 included, and how many do for every date of every site. */
+#define CAVIAR_PAGE_LINE 31
+#define CAVIAR_MOST_PAGE 31744
+
 /* An answer: done with a value, or refused with a number and a place. See ANSWERS above. */
 typedef struct caviar_answer {
     uint32_t number; /* 0 when done */
-    uint32_t place;  /* 0 when done, and for 1 to 8 and 22 to 25 */
+    uint32_t place;  /* 0 when done, and for 1 to 8 and 22 to 26 */
     uint32_t value;  /* 0 when refused */
 } caviar_answer;
 
@@ -190,6 +197,31 @@ caviar_answer caviar_requests(uint32_t *book, size_t book_len, const uint32_t *r
  * as before. (rule 10.5) */
 caviar_answer caviar_serve(const uint32_t *settings, size_t settings_len, uint32_t *book, size_t book_len, const uint32_t *requests,
                            size_t requests_len, uint32_t *answers, size_t answers_len);
+
+/* The porter's page of a date, on any words: which meeting is in which conference room, with how many visitors. The page has a line for
+ * each session of the date and in it for each conference room that a meeting holds, attended or not: sessions in their order, in each
+ * of them rooms in theirs. A meeting that holds two rooms in a session has two lines. A line is 30 characters and a byte 10, so it has
+ * CAVIAR_PAGE_LINE bytes. The characters are five numbers in base ten, each at the end of its columns with spaces before it:
+ *
+ *     columns     number
+ *      1 to  5    session
+ *      6 to  9    conference room
+ *     10 to 13    meeting
+ *     14 to 19    visitors who attend that meeting in that session
+ *     20 to 30    information that the room was given with
+ *
+ * Sessions are numbered as everywhere in the book, from 0 to D * P - 1. With rooms 0 and 2 in session 2 and room 1 in session 3, the page
+ * of date 1 of a site with two sessions a date is
+ *
+ *         2   0   1     2          0
+ *         2   2   1     2 4294967295
+ *         3   1   0     0         70
+ *
+ * Done, the value is the number of lines, the first CAVIAR_PAGE_LINE * value bytes of `page` are the lines, and the bytes behind them
+ * stay; no byte 0 is put behind them. A date without a room in use has no line, and a page of any length does. Refused with 1 or 2 as by
+ * caviar_check, else with 7 for a date that is not below D, else with 26 for a page_len under CAVIAR_PAGE_LINE bytes a line; the page is
+ * then as before. A page of P * C lines always does; CAVIAR_MOST_PAGE is the most. No word of the book is changed. (section 16) */
+caviar_answer caviar_page(const uint32_t *book, size_t book_len, uint32_t date, uint8_t *page, size_t page_len);
 
 #ifdef __cplusplus
 }

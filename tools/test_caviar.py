@@ -1,7 +1,8 @@
 #!/usr/bin/env python3
-"""Tests of tools/caviar against the second program's `frames` and the proved one, which must be built.
+"""Tests of tools/caviar against the second program and the proved program and library, which must be built.
 
-    rt check frames
+    tools/build-frames
+    tools/build-library
     python3 tools/test_caviar.py
 
 The files of tools/conversations hold settings, requests as they are typed, and indented below each one the sentence
@@ -22,7 +23,7 @@ sys.dont_write_bytecode = True
 ROOT = Path(__file__).resolve().parent.parent
 sys.path.insert(0, str(ROOT / "tools"))
 
-from caviar_tool import lines, rules, typed  # noqa: E402
+from caviar_tool import library, lines, rules, typed  # noqa: E402
 from caviar_tool.rules import Problem, Raw, Request  # noqa: E402
 
 CAVIAR = ROOT / "tools" / "caviar"
@@ -47,7 +48,9 @@ def programs():
 
 def setUpModule():
     if not os.access(PROVED, os.X_OK):
-        raise RuntimeError(f"there is no program {PROVED}; `rt check frames` builds it")
+        raise RuntimeError(f"there is no program {PROVED}; `tools/build-frames` builds it")
+    if not library.PATH.exists():
+        raise RuntimeError(f"there is no library {library.PATH}; `tools/build-library` builds it")
     cargo = shutil.which("cargo") or str(Path.home() / ".cargo" / "bin" / "cargo")
     command = [cargo, "build", "--quiet", "--offline", "--locked", "--release", "--bins"]
     environment = dict(os.environ, CARGO_TARGET_DIR=str(CARGO_TARGET))
@@ -322,7 +325,7 @@ class Explain(Tested):
         no_line = "not an answer line, which is 24 lower-case hexadecimal digits"
         cases = {
             "zz": no_line, "": no_line, "0" * 23: no_line, "0" * 32: no_line, "A" * 24: no_line,
-            "0000001a" + "0" * 16: "there is no question 26",
+            "0000001b" + "0" * 16: "there is no question 27",
             "000000090000000000000001": "a refusal has value 0",
             "000000000000000100000000": "a done answer has place 0",
             "000000080000000100000000": "this answer has place 0",
@@ -365,22 +368,112 @@ class Explain(Tested):
         self.complains("no/such/file: No such file or directory", "explain", "--with", "no/such/file", given=done)
 
 
+class Page(Tested):
+    """The porter's page of a date, out of a site and its requests."""
+
+    REFUSED = "caviar: requests that were refused and left no mark on this page: {}\n"
+
+    def paged(self, date, given):
+        """The page, and what was said of refused requests."""
+        status, out, said = caviar("page", str(date), given=given)
+        self.assertEqual(status, 0, said)
+        return out.decode(), said
+
+    def test_the_example_site(self):
+        text = (ROOT / "examples" / "site.txt").read_text()
+        told = (ROOT / "tools" / "conversations" / "site.txt").read_text().partition("\n")[2]
+        refused = "".join(re.findall(r"^\S.*\n    Refused by .*\n", told, re.MULTILINE))
+        said = self.REFUSED.format(2) + refused
+        self.assertEqual(self.paged(0, text), ("    1   0   0     0          0\n", said))
+        pages = "    2   0   0     1          0\n    2   1   0     1         12\n"
+        self.assertEqual(self.paged(1, text), (pages, said))
+        self.assertEqual(self.paged("0x1", self.wrote("frame", given=text)), (pages, said), "the lines do as well")
+
+    def test_nothing_in_use(self):
+        self.assertEqual(self.paged(0, SETTINGS), ("", ""))
+        conf = "add-conf room 1 meeting 1 session 3 info 4294967295"
+        elsewhere = f"{SETTINGS}\nadd-standing meeting 1 sessions 2..3\n{conf}\n"
+        self.assertEqual(self.paged(0, elsewhere), ("", ""))
+        self.assertEqual(self.paged(1, elsewhere), ("    3   1   1     0 4294967295\n", ""))
+
+    def test_lines_that_are_no_requests(self):
+        requests = ["raw zz", "add-standing meeting 0 session 0", "raw", "add-conf room 1 meeting 0 session 0"]
+        out, said = self.paged(0, "\n".join([SETTINGS, *requests]))
+        self.assertEqual(out, "    0   1   0     0          0\n")
+        expected = [self.REFUSED.format(2).strip(), "raw zz", "    Refused by 23: {}2 characters. [rule 5.23: {}]",
+                    "raw", "    Refused by 23: {}0 characters. [rule 5.23: {}]"]
+        why = "the line is not 56 digits of lower-case hexadecimal; it has "
+        self.assertEqual(said.splitlines(), [line.format(why, rules.QUESTIONS[23][0]) for line in expected])
+
+    def test_a_site_too_large_for_the_program(self):
+        wide = SETTINGS.replace("dates 2", "dates 400").replace("sessions 2", "sessions 16")
+        wide = wide.replace("visitors 3", "visitors 512")
+        typed_text = f"{wide}\nadd-leave visitor 511 date 399\nadd-standing meeting 1 sessions 6383..6399\n" \
+                     "add-attend meeting 1 visitor 511 session 6399\nadd-conf room 1 meeting 1 session 6399 info 8\n"
+        self.assertGreater(typed.parse_line(wide, True).book_length(), rules.MOST_WORDS)
+        self.assertEqual(self.paged(399, typed_text), (" 6399   1   1     1          8\n", ""))
+        self.assertEqual(self.paged(398, typed_text), ("", ""))
+
+    def test_seeded_streams(self):
+        """The pages of sites of all sizes are the second program's."""
+        count, dates = 0, 0
+        for seed in SEEDS:
+            for damage in ([], ["damaged"]):
+                command = [built("gen"), str(seed), "300", *damage]
+                stream = subprocess.run(command, capture_output=True, check=True).stdout
+                settings = (lines.read_lines(stream.decode("utf-8", "surrogateescape")) or [None])[0]
+                good = isinstance(settings, rules.Settings) and settings.book_length() <= rules.MOST_WORDS
+                for date in range(min(settings.limit("dates"), 6) if good else 0):
+                    expected = subprocess.run([built("page"), str(date)], input=stream, capture_output=True, check=True)
+                    page, _ = self.paged(date, stream)
+                    self.assertEqual(page, expected.stdout.decode())
+                    count, dates = count + len(page.splitlines()), dates + 1
+        print(f"seeds {', '.join(map(str, SEEDS))}: pages of {dates} dates, {count} lines", flush=True)
+        self.assertGreater(count, 30)
+
+    def test_every_complaint(self):
+        past = "Refused by 7: there is no date {}; the dates here are 0 to 1. [rule 5.7: " + rules.QUESTIONS[7][0] + "]"
+        for date in ("2", "4294967295"):
+            self.complains(past.format(date), "page", date, given=SETTINGS)
+        bad = "Refused by 24: these are not good settings, {}. [rule 5.24: " + rules.QUESTIONS[24][0] + "]"
+        few = "there are 7 numbers, and settings have 9 before the capacities"
+        cases = {"": "it is not whole words of lower-case hexadecimal", "raw 00000002":
+                 "there are 1 numbers, and settings have 9 before the capacities", "add-leave visitor 0 date 0": few}
+        for given, why in cases.items():
+            self.complains(bad.format(why), "page", "0", given=given)
+        self.complains("'x' is not a number", "page", "x", given=SETTINGS)
+        self.complains("4294967296 does not fit in 32 bits", "page", "4294967296", given=SETTINGS)
+        self.complains("line 2: add-leave lacks dates", "page", "0", given=f"{SETTINGS}\nadd-leave visitor 0")
+        self.complains("line 1: dates 401 is not from 1 to 400", "page", "0",
+                       given=SETTINGS.replace("dates 2", "dates 401"))
+
+    def test_no_library(self):
+        with tempfile.TemporaryDirectory() as place:
+            shutil.copytree(ROOT / "tools", Path(place) / "tools")
+            command = [Path(place) / "tools" / "caviar", "page", "0"]
+            done = subprocess.run(command, input=SETTINGS.encode(), capture_output=True)
+        self.assertEqual((done.returncode, done.stdout), (2, b""))
+        start = "caviar: no library with these functions, `tools/build-library` makes it: "
+        self.assertTrue(done.stderr.decode().startswith(start), done.stderr)
+
+
 class Commands(Tested):
     """The tables, the help, and commands that are none."""
 
     def test_the_tables(self):
         table = self.wrote("table").decode().splitlines()
-        self.assertEqual([int(line.split()[0]) for line in table[:25]], list(range(1, 26)))
+        self.assertEqual([int(line.split()[0]) for line in table[:26]], list(range(1, 27)))
         self.assertTrue(all(question in line for line, (question, _) in zip(table, rules.QUESTIONS.values())))
         kinds = self.wrote("kinds").decode().splitlines()
         self.assertEqual([line.split()[:2] for line in kinds], [[str(kind.number), kind.name] for kind in rules.KINDS])
 
     def test_help(self):
-        for arguments in ([], ["frame"], ["words"], ["explain"], ["table"], ["kinds"]):
+        for arguments in ([], ["frame"], ["words"], ["explain"], ["page"], ["table"], ["kinds"]):
             self.assertIn(b"usage: caviar " + " ".join(arguments).encode(), self.wrote(*arguments, "--help"))
 
     def test_commands_that_are_none(self):
-        for arguments in ([], ["fram"], ["table", "1"], ["explain", "--with"], ["explain", "--without"]):
+        for arguments in ([], ["fram"], ["table", "1"], ["explain", "--with"], ["explain", "--without"], ["page"],
+                          ["page", "0", "1"]):
             status, out, complaint = caviar(*arguments)
             self.assertEqual((status, out), (2, b""))
             self.assertTrue(complaint.startswith("usage: caviar"), complaint)
@@ -440,6 +533,24 @@ class Documents(Tested):
         told = (ROOT / "tools" / "conversations" / "site.txt").read_text().partition("\n")[2]
         indented = "".join(f"    {line}\n" for line in told.splitlines())
         self.assertIn(indented, (ROOT / "README.md").read_text())
+
+    def test_the_page_of_the_readme_and_of_the_rules(self):
+        status, page, _ = caviar("page", "1", given=(ROOT / "examples" / "site.txt").read_bytes())
+        self.assertEqual(status, 0)
+        indented = "".join(f"    {line}\n" for line in page.decode().splitlines())
+        command = "    $ tools/caviar page 1 < examples/site.txt 2> refused\n"
+        self.assertIn(f"{command}{indented}\n", (ROOT / "README.md").read_text())
+        self.assertIn(f"\n\n{indented}", (ROOT / "docs" / "RULES.md").read_text())
+
+    def test_the_numbers_of_the_documents(self):
+        """The tables of refusal numbers go as far as the tool's."""
+        numbers = list(rules.QUESTIONS)
+        self.assertEqual(sorted({int(number) for number in self.rows("docs/RULES.md", r"^\*\*5\.(\d+)\*\*")}), numbers)
+        header = (ROOT / "include" / "caviar.h").read_text().partition("number  means")[2].partition("\n *\n")[0]
+        self.assertEqual([int(number) for number in re.findall(r"^ \* {5,6}(\d+)  ", header, re.MULTILINE)], numbers)
+        readme = (ROOT / "README.md").read_text().partition("| number | means |")[2].partition("\n\n")[0]
+        self.assertEqual([int(number) for row in re.findall(r"^\| ([\d, ]+) \|", readme, re.MULTILINE)
+                          for number in row.split(", ")], numbers)
 
 
 if __name__ == "__main__":

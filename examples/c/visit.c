@@ -1,4 +1,5 @@
-/* A visit of two dates, from C: lay a book, ask for leave, a hotel room and a meeting, see a refusal, and check the book.
+/* A visit of two dates, from C: lay a book, ask for leave, a hotel room and a meeting, see a refusal, check the book, and write the
+ * porter's page of a date.
  *
  *     rt staticlib capi
  *     gcc -Iinclude examples/c/visit.c target/staticlib/libcapi.a -o target/visit && target/visit
@@ -13,6 +14,26 @@ static void say(const char *what, caviar_answer answer)
         printf("%s: done, value %u\n", what, answer.value);
     else
         printf("%s: refused by question %u at %u\n", what, answer.number, answer.place);
+}
+
+/* Gives a meeting a room on date 1 and prints the porter's page of that date. */
+static void porters_page(uint32_t *book)
+{
+    const uint32_t requests[] = {
+        1,  0, 2, 1, 1, 0, 0,  /* leave for visitor 2 on date 1 */
+        8,  0, 0, 2, 3, 0, 0,  /* meeting 0 stands in sessions 2 and 3 */
+        10, 0, 2, 3, 3, 0, 0,  /* visitor 2 attends it in session 3 */
+        12, 1, 0, 2, 3, 0, 70, /* conference room 1 for both sessions, with information 70 */
+    };
+    uint32_t answers[12];
+    uint8_t page[4 * CAVIAR_PAGE_LINE];
+    caviar_answer answer;
+
+    say("a meeting on date 1", caviar_requests(book, 64, requests, 28, answers, 12));
+    answer = caviar_page(book, 64, 1, page, sizeof page);
+    say("the page of date 1", answer);
+    fwrite(page, CAVIAR_PAGE_LINE, answer.value, stdout);
+    say("the page of date 2", caviar_page(book, 64, 2, page, sizeof page));
 }
 
 /* The small site of docs/RULES.md, section 13, request by request. */
@@ -31,6 +52,7 @@ static void small_site(void)
     say("hotel room 0 for visitor 1 on dates 0 to 1", caviar_request(book, 64, hotel));
     say("remove visitor 1 on dates 0 to 1", caviar_request(book, 64, removal));
     say("check", caviar_check(book, 64));
+    porters_page(book);
 }
 
 /* The largest site, with a list of requests. */

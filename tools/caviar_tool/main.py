@@ -5,10 +5,11 @@ import os
 import sys
 from pathlib import Path
 
+from . import library
 from . import typed as words_typed
-from .explain import explained, sentence_alone
+from .explain import explained, question, sentence_alone, sentence_of_settings
 from .lines import printable, read_answer, read_lines, text_lines, written
-from .rules import INFO, KINDS, QUESTIONS, Problem
+from .rules import INFO, KINDS, QUESTIONS, Problem, Raw, Request, Settings
 
 BAD_INPUT = 2
 
@@ -17,7 +18,23 @@ ABOUT = """The booking book for people: typed requests to the lines that the pro
     caviar frame < site.txt > requests
     frames < requests > answers
     caviar explain --with site.txt < answers
+
+The porter's page of a date is printed from the site alone, by the library that tools/build-library makes:
+
+    caviar page 0 < site.txt
 """
+
+PAGE = """
+The site is settings and requests, typed or in the program's lines. The page has a line for each session and conference
+room in use: session, room, meeting, visitors who attend, information. Requests that are refused are told on standard
+error; the page is that of the book which the others make.
+"""
+
+
+def complain(*lines):
+    """Says on standard error what is wrong, so that a terminal can show it."""
+    shown = "\n".join(map(printable, lines))
+    sys.stderr.buffer.write(f"caviar: {shown}\n".encode())
 
 
 def text_of(data):
@@ -58,16 +75,19 @@ def answers_of(text):
     return answers
 
 
+def entries_in(text):
+    """The entries of a text of requests, typed or in lines."""
+    return words_typed.parse_text(text) if words_typed.is_typed(text) else read_lines(text)
+
+
 def requests_of(path):
-    """The entries of a file of requests, typed or in lines."""
+    """The entries of a file of requests."""
     try:
         text = text_of(Path(path).read_bytes())
     except OSError as error:
         raise Problem(f"{path}: {error.strerror}") from None
-    if not words_typed.is_typed(text):
-        return read_lines(text)
     try:
-        return words_typed.parse_text(text)
+        return entries_in(text)
     except Problem as problem:
         raise Problem(f"{path}: {problem}") from None
 
@@ -82,6 +102,32 @@ def explain(options):
     unanswered = max(len(entries) - 1, 0) - len(answers)
     refused = len(answers) == 1 and answers[0][0] in (24, 25)
     return lines + [f"Requests without an answer here: {unanswered}."] * (unanswered > 0 and not refused)
+
+
+def answered(entries):
+    """The book that the entries of an input lead to, and the answer to each request, as the program would give it."""
+    first = entries[0] if entries else Raw("")
+    if not isinstance(first, Settings):
+        raise Problem(sentence_of_settings(Raw(written(first)), (24, 0, 0)))
+    book, answers = library.served(first, [entry for entry in entries[1:] if isinstance(entry, Request)])
+    given = iter(answers)
+    return book, [next(given) if isinstance(entry, Request) else (23, 0, 0) for entry in entries[1:]]
+
+
+def page(options):
+    """The lines of the porter's page. Requests that were refused are told on standard error."""
+    date = words_typed.number(options.date)
+    entries = entries_in(standard_input())
+    book, answers = answered(entries)
+    number, lines = library.page(entries[0], book, date)
+    if number:  # 7: the book is a good one, and the page has room for every line
+        there = f"the dates here are 0 to {entries[0].limit('dates') - 1}"
+        raise Problem(f"Refused by {number}: there is no date {date}; {there}. {question(number)}")
+    refused = [told for told, answer in zip(explained(entries, answers), answers) if answer[0]]
+    if refused:
+        told = [line for sentence in refused for line in text_lines(sentence)]
+        complain(f"requests that were refused and left no mark on this page: {len(refused)}", *told)
+    return text_lines(text_of(lines))
 
 
 def table(_):
@@ -124,7 +170,9 @@ def parser():
     explaining = command(explain, "explain", "say each answer line on standard input in a sentence")
     explaining.add_argument("--with", dest="requests", metavar="REQUESTS",
                             help="the file that was answered, typed or in lines; sentences then say what and when")
-    command(table, "table", "print the refusal numbers 1 to 25 with their rules")
+    paging = command(page, "page", "print the porter's page of a date, from the site on standard input", PAGE)
+    paging.add_argument("date", metavar="DATE", help="the date, from 0")
+    command(table, "table", "print the refusal numbers 1 to 26 with their rules")
     command(kinds, "kinds", "print the kinds of requests and the words that each takes")
     return top
 
@@ -135,7 +183,7 @@ def main(arguments):
     try:
         lines = options.run(options)
     except Problem as problem:
-        sys.stderr.buffer.write(f"caviar: {printable(str(problem))}\n".encode())
+        complain(str(problem))
         return BAD_INPUT
     try:
         sys.stdout.buffer.write("".join(line + "\n" for line in lines).encode("utf-8", "surrogateescape"))

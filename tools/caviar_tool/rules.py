@@ -136,6 +136,7 @@ QUESTIONS = {
     23: ("a line must be a frame: 56 digits of lower-case hexadecimal", ()),
     24: ("settings must be complete and in range", ()),
     25: ("the book must have the length that its settings ask for; in the program, at most 16,384 words", ()),
+    26: ("the page must have room for its lines, 31 bytes each", ()),
 }
 
 

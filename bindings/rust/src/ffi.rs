@@ -25,4 +25,5 @@ extern "C" {
         answers: *mut u32,
         answers_len: usize,
     ) -> Answer;
+    pub fn caviar_page(book: *const u32, book_len: usize, date: u32, page: *mut u8, page_len: usize) -> Answer;
 }

@@ -28,6 +28,12 @@ pub const MOST_WORDS: usize = 9_401_625;
 /// The greatest number of words that settings can have.
 pub const MOST_SETTINGS: usize = 25;
 
+/// How many bytes a line of a porter's page has.
+pub const PAGE_LINE: usize = 31;
+
+/// How many bytes do for the page of every date of every site.
+pub const MOST_PAGE: usize = 31_744;
+
 /// An answer: done with a value, or refused.
 #[repr(C)]
 #[derive(Clone, Copy, Debug, Default, PartialEq, Eq)]
@@ -170,6 +176,34 @@ pub fn serve_words(settings: &[u32], book: &mut [u32], list: &[u32], answers: &m
             answers.len(),
         )
     }
+}
+
+/// Writes the porter's page of a date: a line of [`PAGE_LINE`] bytes for each session of the date and
+/// in it each conference room in use, in that order. A line has five numbers in base ten, each behind
+/// spaces at the end of its columns, and a byte 10: session (5 columns), room (4), meeting (4), visitors
+/// who attend that meeting in that session (6), information (11). The answer is done with the number of
+/// lines, the page begins with them, and its bytes behind them stay. Refused with 1 or 2 as by [`check`],
+/// with 7 for a date past the last, and with 26 for a page that is too short; the page is then as before.
+/// No word of the book is changed (section 16).
+///
+/// ```
+/// let settings = [2, 2, 2, 3, 2, 2, 1, 2, 1, 4];
+/// let mut book = vec![0; caviar::book_len(&settings)];
+/// caviar::lay(&settings, &mut book);
+/// let stands = caviar::Request { kind: 8, a: 1, first: 2, last: 3, ..Default::default() };
+/// let room = caviar::Request { kind: 12, a: 0, b: 1, first: 2, last: 3, info: 70, ..Default::default() };
+/// assert_eq!(caviar::request(&mut book, stands).result(), Ok(0));
+/// assert_eq!(caviar::request(&mut book, room).result(), Ok(0));
+/// let mut page = [0; 2 * caviar::PAGE_LINE];
+/// assert_eq!(caviar::page(&book, 1, &mut page).result(), Ok(2));
+/// assert_eq!(page[..31], *b"    2   0   1     0         70\n");
+/// assert_eq!(page[31..], *b"    3   0   1     0         70\n");
+/// let short = caviar::page(&book, 1, &mut page[1..]).result();
+/// assert_eq!(short, Err(caviar::Refusal { number: 26, place: 0 }));
+/// ```
+pub fn page(book: &[u32], date: u32, page: &mut [u8]) -> Answer {
+    // SAFETY: each pointer has its slice's length, and the slices do not overlap, since one is `&mut`.
+    unsafe { ffi::caviar_page(book.as_ptr(), book.len(), date, page.as_mut_ptr(), page.len()) }
 }
 
 /// The words of a list of requests, which has seven in each place and nothing between.

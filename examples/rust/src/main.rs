@@ -1,5 +1,5 @@
 //! A visit of two dates, from Rust: lay a book, ask for leave, a hotel room and a meeting, see a
-//! refusal, and check the book; then a list on the largest book.
+//! refusal, check the book, and write the porter's page of a date; then a list on the largest book.
 
 use caviar::{Answer, Request};
 
@@ -25,6 +25,25 @@ fn small_site() {
     say("hotel room 0 for visitor 1 on dates 0 to 1", caviar::request(&mut book, hotel));
     say("remove visitor 1 on dates 0 to 1", caviar::request(&mut book, removal));
     say("check", caviar::check(&book));
+    porters_page(&mut book);
+}
+
+/// Gives a meeting a room on date 1 and prints the porter's page of that date.
+fn porters_page(book: &mut [u32]) {
+    let list = [
+        Request { kind: 1, b: 2, first: 1, last: 1, ..Request::default() },
+        Request { kind: 8, a: 0, first: 2, last: 3, ..Request::default() },
+        Request { kind: 10, a: 0, b: 2, first: 3, last: 3, ..Request::default() },
+        Request { kind: 12, a: 1, b: 0, first: 2, last: 3, info: 70, ..Request::default() },
+    ];
+    let mut page = [0; 4 * caviar::PAGE_LINE];
+
+    say("a meeting on date 1", caviar::requests(book, &list, &mut [Answer::default(); 4]));
+    let answer = caviar::page(book, 1, &mut page);
+    say("the page of date 1", answer);
+    let lines = &page[..caviar::PAGE_LINE * answer.value as usize];
+    print!("{}", String::from_utf8_lossy(lines));
+    say("the page of date 2", caviar::page(book, 2, &mut page));
 }
 
 /// The largest site, with a list of requests.

@@ -6,6 +6,7 @@ use caviar::Request;
 use differential::guarded::{End, Guarded};
 use differential::{seed, times, Counts};
 use second::book;
+use second::gen::pages::{lent, Lent};
 use second::gen::{deep_state, junk_book, list, sites, Mix, Rng, Size};
 use second::machine;
 use std::os::unix::process::ExitStatusExt;
@@ -45,6 +46,17 @@ fn read_only_calls(words: &Words, end: End, answered: &mut Answered) {
     let checked = caviar::check(lent.words());
     assert_eq!(checked.words(), book::check(&words.book).words());
     answered.add(("check", end, checked.number));
+}
+
+/// The page of a date, on a book that may not be written; the page is longer, shorter, or as long as its lines.
+fn page_call(rng: &mut Rng, end: End, answered: &mut Answered) {
+    let Lent { book, date, page } = lent(rng);
+    let words = Guarded::new(&book, end).read_only();
+    let (mut bytes, mut theirs) = (Guarded::new(&page, end), page.clone());
+    let answer = caviar::page(words.words(), date, bytes.words_mut());
+    assert_eq!(answer.words(), second::page::page(&book, date, &mut theirs).words());
+    assert!(bytes.words() == theirs);
+    answered.add(("page", end, answer.number));
 }
 
 /// One request after the other: a later one finds the book that the earlier ones left.
@@ -92,6 +104,7 @@ fn inside_what_is_lent() {
             read_only_calls(&words, end, &mut answered);
             single_calls(&words, end, &mut answered);
             list_calls(&words, end, &mut answered);
+            (0..3).for_each(|_| page_call(&mut rng, end, &mut answered));
         }
     }
     println!("seed {}: {turns} turns between guard pages, by function, end and number: {answered}", seed(40));
@@ -102,6 +115,7 @@ fn inside_what_is_lent() {
         ("lay", vec![0, 24, 25]),
         ("requests", vec![0, 1, 2]),
         ("serve", vec![0, 24, 25]),
+        ("page", vec![0, 1, 2, 7, 26]),
     ];
     for (function, numbers) in met {
         for end in [End::First, End::Last] {
@@ -115,7 +129,7 @@ fn inside_what_is_lent() {
 #[test]
 #[ignore = "ends its process"]
 fn touches() {
-    let words = |end| Guarded::new(&[1, 2, 3], end);
+    let words = |end| Guarded::new(&[1_u32, 2, 3], end);
     match std::env::var("TOUCH").expect("what to touch").as_str() {
         // SAFETY: none; the process is meant to end here.
         "before" => unsafe { std::ptr::read_volatile(words(End::First).words().as_ptr().sub(1)) },

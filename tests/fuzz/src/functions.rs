@@ -9,6 +9,8 @@ const MOST_REQUESTS: usize = 60;
 const ANSWER: usize = 0;
 const RULE: usize = 1000;
 const WAY: usize = 3000;
+const PAGE: usize = 3100;
+const MOST_PAGE: usize = 400;
 
 pub fn run(input: &[u8]) {
     let mut bytes = Bytes(input);
@@ -38,6 +40,7 @@ fn raw(bytes: Bytes) {
     let words = bytes.raw();
     assert_eq!(caviar::book_len(&words) as u64, book::book_len(&words));
     check(&words);
+    page(&words, words.last().copied().unwrap_or(0), words.len() % MOST_PAGE);
     let mut list = words.clone();
     list.truncate(7);
     if let Ok(seven) = list.try_into() {
@@ -51,6 +54,7 @@ fn damaged(mut bytes: Bytes) {
     let changes = 1 + bytes.byte() % 3;
     let changes: Vec<(u32, u32)> = (0..changes).map(|_| (bytes.word(), bytes.word())).collect();
     let last = bytes.request();
+    let (date, length) = (bytes.word(), bytes.word() as usize % MOST_PAGE);
     let mut words = run_list(&settings, &requests(&mut bytes));
     for (at, value) in changes {
         let at = at as usize % words.len();
@@ -58,6 +62,7 @@ fn damaged(mut bytes: Bytes) {
     }
     check(&words);
     call(&words, &last);
+    page(&words, date, length);
 }
 
 fn check(words: &[u32]) {
@@ -80,11 +85,25 @@ fn call(before: &[u32], request: &Request) {
     assert!(answer.number == 0 || words == before);
 }
 
+/// The porter's page of a date on any words, over so many bytes of junk.
+fn page(words: &[u32], date: u32, length: usize) {
+    let junk: Vec<u8> = (0..length).map(|at| (at * 37 + 11) as u8).collect();
+    let (mut ours, mut theirs) = (junk.clone(), junk.clone());
+    let answer = caviar::page(words, date, &mut ours);
+    assert_eq!(answer.words(), second::page::page(words, date, &mut theirs).words());
+    assert_eq!(ours, theirs);
+    assert!(answer.number == 0 || ours == junk);
+    reached(PAGE + 32 * answer.number as usize + answer.value.min(31) as usize);
+}
+
 fn list(mut bytes: Bytes) {
     let settings = bytes.settings();
+    let (date, length) = (bytes.word(), bytes.word() as usize % MOST_PAGE);
     let requests = requests(&mut bytes);
     let words = run_list(&settings, &requests);
     assert_eq!(caviar::check(&words).words(), [0, 0, 0]);
+    page(&words, date, length);
+    page(&words, date % settings.dates, length);
 }
 
 /// The book after the list from fresh; served and step by step, beside the machine.

@@ -4,10 +4,12 @@
 //!
 //! - `machine`: the diary machine, its questions 3 to 22 and its changes
 //! - `book`: the words of a book, reading them back, questions 1 and 2, laying, calls
+//! - `page`: the porter's page of a date
 //! - `frames`: the line program as a function from bytes to bytes
-//! - `gen`: seeded settings, request lists, damaged books and damaged byte streams
+//! - `gen`: seeded settings, request lists, damaged books, damaged byte streams, pages to be written
 
 pub mod book;
 pub mod frames;
 pub mod gen;
 pub mod machine;
+pub mod page;

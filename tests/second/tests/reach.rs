@@ -5,6 +5,7 @@ use second::book::{self, check, lay, length, words, Rule};
 use second::frames::{frames, lines};
 use second::gen::cases::{self, Case};
 use second::gen::conflicts::{conflicts_of, edges, CONFLICTS};
+use second::gen::pages::{Lent, Sort};
 use second::gen::requests::opening;
 use second::gen::sites::bad_settings;
 use second::gen::{clean_stream, damaged_stream, deep_state, junk_book, list, site, tables, Mix, Rng, Size};
@@ -169,15 +170,20 @@ fn streams_reach_23_to_25() {
     want(&numbers, (3..=22).filter(|number| *number != 14), 5);
 }
 
-/// The single cases for the specification check: 0 to 2, 24 and 25 occur, and every input is short.
+/// The single cases for the specification check: 0 to 2, 24 and 25 occur, each question of a page, and
+/// every input is short.
 #[test]
 fn cases_hold_every_sort() {
-    let (mut numbers, mut rules) = (BTreeMap::new(), BTreeMap::new());
+    let (mut numbers, mut rules, mut pages) = (BTreeMap::new(), BTreeMap::new(), BTreeMap::new());
     let all = cases::cases(SEED + 5);
     for case in &all {
         match case {
             Case::Check { answer, .. } | Case::Call { answer, .. } | Case::Lay { answer, .. } => {
                 count(&mut numbers, answer.number())
+            }
+            Case::Page { book, date, answer, after, .. } => {
+                let lent = Lent { book: book.clone(), date: *date, page: after.clone() };
+                Sort::of(&lent, answer.number()).into_iter().for_each(|sort| count(&mut pages, sort))
             }
             Case::Input { input, output } => assert_eq!(frames(input), *output),
         }
@@ -186,8 +192,10 @@ fn cases_hold_every_sort() {
         let broken = settings.map(|settings| book::broken(settings, book)).unwrap_or_default();
         broken.into_iter().for_each(|rule| count(&mut rules, rule));
     }
-    println!("seed {}: {} cases, by number {numbers:?}, broken {rules:?}", SEED + 5, all.len());
+    println!("seed {}: {} cases, by number {numbers:?}, broken {rules:?}, pages {pages:?}", SEED + 5, all.len());
     want(&numbers, [0, 1, 2, 24, 25], 4);
+    want(&pages, [Sort::Refused(7), Sort::Refused(26), Sort::Lines(0), Sort::Lines(2)], 2);
+    want(&pages, [Sort::OneByteShort, Sort::Exact, Sort::Longer, Sort::Unattended, Sort::SeveralSessions], 2);
     want(&rules, Rule::breakable(), 2);
 }
 

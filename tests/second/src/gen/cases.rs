@@ -1,7 +1,9 @@
 //! Single cases for the specification check, beside the tables of steps: checked books (each rule
-//! broken alone, lawful, junk), calls on raw books, layings, and whole inputs of the line program.
+//! broken alone, lawful, junk), calls on raw books, layings, pages of dates, and whole inputs of the
+//! line program.
 
 use super::books::{damaged, junk_book};
+use super::pages::busy_state;
 use super::requests::{deep_state, one, Mix};
 use super::sites::{bad_settings, large_settings, site, Size};
 use super::streams::{damage, damage_line, stream_of, DAMAGES};
@@ -9,7 +11,8 @@ use super::tables::join;
 use super::Rng;
 use crate::book::{self, length, words, Rule};
 use crate::frames::{frames, words_line};
-use crate::machine::{Answer, Request, State};
+use crate::machine::{Answer, Date, Request, State};
+use crate::page::{self, LINE_BYTES};
 use std::collections::BTreeMap;
 
 /// How many of each sort there are: books for each rule that a book can break, then the others.
@@ -17,16 +20,19 @@ const BOOKS_A_RULE: usize = 2;
 const JUNK: usize = 20;
 const CALLS: usize = 30;
 const LAYINGS: usize = 12;
+const PAGES: usize = 18;
 const STREAMS: usize = 8;
 
 /// A prover computes these, so books and inputs stay short.
 const MOST_WORDS: usize = 150;
 const MOST_BYTES: usize = 600;
+const MOST_LINES: usize = 4;
 
 pub enum Case {
     Check { book: Vec<u32>, answer: Answer },
     Call { before: Vec<u32>, request: Request, answer: Answer, after: Vec<u32> },
     Lay { settings: Vec<u32>, before: Vec<u32>, answer: Answer, after: Vec<u32> },
+    Page { book: Vec<u32>, date: u32, before: Vec<u8>, answer: Answer, after: Vec<u8> },
     Input { input: Vec<u8>, output: Vec<u8> },
 }
 
@@ -36,6 +42,7 @@ pub fn cases(seed: u64) -> Vec<Case> {
     all.extend((0..JUNK).map(|_| checked(short_junk(&mut rng))));
     all.extend((0..CALLS).map(|turn| called(&mut rng, turn % 3 == 0)));
     all.extend((0..LAYINGS).map(|turn| laid(&mut rng, turn % 3)));
+    all.extend((0..PAGES).map(|turn| paged(&mut rng, turn % 6)));
     all.extend(inputs(&mut rng).into_iter().map(|input| Case::Input { output: frames(&input), input }));
     all
 }
@@ -101,6 +108,40 @@ fn laid(rng: &mut Rng, turn: usize) -> Case {
     Case::Lay { settings, before, answer, after }
 }
 
+/// A small state with a busy date of few lines, and how many they are.
+fn small_busy_state(rng: &mut Rng) -> (State, u32, usize) {
+    loop {
+        let (state, date) = busy_state(rng, Size::Table);
+        let lines = page::lines(&state, Date(date)).len();
+        if length(&state.settings) <= MOST_WORDS as u64 && (1..=MOST_LINES).contains(&lines) {
+            return (state, date, lines);
+        }
+    }
+}
+
+/// In turn a page of the length that it needs, one byte less, some more, a date past the last, junk
+/// words, and a date without a line.
+fn paged(rng: &mut Rng, turn: usize) -> Case {
+    let (state, busy, lines) = small_busy_state(rng);
+    let date = if turn == 3 { state.settings.dates } else { busy };
+    let book = match turn {
+        4 => short_junk(rng),
+        5 => words(&State::empty(state.settings)),
+        _ => words(&state),
+    };
+    let lent = match turn {
+        1 => lines * LINE_BYTES - 1,
+        2 => lines * LINE_BYTES + rng.between(1, 9) as usize,
+        3 | 4 => rng.below(LINE_BYTES as u32) as usize,
+        5 => rng.below(3) as usize,
+        _ => lines * LINE_BYTES,
+    };
+    let before: Vec<u8> = (0..lent).map(|_| (rng.draw() & 255) as u8).collect();
+    let mut after = before.clone();
+    let answer = page::page(&book, date, &mut after);
+    Case::Page { book, date, before, answer, after }
+}
+
 /// No input, an empty line, settings of both refusals, each sort of damage to a line, and streams.
 fn inputs(rng: &mut Rng) -> Vec<Vec<u8>> {
     let mut all = vec![Vec::new(), vec![10]];
@@ -151,6 +192,10 @@ pub fn text(cases: &[Case]) -> String {
             Case::Lay { settings, before, answer, after } => {
                 let asked = join(settings);
                 format!("lay {asked} : {} -> {} : {}\n", join(before), join(&answer.words()), join(after))
+            }
+            Case::Page { book, date, before, answer, after } => {
+                let asked = format!("{} : {date} : {}", join(book), join(before));
+                format!("page {asked} -> {} : {}\n", join(&answer.words()), join(after))
             }
             Case::Input { input, output } => format!("input {} -> {}\n", join(input), join(output)),
         };

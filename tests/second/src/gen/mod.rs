@@ -1,9 +1,10 @@
-//! Seeded test material: settings, request lists, damaged books, damaged byte streams. The same
-//! seed gives the same material on every machine.
+//! Seeded test material: settings, request lists, damaged books, damaged byte streams, calls for a
+//! page. The same seed gives the same material on every machine.
 
 pub mod books;
 pub mod cases;
 pub mod conflicts;
+pub mod pages;
 pub mod requests;
 pub mod rng;
 pub mod sites;

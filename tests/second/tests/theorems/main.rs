@@ -5,6 +5,7 @@
 mod common;
 mod frames;
 mod locality;
+mod pages;
 mod queries;
 mod reachable;
 mod removal;
