@@ -3,7 +3,7 @@ mod counts;
 mod lines;
 mod tally;
 
-use book::grid::grids_of;
+use book::grid::site_of;
 use book::settings::diary_len;
 use book::settings::settings;
 use book::units::sessions_on;
@@ -24,16 +24,16 @@ fn fill(diary: &[u32], s: Settings, date: Date, page: &mut [u8]) -> Answer
     requires { ⌜ date .0 < s .dates ⌝ }
     ensures { λ r. ⌜ paged r (now (page .exit)) ≡ fitted (stateOf (reading (now (diary .entry)))) (date .0) (now (page .entry)) ⌝ }
 {
-    let g = grids_of(s);
+    let site = site_of(s);
     let run = sessions_on(s, date, date);
-    let n = counts::lines_between(diary, s, g, run.from, run.to);
+    let n = counts::lines_between(diary, site, run.from, run.to);
     if page.len() < n as usize * lines::LINE_BYTES {
         return Answer::Refused {
             number: 26,
             place: 0,
         };
     }
-    lines::put_sessions(diary, s, g, run.from, run.to, page);
+    lines::put_sessions(diary, site, run.from, run.to, page);
     Answer::Done(n)
 }
 

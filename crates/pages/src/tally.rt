@@ -1,13 +1,12 @@
 // Who attends what in a session, from one look at each attend cell.
-use book::grid::Grids;
+use book::grid::Site;
 use book::grid::cell;
 use model::Session;
-use model::Settings;
 ghost use mathlib.Core.Path.{_≡_};
 ghost use Prim.Native.Nat.{_<_};
 ghost use Rattle.model.specs.Site.{allSessions};
 ghost use Rattle.model.specs.Reading.{stateOf};
-ghost use Rattle.book.specs.Grids.{gridsOf};
+ghost use Rattle.book.specs.Grids.{Sited};
 ghost use Rattle.book.specs.Good.{Good};
 ghost use Rattle.book.specs.Lent.{reading};
 ghost use Rattle.pages.specs.Pages.{Tally};
@@ -16,17 +15,17 @@ ghost use Rattle.pages.specs.Pages.{Tally};
 const ENTRIES: usize = 128 + 1;
 
 // How many visitors attend each meeting in the session: entry m + 1 is of meeting m, so that a cell is the index of its entry.
-pub fn tally(diary: &[u32], s: Settings, g: Grids, session: Session) -> [u32; ENTRIES]
-    requires { ⌜ Good s (reading (now diary)) ⌝ }
-    requires { ⌜ g ≡ gridsOf s ⌝ }
-    requires { ⌜ session .0 < allSessions s ⌝ }
+pub fn tally(diary: &[u32], site: Site, session: Session) -> [u32; ENTRIES]
+    requires { ⌜ Good (site .settings) (reading (now diary)) ⌝ }
+    requires { ⌜ Sited site ⌝ }
+    requires { ⌜ session .0 < allSessions (site .settings) ⌝ }
     ensures { λ r. ⌜ Tally (stateOf (reading (now (diary .entry)))) (session .0) r ⌝ }
 {
-    let visitors = s.visitors;
+    let visitors = site.settings.visitors;
     let mut table = [0u32; ENTRIES];
     let mut v: u32 = 0;
     while v < visitors {
-        let w = cell(diary, g.attend, session.0, v) as usize;
+        let w = cell(diary, site.grids.attend, session.0, v) as usize;
         table[w] += 1;
         v += 1;
     }

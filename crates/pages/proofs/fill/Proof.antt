@@ -1,5 +1,6 @@
 -- Counted, then written.
 -- Assumes nothing.
+use mathlib.Core.Path.{refl}
 use native.Mathlib.Omega.{arith}
 use Rattle.model.specs.Kinds.{sessions}
 use Rattle.book.proofs.Goods.{good-laid}
@@ -9,8 +10,8 @@ use borrow.Author.Needs.{needs}
 use Rattle.pages.proofs.fill.Statement.{statement}
 use Rattle.pages.proofs.fill.Tie as tie
 
-grids-of-requires : tie.Need-grids-of-requires
-grids-of-requires c κs = good-laid (c .before .before .pre .0) .ranges
+site-of-requires : tie.Need-site-of-requires
+site-of-requires c κs = good-laid (c .before .before .pre .0) .ranges
 
 sessions-on-requires : tie.Need-sessions-on-requires
 sessions-on-requires c κs = let s = c .before .before .before in (good-laid (s .pre .0) .ranges, (omega arith, s .pre .1))
@@ -19,7 +20,7 @@ lines-between-requires : tie.Need-lines-between-requires
 lines-between-requires c κs =
     let s = c .before .before .before .before in
     let p = c .sessions-on .ensures in
-    (s .pre .0, (c .before .grids-of .ensures, (run-order (s .args .s) sessions _ _ _ _ p (omega arith), p .ends .most)))
+    rw (c .before .site-of .ensures) (s .pre .0, (refl, (run-order (s .args .s) sessions _ _ _ _ p (omega arith), p .ends .most)))
 
 cast-if1 : tie.Need-cast-if1
 cast-if1 c = search needs
@@ -37,10 +38,11 @@ returns c =
 put-sessions-requires : tie.Need-put-sessions-requires
 put-sessions-requires c κs =
     let s = c .before .before .before .before .before .before .before in
-    let p = c .before .before .before .sessions-on .ensures in (
+    let p = c .before .before .before .sessions-on .ensures in
+    rw (c .before .before .before .before .site-of .ensures) (
       s .pre .0,
       (
-        c .before .before .before .before .grids-of .ensures,
+        refl,
         (
           (run-order (s .args .s) sessions _ _ _ _ p (omega arith), p .ends .most),
           omega (arith, c .before .if1 .left, c .before .before .lines-between .ensures .is),
@@ -63,7 +65,7 @@ pub fill-spec : {M : Type 1} → statement M
 fill-spec =
     tie.close
     (tie.spec
-    grids-of-requires
+    site-of-requires
     sessions-on-requires
     lines-between-requires
     cast-if1

@@ -1,13 +1,12 @@
 -- Checked, then the date, then the page.
 -- Assumes nothing.
 use mathlib.Core.Path.{sym, _∙_, ap, subst}
-use native.Mathlib.Omega.{arith}
 use lib.Seq.{length-take-le}
 use Rattle.model.specs.Words.{diaryLength}
-use Rattle.model.proofs.Ledger.{laid-valid, first-part}
+use Rattle.model.proofs.Ledger.{laid-valid, first-part, diary-fits}
 use Rattle.book.specs.Good.{Good}
 use Rattle.book.specs.Lent.{reading}
-use Rattle.book.proofs.Goods.{ranges-by, good-part, part-fits}
+use Rattle.book.proofs.Goods.{ranges-by, good-part}
 use Rattle.checking.proofs.Verdicts.{done-good}
 use Rattle.pages.proofs.Dates.{page-refused, page-late, page-diary}
 use borrow.Author.Needs.{needs}
@@ -54,7 +53,7 @@ slice-aggregate-fill c =
     let good = done-good (a .book .now) _ (sym (c .before .before .before .before .before .before .before .check .ensures)
     ∙ c .before .before .before .before .before .enum-told .given .1) in
     let n = c .before .diary-len .ensures ∙ ap diaryLength (c .before .before .before .before .settings .ensures) in
-    sym (length-take-le _ _ (omega (arith, n, part-fits good)))
+    sym (length-take-le _ _ (diary-fits _ (good .laid) (good .read) n))
 
 fill-requires : tie.Need-fill-requires
 unfolding reading

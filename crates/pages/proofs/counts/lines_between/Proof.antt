@@ -15,11 +15,11 @@ use Rattle.pages.proofs.counts.lines_between.Statement.{statement}
 use Rattle.pages.proofs.counts.lines_between.Tie as tie
 
 abbrev Inv-loop : tie.InvT-loop
-Inv-loop diary s g end n₀ i₀ n i = (i₀ ≤ i) × (i ≤ end) × (n ≡ length (joinFrom (sessionLines (stateOf (reading diary))) i₀ (i - i₀))) ×
+Inv-loop diary site end n₀ i₀ n i = (i₀ ≤ i) × (i ≤ end) × (n ≡ length (joinFrom (sessionLines (stateOf (reading diary))) i₀ (i - i₀))) ×
     (n ≤ 64 * (i - i₀))
 
 abbrev μ-loop : tie.MeasureT-loop
-μ-loop diary s g end n₀ i₀ n i = end - i
+μ-loop diary site end n₀ i₀ n i = end - i
 
 loop-holds : tie.Need-loop-holds Inv-loop μ-loop
 loop-holds c =

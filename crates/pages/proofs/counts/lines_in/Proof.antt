@@ -20,11 +20,11 @@ use Rattle.pages.proofs.counts.lines_in.Statement.{statement}
 use Rattle.pages.proofs.counts.lines_in.Tie as tie
 
 abbrev Inv-loop : tie.InvT-loop
-Inv-loop diary g session rooms n₀ room₀ n room = (room ≤ rooms) × (n ≡ length (joinFrom (roomLine (stateOf (reading diary)) (session .0)) 0 room))
+Inv-loop diary site session rooms n₀ room₀ n room = (room ≤ rooms) × (n ≡ length (joinFrom (roomLine (stateOf (reading diary)) (session .0)) 0 room))
     × (n ≤ room)
 
 abbrev μ-loop : tie.MeasureT-loop
-μ-loop diary g session rooms n₀ room₀ n room = rooms - room
+μ-loop diary site session rooms n₀ room₀ n room = rooms - room
 
 loop-holds : tie.Need-loop-holds Inv-loop μ-loop
 loop-holds c = (omega arith, refl, omega arith)
@@ -59,7 +59,7 @@ loop-again c =
     let l = c .before .before .before .loop in
     let f = roomLine (stateOf (reading (a .diary .now))) (a .session .0) in
     let w = c .full .ensures ∙ ap (λ (w : ℕ). one (not (eqb w 0))) (rw (s .pre .1 .0) at (c .before .cell .ensures)) in
-    let q = line-count (a .s) (reading (a .diary .now)) (s .pre .0) (a .session .0) (s .pre .1 .1) (l .room) (omega arith) in (
+    let q = line-count (a .site .settings) (reading (a .diary .now)) (s .pre .0) (a .session .0) (s .pre .1 .1) (l .room) (omega arith) in (
       omega arith,
       omega (arith, l .inv .1, w, q, ap length (join-upto f (l .room)), length-append (joinFrom f 0 (l .room)) (f (l .room))),
       omega (arith, c .full .ensures, one-le (not (eqb (c .before .cell .result) 0))),
@@ -71,7 +71,7 @@ returns c =
     let a = s .args in
     let l = c .before .loop in
     record {
-      is = l .inv .1 ∙ ap length (session-rooms (a .s) (reading (a .diary .now)) (s .pre .0) (a .session .0) {n = l .room} (omega arith));
+      is = l .inv .1 ∙ ap length (session-rooms (a .site .settings) (reading (a .diary .now)) (s .pre .0) (a .session .0) {n = l .room} (omega arith));
       few = omega (arith, l .inv .2, good-laid (s .pre .0) .ranges .rooms);
     }
 

@@ -22,7 +22,7 @@ returns c =
     let s = c .before .before .before .before .before in
     let a = s .args in
     written-none (a .page .now) (a .at)
-    (no-line (a .s) (reading (a .diary .now)) (s .pre .0) (a .session .0) (s .pre .1 .1 .1 .0 .0) (a .room) (s .pre .1 .1 .1 .0 .1)
+    (no-line (a .site .settings) (reading (a .diary .now)) (s .pre .0) (a .session .0) (s .pre .1 .1 .1 .0 .0) (a .room) (s .pre .1 .1 .1 .0 .1)
     (rw (s .pre .1 .0) at (sym (c .before .cell .ensures) ∙ c .if1 .taken)))
 
 word-requires : tie.Need-word-requires
@@ -49,7 +49,7 @@ shared-slice-read-put-line c =
     omega (
       arith,
       s .pre .1 .1 .0 .long,
-      full-few (a .s) (reading (a .diary .now)) (s .pre .0) (a .session .0) (s .pre .1 .1 .1 .0 .0) (a .room)
+      full-few (a .site .settings) (reading (a .diary .now)) (s .pre .0) (a .session .0) (s .pre .1 .1 .1 .0 .0) (a .room)
           (s .pre .1 .1 .1 .0 .1) e,
     )
 
@@ -61,7 +61,7 @@ put-line-requires c κs =
     omega (
       arith,
       s .pre .1 .1 .1 .1,
-      line-one (a .s) (reading (a .diary .now)) (s .pre .0) (a .session .0) (s .pre .1 .1 .1 .0 .0) (a .room)
+      line-one (a .site .settings) (reading (a .diary .now)) (s .pre .0) (a .session .0) (s .pre .1 .1 .1 .0 .0) (a .room)
           (s .pre .1 .1 .1 .0 .1) e (c .before .before .before .if1 .left),
     )
 
@@ -73,7 +73,7 @@ add-result c =
     omega (
       arith,
       s .pre .1 .1 .1 .1,
-      line-one (a .s) (reading (a .diary .now)) (s .pre .0) (a .session .0) (s .pre .1 .1 .1 .0 .0) (a .room)
+      line-one (a .site .settings) (reading (a .diary .now)) (s .pre .0) (a .session .0) (s .pre .1 .1 .1 .0 .0) (a .room)
           (s .pre .1 .1 .1 .0 .1) e (c .before .before .before .before .before .before .if1 .left),
     )
 
@@ -86,7 +86,7 @@ returns-2 c =
     let a = s .args in
     let e = rw (s .pre .1 .0) at (c .before .before .before .before .before .before .before .cell .ensures) in
     let i = rw (s .pre .1 .0) at (c .before .before .before .before .before .word .ensures) in
-    written-one (table-line (a .s) (reading (a .diary .now)) (s .pre .0) (a .session .0) (s .pre .1 .1 .1 .0 .0) (a .room)
+    written-one (table-line (a .site .settings) (reading (a .diary .now)) (s .pre .0) (a .session .0) (s .pre .1 .1 .1 .0 .0) (a .room)
     (s .pre .1 .1 .1 .0 .1) e (c .before .before .before .before .before .before .if1 .left) (s .pre .1 .1 .0) i)
     (c .before .before .put-line .ensures)
 

@@ -15,11 +15,11 @@ use Rattle.pages.proofs.lines.put_session.Statement.{statement}
 use Rattle.pages.proofs.lines.put_session.Tie as tie
 
 abbrev Inv-loop : tie.InvT-loop
-Inv-loop diary s g session page₀ at table rooms next₀ room₀ page next room = (room ≤ rooms) × Written page₀ page at
+Inv-loop diary site session page₀ at table rooms next₀ room₀ page next room = (room ≤ rooms) × Written page₀ page at
     (joinFrom (roomLine (stateOf (reading diary)) (session .0)) 0 room) next
 
 abbrev μ-loop : tie.MeasureT-loop
-μ-loop diary s g session page₀ at table rooms next₀ room₀ page next room = rooms - room
+μ-loop diary site session page₀ at table rooms next₀ room₀ page next room = rooms - room
 
 tally-requires : tie.Need-tally-requires Inv-loop μ-loop
 tally-requires c κs = let s = c .before .before in (s .pre .0, (s .pre .1 .0, s .pre .1 .1 .0))
@@ -36,8 +36,8 @@ put-room-requires c κs =
     let a = s .args in
     let l = c .before .before .before .loop in
     let f = roomLine (stateOf (reading (a .diary .now))) (a .session .0) in
-    let e = session-rooms (a .s) (reading (a .diary .now)) (s .pre .0) (a .session .0) {n = a .s .rooms} refl in
-    let room = room-upto f (l .room) (a .s .rooms) (omega arith) (rw e (s .pre .1 .1 .1)) (l .inv .1) in
+    let e = session-rooms (a .site .settings) (reading (a .diary .now)) (s .pre .0) (a .session .0) {n = a .site .settings .rooms} refl in
+    let room = room-upto f (l .room) (a .site .settings .rooms) (omega arith) (rw e (s .pre .1 .1 .1)) (l .inv .1) in
     (s .pre .0, (s .pre .1 .0, (c .before .before .before .before .tally .ensures, ((s .pre .1 .1 .0, omega arith), room))))
 
 add-room : tie.Need-add-room Inv-loop μ-loop
@@ -66,7 +66,7 @@ returns c =
     let a = s .args in
     let l = c .before .loop in
     subst (λ (ls : List PageLine). Written (a .page .now) (l .page) (a .at) ls (l .next))
-    (session-rooms (a .s) (reading (a .diary .now)) (s .pre .0) (a .session .0) {n = l .room} (omega arith)) (l .inv .1)
+    (session-rooms (a .site .settings) (reading (a .diary .now)) (s .pre .0) (a .session .0) {n = l .room} (omega arith)) (l .inv .1)
 
 pub put-session-spec : {M : Type 1} → statement M
 put-session-spec =

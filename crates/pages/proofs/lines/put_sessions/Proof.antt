@@ -15,11 +15,11 @@ use Rattle.pages.proofs.lines.put_sessions.Statement.{statement}
 use Rattle.pages.proofs.lines.put_sessions.Tie as tie
 
 abbrev Inv-loop : tie.InvT-loop
-Inv-loop diary s g page₀ end at₀ i₀ page at i = (i₀ ≤ i) × (i ≤ end) × Written page₀ page 0
+Inv-loop diary site page₀ end at₀ i₀ page at i = (i₀ ≤ i) × (i ≤ end) × Written page₀ page 0
     (joinFrom (sessionLines (stateOf (reading diary))) i₀ (i - i₀)) at
 
 abbrev μ-loop : tie.MeasureT-loop
-μ-loop diary s g page₀ end at₀ i₀ page at i = end - i
+μ-loop diary site page₀ end at₀ i₀ page at i = end - i
 
 loop-holds : tie.Need-loop-holds Inv-loop μ-loop
 loop-holds c =

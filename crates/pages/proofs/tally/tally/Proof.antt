@@ -12,15 +12,15 @@ use Rattle.pages.proofs.tally.tally.Statement.{statement}
 use Rattle.pages.proofs.tally.tally.Tie as tie
 
 abbrev Inv-loop : tie.InvT-loop
-Inv-loop diary g session visitors table₀ v₀ table v = (v ≤ visitors) × Tallied (g .attend) (reading diary) (session .0) v table
+Inv-loop diary site session visitors table₀ v₀ table v = (v ≤ visitors) × Tallied (site .grids .attend) (reading diary) (session .0) v table
 
 abbrev μ-loop : tie.MeasureT-loop
-μ-loop diary g session visitors table₀ v₀ table v = visitors - v
+μ-loop diary site session visitors table₀ v₀ table v = visitors - v
 
 loop-holds : tie.Need-loop-holds Inv-loop μ-loop
 loop-holds c =
     let a = c .before .args in
-    (omega arith, tallied-none (a .g .attend) (reading (a .diary .now)) (a .session .0) refl (λ w h. getD-replicate 129 w 0 0 (omega (arith, h))))
+    (omega arith, tallied-none (a .site .grids .attend) (reading (a .diary .now)) (a .session .0) refl (λ w h. getD-replicate 129 w 0 0 (omega (arith, h))))
 
 cell-requires : tie.Need-cell-requires Inv-loop μ-loop
 cell-requires c κs =
@@ -39,17 +39,17 @@ array-read-table c =
     omega (
       arith,
       c .before .before .loop .inv .1 .long,
-      cell-few (s .args .s) _ (s .pre .0) (s .pre .1 .0) _ (s .pre .1 .1) _ (omega arith)
+      cell-few (s .args .site .settings) _ (s .pre .0) (s .pre .1 .0) _ (s .pre .1 .1) _ (omega arith)
           (c .cell .ensures),
     )
 
 add-table : tie.Need-add-table Inv-loop μ-loop
 add-table c =
     let s = c .before .before .before .before in
-    let few = cell-few (s .args .s) _ (s .pre .0) (s .pre .1 .0) _ (s .pre .1 .1) _ (omega arith) (c .cell .ensures) in
+    let few = cell-few (s .args .site .settings) _ (s .pre .0) (s .pre .1 .0) _ (s .pre .1 .1) _ (omega arith) (c .cell .ensures) in
     omega (
       arith,
-      tallied-few (s .args .g .attend) (reading (s .args .diary .now)) (s .args .session .0) few
+      tallied-few (s .args .site .grids .attend) (reading (s .args .diary .now)) (s .args .session .0) few
           (c .before .before .loop .inv .1),
       good-laid (s .pre .0) .ranges .visitors,
     )
@@ -60,7 +60,7 @@ array-write-table c =
     omega (
       arith,
       c .before .before .loop .inv .1 .long,
-      cell-few (s .args .s) _ (s .pre .0) (s .pre .1 .0) _ (s .pre .1 .1) _ (omega arith)
+      cell-few (s .args .site .settings) _ (s .pre .0) (s .pre .1 .0) _ (s .pre .1 .1) _ (omega arith)
           (c .cell .ensures),
     )
 
@@ -73,9 +73,9 @@ loop-less c = omega arith
 loop-again : tie.Need-loop-again Inv-loop μ-loop
 loop-again c =
     let s = c .before .before .before .before in
-    let few = cell-few (s .args .s) _ (s .pre .0) (s .pre .1 .0) _ (s .pre .1 .1) _ (omega arith) (c .cell .ensures) in (
+    let few = cell-few (s .args .site .settings) _ (s .pre .0) (s .pre .1 .0) _ (s .pre .1 .1) _ (omega arith) (c .cell .ensures) in (
       omega arith,
-      tallied-more (s .args .g .attend) (reading (s .args .diary .now)) (s .args .session .0) (c .cell .ensures) few
+      tallied-more (s .args .site .grids .attend) (reading (s .args .diary .now)) (s .args .session .0) (c .cell .ensures) few
           (c .before .before .loop .inv .1),
     )
 
@@ -83,7 +83,7 @@ returns : tie.Need-returns Inv-loop μ-loop
 returns c =
     let s = c .before .before .before in
     let l = c .before .loop in
-    tally-all (s .args .s) (reading (s .args .diary .now)) (s .pre .0) (s .args .session .0) (s .pre .1 .1) {n = l .v} (omega arith)
+    tally-all (s .args .site .settings) (reading (s .args .diary .now)) (s .pre .0) (s .args .session .0) (s .pre .1 .1) {n = l .v} (omega arith)
     (rw (s .pre .1 .0) at (l .inv .1))
 
 pub tally-spec : {M : Type 1} → statement M
