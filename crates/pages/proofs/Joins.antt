@@ -1,7 +1,6 @@
 -- Lists one behind another, the bytes of lines, and lines written behind lines.
 -- Assumes nothing.
 use Prim.Native.Nat.{ℕ, zero, suc, _+_, _*_, _-_, _≤_, _<_}
-use native.Mathlib.Numerals.{add-one}
 use native.Mathlib.Omega.{arith}
 use mathlib.Core.Path.{_≡_, refl, sym, _∙_, ap, ap₂}
 use mathlib.Core.List.{List, [], _∷_, _++_, append-assoc, append-nil}
@@ -14,29 +13,9 @@ use Rattle.text.proofs.Puts.{join-at, put-none, put-as}
 use Rattle.text.proofs.Decimals.{field-length}
 use Rattle.pages.specs.Pages.{Written, lineOf}
 
--- one list more, and the lists of a run
+-- lists of a run
 module _ {A : Type 0} (f : ℕ → List A) where
-  join-more : (i n : ℕ) → joinFrom f i (suc n) ≡ joinFrom f i n ++ f (i + n)
-  join-more i zero = let e : i ≡ i + 0 = omega arith in append-nil (f i) ∙ ap f e
-  join-more i (suc n) =
-      let e : suc i + n ≡ i + suc n = omega arith in
-      ap (λ (l : List A). f i ++ l) (join-more (suc i) n)
-      ∙ sym (append-assoc (f i) (joinFrom f (suc i) n) (f (suc i + n)))
-      ∙ ap (λ (k : ℕ). joinFrom f i (suc n) ++ f k) e
-
-  pub join-next : (lo i : ℕ) → lo ≤ i → joinFrom f lo (i + 1 - lo) ≡ joinFrom f lo (i - lo) ++ f i
-  join-next lo i h =
-      let e : i + 1 - lo ≡ suc (i - lo) = omega arith in
-      let k : lo + (i - lo) ≡ i = omega arith in
-      ap (joinFrom f lo) e ∙ join-more lo (i - lo) ∙ ap (λ (j : ℕ). joinFrom f lo (i - lo) ++ f j) k
-
-  pub join-start : (lo : ℕ) → [] ≡ joinFrom f lo (lo - lo)
-  join-start lo = let e : lo - lo ≡ 0 = omega arith in sym (ap (joinFrom f lo) e)
-
-  pub join-upto : (n : ℕ) → joinFrom f 0 (n + 1) ≡ joinFrom f 0 n ++ f n
-  join-upto n = ap (joinFrom f 0) (add-one n) ∙ join-more 0 n ∙ ap (λ (k : ℕ). joinFrom f 0 n ++ f k) (omega arith)
-
-  -- the lists of two runs, and of a run without any
+  -- two runs, and one list more
   join-split : (i m n : ℕ) → joinFrom f i (m + n) ≡ joinFrom f i m ++ joinFrom f (i + m) n
   join-split i zero n =
       let z : zero + n ≡ n = omega arith in
@@ -49,6 +28,23 @@ module _ {A : Type 0} (f : ℕ → List A) where
       ∙ ap (λ (l : List A). f i ++ l) (join-split (suc i) m n ∙ ap (λ (k : ℕ). joinFrom f (suc i) m ++ joinFrom f k n) e)
       ∙ sym (append-assoc (f i) (joinFrom f (suc i) m) (joinFrom f (i + suc m) n))
 
+  pub join-next : (lo i : ℕ) → lo ≤ i → joinFrom f lo (i + 1 - lo) ≡ joinFrom f lo (i - lo) ++ f i
+  join-next lo i h =
+      let e : i + 1 - lo ≡ i - lo + 1 = omega arith in
+      let k : lo + (i - lo) ≡ i = omega arith in
+      ap (joinFrom f lo) e ∙ join-split lo (i - lo) 1 ∙ ap (λ (j : ℕ). joinFrom f lo (i - lo) ++ (f j ++ [])) k
+      ∙ ap (λ (l : List A). joinFrom f lo (i - lo) ++ l) (append-nil (f i))
+
+  pub join-start : (lo : ℕ) → [] ≡ joinFrom f lo (lo - lo)
+  join-start lo = let e : lo - lo ≡ 0 = omega arith in sym (ap (joinFrom f lo) e)
+
+  pub join-upto : (n : ℕ) → joinFrom f 0 (n + 1) ≡ joinFrom f 0 n ++ f n
+  join-upto n =
+      let e : n + 1 - 0 ≡ n + 1 = omega arith in
+      let k : n - 0 ≡ n = omega arith in
+      rw (e, k) at (join-next 0 n (omega arith))
+
+  -- lists that are all empty
   join-empty : (i n : ℕ) → ((j : ℕ) → i ≤ j → j < i + n → f j ≡ []) → joinFrom f i n ≡ []
   join-empty i zero h = refl
   join-empty i (suc n) h =
@@ -192,13 +188,7 @@ still-room f lo i hi h k r w = omega (arith, r, w .next, w .put .kept, join-room
 
 pub room-upto : (f : ℕ → List PageLine) (n m : ℕ) {p q : List ℕ} {at next : ℕ} → n < m → at + 31 * length (joinFrom f 0 m) ≤ length p
     → Written p q at (joinFrom f 0 n) next → next + 31 * length (f n) ≤ length q
-room-upto f n m h r w =
-    omega (
-      arith,
-      r,
-      w .next,
-      w .put .kept,
-      ap length (join-upto f n),
-      length-append (joinFrom f 0 n) (f n),
-      join-le f 0 (n + 1) m (omega arith),
-    )
+room-upto f n m {p} {q} {at} {next} h r w =
+    let e : n - 0 ≡ n = omega arith in
+    let k : m - 0 ≡ m = omega arith in
+    still-room f 0 n m {p = p} {q = q} {at = at} {next = next} (omega arith) h (rw k r) (rw e w)

@@ -32,8 +32,8 @@ returns : tie.Need-returns
 returns c =
     let s = c .before .before .before .before .before .before in
     let p = c .before .before .sessions-on .ensures in
-    too-short (s .pre .0) (s .args .date .0) _ _ (run-order (s .args .s) sessions _ _ _ _ p (omega arith)) p (c .before .lines-between .ensures .is)
-    (c .if1 .taken)
+    too-short (s .pre .0) (s .args .date .0) _ _ (run-order (s .args .s) sessions _ _ _ _ p (omega arith)) p {p = s .args .page .now}
+    (c .before .lines-between .ensures .is) (omega (arith, c .if1 .taken))
 
 put-sessions-requires : tie.Need-put-sessions-requires
 put-sessions-requires c κs =

@@ -1,7 +1,9 @@
 -- Checked, then the date, then the page.
 -- Assumes nothing.
 use mathlib.Core.Path.{sym, _∙_, ap, subst}
+use native.Mathlib.Omega.{arith}
 use lib.Seq.{length-take-le}
+use Rattle.model.specs.declared.Settings.{Settings}
 use Rattle.model.specs.Words.{diaryLength}
 use Rattle.model.proofs.Ledger.{laid-valid, first-part, diary-fits}
 use Rattle.book.specs.Good.{Good}
@@ -36,7 +38,7 @@ returns-2 c =
     let a = s .args in
     let good = done-good (a .book .now) _ (sym (c .before .before .before .before .before .check .ensures)
     ∙ c .before .before .before .enum-told .given .1) in
-    page-late good (a .date) (a .page .now) (rw (c .before .before .settings .ensures) at (c .if1 .taken))
+    page-late good (a .date) (a .page .now) (omega (arith, c .if1 .taken, ap (λ (S : Settings). S .dates) (c .before .before .settings .ensures)))
 
 diary-len-requires : tie.Need-diary-len-requires
 diary-len-requires c κs =
