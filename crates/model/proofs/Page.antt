@@ -22,7 +22,7 @@ use Rattle.model.specs.Questions.{bookings, standsOn, confHeld, lunchHel
 use Rattle.model.specs.Machine.{step, change, value, Call, request, perform, run}
 use Rattle.model.specs.Ledger.{Ledger, emptyLedger, ledgerOf}
 use Rattle.model.specs.Laws.{wellLaid, lawful}
-use Rattle.model.specs.Calls.{call}
+use Rattle.model.specs.Calls.{callOn, call}
 use Rattle.model.specs.Page.{PageLine, joinFrom, attending, holder, lineOf, roomLine, sessionLines, pageLines, pageBytes}
 use Rattle.model.specs.Page.{pageBy, pageOf, page, lineWidth}
 use Rattle.model.proofs.Search.{lowest-same}
@@ -199,14 +199,14 @@ other-date x r d h =
 -- and on every list of words, one that questions 1 and 2 refuse included
 pub other-date-book : (b : List ℕ) (r : Request) (d : ℕ) → onDate (ledgerOf b .diary .settings) r d ≡ false → (p : List ℕ)
     → page (call b r .book) d p ≡ page b d p
-unfolding call
+unfolding callOn
 other-date-book b r d h p = go (wellLaid b) refl (lawful b) refl
   where
     go : (o : Bool) → wellLaid b ≡ o → (t : Bool) → lawful b ≡ t → page (call b r .book) d p ≡ page b d p
     go true e true f =
         let q : Passes b = record { one = e; two = f } in
         let x = ledgerOf b .diary in
-        shown-page (call b r .book) (perform (ledgerOf b) (request r) .ledger) (passes-next b q r) d p
+        shown-page (call b r .book) (perform (ledgerOf b) (request r) .ledger) (passes-next b q (request r)) d p
         ∙ by-lines true true (step x r .state) x d p (step-settings x r) (other-date x r d h)
         ∙ sym (shown-page b (ledgerOf b) (passes-shows b q) d p)
     go true e false f = ap (λ (c : List ℕ). page c d p) (rw (e, f))
