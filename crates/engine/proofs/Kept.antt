@@ -14,7 +14,7 @@ use Rattle.model.specs.Words.{words, diaryLength}
 use Rattle.model.specs.Reading.{stateOf, readState}
 use Rattle.model.specs.Tail.{tailWords}
 use Rattle.model.specs.Ledger.{emptyLedger, bookWords, diaryOf, behindOf, ledgerOf}
-use Rattle.model.specs.Calls.{Called, called, call, calls, freshBook}
+use Rattle.model.specs.Calls.{Called, called, callOn, calls, freshBook}
 use Rattle.model.specs.Site.{validSettings}
 use Rattle.model.proofs.Tail.{tail-shown}
 use Rattle.model.proofs.Shown.{words-stateOf}
@@ -56,9 +56,9 @@ module _ {S : Settings} {b : List ℕ} (good : GoodBook S b) where
       (book-words (perform (ledgerOf b) (request r) .ledger)
       (perform-sound (ledgerOf b) (ledger-sound b (good .laid) (good .lawful)) (request r)))
 
-  pub good-call : (r : Request) → call b r ≡ called (perform (ledgerOf b) (request r))
-  unfolding call
-  good-call r = rw (good .laid, good .lawful)
+  pub good-call : (c : Call) → callOn b c ≡ called (perform (ledgerOf b) c)
+  unfolding callOn
+  good-call c = rw (good .laid, good .lawful)
 
   -- the first of a list of requests
   pub good-calls : (r : Request) (cs : List Call) → calls b (request r ∷ cs)
@@ -67,7 +67,7 @@ module _ {S : Settings} {b : List ℕ} (good : GoodBook S b) where
         book = calls (bookWords (perform (ledgerOf b) (request r) .ledger)) cs .book;
       }
   unfolding calls
-  good-calls r cs = ap (λ (c : Called). record { replies = c .reply ∷ calls (c .book) cs .replies; book = calls (c .book) cs .book }) (good-call r)
+  good-calls r cs = ap (λ (c : Called). record { replies = c .reply ∷ calls (c .book) cs .replies; book = calls (c .book) cs .book }) (good-call (request r))
 
 -- a freshly laid book
 pub fresh-good : (S : Settings) → validSettings S ≡ true → GoodBook S (freshBook S)

@@ -10,11 +10,11 @@ use lib.ListN.{length}
 use Rattle.model.specs.declared.Request.{Request}
 use Rattle.model.specs.declared.Answer.{Answer}
 use Rattle.model.specs.declared.Answer.the-variants.{Done, Refused}
-use Rattle.model.specs.Machine.{told}
+use Rattle.model.specs.Machine.{Call, told}
 use Rattle.model.specs.Reading.{settingsOf}
 use Rattle.model.specs.Ledger.{bookLength, ledgerOf}
 use Rattle.model.specs.Laws.{wellLaid, lawful}
-use Rattle.model.specs.Calls.{Called, call, calls, check, lay, freshBook, settingsGood, requestsOf, answerable, listed, callList, serveList}
+use Rattle.model.specs.Calls.{Called, callOn, call, calls, check, lay, freshBook, settingsGood, requestsOf, answerable, listed, callList, serveList}
 use Rattle.model.proofs.Calls.{from-fresh}
 use Rattle.model.proofs.Shows.{good-valid}
 use Rattle.model.specs.Removal.{Removed, RemovalKept}
@@ -35,11 +35,11 @@ told-listed : {a f : Answer} {b c : List ℕ} (w : List ℕ) → answered a b �
 told-listed w e = ap₂ (λ (x : Answer) (y : List ℕ). asListed x y w) (answer-is e) (ap (λ (x : Called). x .book) e)
 
 -- the book after a refusal of question 1 or 2
-pub request-refused : (b : List ℕ) (r : Request) {n p : ℕ} → check b ≡ Refused n p → answered (Refused n p) b ≡ call b r
-unfolding check call
-request-refused b r {n} {p} e = go (wellLaid b) refl (lawful b) refl e
+pub call-refused : (b : List ℕ) (c : Call) {n p : ℕ} → check b ≡ Refused n p → answered (Refused n p) b ≡ callOn b c
+unfolding check callOn
+call-refused b c {n} {p} e = go (wellLaid b) refl (lawful b) refl e
   where
-    go : (o : Bool) → wellLaid b ≡ o → (t : Bool) → lawful b ≡ t → check b ≡ Refused n p → answered (Refused n p) b ≡ call b r
+    go : (o : Bool) → wellLaid b ≡ o → (t : Bool) → lawful b ≡ t → check b ≡ Refused n p → answered (Refused n p) b ≡ callOn b c
     go true q true s e = done-refused (rw (q, s) at e)
     go true q false s e = rw (q, s) (ap (λ (x : Answer). answered x b) (sym (rw (q, s) at e)))
     go false q t s e = rw q (ap (λ (x : Answer). answered x b) (sym (rw q at e)))

@@ -95,15 +95,15 @@ fate x m (g ∷ gs) = go (step x (joining m g) .answer) refl (fate (change x (jo
     later y e (allIn z a) = allIn z (all-in x y z m g gs e a)
     later y e (firstOut n p f h) =
         firstOut n p (
-          record {
-            before = g ∷ f .before;
-            guest = f .guest;
-            after = f .after;
-            reached = f .reached;
-            are = ap (λ (l : List Guest). g ∷ l) (f .are);
-            added = all-in x y (f .reached) m g (f .before) e (f .added);
-            refused = f .refused;
-          }
+        record {
+          before = g ∷ f .before;
+          guest = f .guest;
+          after = f .after;
+          reached = f .reached;
+          are = ap (λ (l : List Guest). g ∷ l) (f .are);
+          added = all-in x y (f .reached) m g (f .before) e (f .added);
+          refused = f .refused;
+        }
         )
         (ap (λ (o : Outcome). o .answer) (joined-on x m g gs y e) ∙ h)
 
@@ -111,15 +111,15 @@ fate x m (g ∷ gs) = go (step x (joining m g) .answer) refl (fate (change x (jo
     go (Done v) e f = later (change x (joining m g) addAttend) (added x m g (accepted-guest x m g v e)) f
     go (Refused n p) e f =
         firstOut n p (
-          record {
-            before = [];
-            guest = g;
-            after = gs;
-            reached = x;
-            are = refl;
-            added = record { joined = refl; requests = record { answers = refl; state = refl } };
-            refused = e;
-          }
+        record {
+          before = [];
+          guest = g;
+          after = gs;
+          reached = x;
+          are = refl;
+          added = record { joined = refl; requests = record { answers = refl; state = refl } };
+          refused = e;
+        }
         )
         (ap (λ (o : Outcome). o .answer) (joined-off x m g gs e) ∙ e)
 

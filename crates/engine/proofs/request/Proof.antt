@@ -2,9 +2,10 @@
 -- Assumes nothing.
 use mathlib.Core.Path.{sym, _∙_}
 use borrow.Author.Needs.{needs}
+use Rattle.model.specs.Machine.{request}
 use Rattle.engine.proofs.Kept.{good-call}
 use Rattle.checking.proofs.Verdicts.{done-good}
-use Rattle.engine.proofs.Whole.{request-refused, with-removal}
+use Rattle.engine.proofs.Whole.{call-refused, with-removal}
 use Rattle.engine.proofs.request.Statement.{statement}
 use Rattle.engine.proofs.request.Tie as tie
 
@@ -21,7 +22,7 @@ returns : tie.Need-returns
 returns c =
     let a = c .before .before .before .before .before .before .args in
     with-removal (a .book .now) (a .r) _ _
-    (request-refused (a .book .now) (a .r) (sym (c .before .before .before .check .ensures) ∙ c .before .checked .given .1))
+    (call-refused (a .book .now) (request (a .r)) (sym (c .before .before .before .check .ensures) ∙ c .before .checked .given .1))
 
 enum-told : tie.Need-enum-told
 enum-told c = search needs
@@ -45,7 +46,7 @@ returns-2 c =
     (c .before .before .answer-one .ensures
     ∙ sym (good-call (done-good (a .book .now) _
     (sym (c .before .before .before .before .before .before .before .before .check .ensures)
-    ∙ c .before .before .before .before .before .before .enum-told .given .1)) (a .r)))
+    ∙ c .before .before .before .before .before .before .enum-told .given .1)) (request (a .r))))
 
 pub request-spec : {M : Type 1} → statement M
 request-spec =

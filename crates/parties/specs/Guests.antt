@@ -1,0 +1,60 @@
+-- The guests of a party as words, three a guest, and parts of the contracts by name.
+-- Assumes nothing.
+use Prim.Native.Nat.{ℕ, zero, suc, _*_, _≤_}
+use mathlib.Core.Path.{_≡_}
+use mathlib.Core.List.{List, [], _∷_}
+use lib.ListN.{length, getD, drop}
+use Rattle.model.specs.declared.Settings.{Settings}
+use Rattle.model.specs.declared.Request.{Request}
+use Rattle.model.specs.declared.Guest.{Guest}
+use Rattle.model.specs.declared.Answer.{Answer}
+use Rattle.model.specs.declared.Answer.the-variants.{Done}
+use Rattle.model.specs.State.{State}
+use Rattle.model.specs.Machine.{step, joined}
+use Rattle.model.specs.Ledger.{ledgerOf}
+use Rattle.model.specs.Calls.{callParty}
+use Rattle.book.specs.Good.{GoodBook, answered}
+
+-- the guest that a list of words begins with, and the first n
+abbrev pub guestOf : List ℕ → Guest
+guestOf w = record { visitor = getD w 0 0; first = getD w 1 0; last = getD w 2 0 }
+
+unfoldable pub guestsOf : ℕ → List ℕ → List Guest
+guestsOf zero w = []
+guestsOf (suc n) w = guestOf w ∷ guestsOf n (drop 3 w)
+
+-- the request of a kind for a guest: of kind 10 it is the model's
+abbrev pub guestRequest : ℕ → ℕ → List ℕ → Request
+guestRequest k m w = record { kind = k; a = m; b = getD w 0 0; first = getD w 1 0; last = getD w 2 0; n = 0; info = 0 }
+
+-- from x the first i guests of the words are added one by one, and lead to a state
+pub data Reaches (x : State) (m : ℕ) (w : List ℕ) : ℕ → State → Type 0 where
+  noneYet : Reaches x m w zero x
+  oneMore : (i : ℕ) (y z : State) → Reaches x m w i y → step y (guestRequest 10 m (drop (i * 3) w)) ≡ record { answer = Done 0; state = z }
+      → Reaches x m w (suc i) z
+
+-- the book b is the book a with the first i guests added
+pub record Within (S : Settings) (a : List ℕ) (m : ℕ) (w : List ℕ) (i : ℕ) (b : List ℕ) : Type 0 where
+  pub good : GoodBook S b
+  pub state : State
+  pub reaches : Reaches (ledgerOf a .diary) m w i state
+  pub shows : ledgerOf b ≡ record { diary = state; tail = ledgerOf a .tail }
+
+-- of n guests the first i are added to the book a, with the answer r, which leaves the book b
+pub record Adds (S : Settings) (a : List ℕ) (m : ℕ) (w : List ℕ) (n i : ℕ) (r : Answer) (b : List ℕ) : Type 0 where
+  pub within : Within S a m w i b
+  pub few : i ≤ n
+  pub outcome : joined (ledgerOf a .diary) m (guestsOf n w) ≡ record { answer = r; state = within .state }
+
+-- a book b with n guests added becomes b′: the book that it was before them
+abbrev pub TakenBack : Settings → ℕ → List ℕ → ℕ → List ℕ → List ℕ → Type 0
+TakenBack S m w n b b′ = (a : List ℕ) → GoodBook S a → Within S a m w n b → b′ ≡ a
+
+-- there are n guests, and where these are no more than 64 the words are theirs
+pub record Lent (n : ℕ) (w : List ℕ) (gs : List Guest) : Type 0 where
+  pub many : length gs ≡ n
+  pub words : n ≤ 64 → guestsOf n w ≡ gs
+
+-- whatever guests they are, the answer r and the book b′ are those of the model's party on b
+abbrev pub Parties : List ℕ → ℕ → ℕ → List ℕ → Answer → List ℕ → Type 0
+Parties b m n w r b′ = (gs : List Guest) → Lent n w gs → answered r b′ ≡ callParty b m gs

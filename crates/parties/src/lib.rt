@@ -1,0 +1,2 @@
+// A party: many guests for one meeting, all of them or none.
+pub mod words;

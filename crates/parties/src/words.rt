@@ -1,0 +1,129 @@
+// A party whose guests come as words, three a guest: each is added by a request of kind 10, and where one is refused those before are
+// taken back by requests of kind 11, the last one first. So a refusal leaves every word as it was, and no copy of the book is kept.
+use book::settings::settings;
+use engine::list::answer_one;
+use model::Answer;
+use model::Request;
+use model::Settings;
+ghost use mathlib.Core.Path.{_≡_};
+ghost use Prim.Native.Nat.{_*_, _+_, _≤_};
+ghost use lib.ListN.{length, drop};
+ghost use Rattle.model.specs.Machine.{joined, stepped, allOrNone};
+ghost use Rattle.model.specs.Ledger.{ledgerOf};
+ghost use Rattle.model.specs.Calls.{called};
+ghost use Rattle.book.specs.Good.{GoodBook, answered};
+ghost use Rattle.parties.specs.Guests.{guestsOf, guestRequest, Adds, TakenBack, Parties};
+
+// The kinds that add a visitor to a meeting and take them out again.
+const ADD_ATTEND: u32 = 10;
+
+const ERASE_ATTEND: u32 = 11;
+
+// The most guests of a party.
+const MOST_GUESTS: usize = 64;
+
+// How many guests were added, and the answer: done, or the first refusal.
+struct Added {
+    guests: usize,
+    answer: Answer,
+}
+
+// The request of a kind for guest i.
+fn request_for(kind: u32, meeting: u32, records: &[u32], i: usize) -> Request
+    requires { ⌜ i * 3 + 3 ≤ length (now records) ⌝ }
+    ensures { λ r. ⌜ r ≡ guestRequest kind meeting (drop (i * 3) (now (records .entry))) ⌝ }
+{
+    let at = i * 3;
+    Request {
+        kind,
+        a: meeting,
+        b: records[at],
+        first: records[at + 1],
+        last: records[at + 2],
+        n: 0,
+        info: 0,
+    }
+}
+
+// Adds n guests one by one, up to the first who is refused.
+fn add_guests(book: &mut [u32], s: Settings, meeting: u32, records: &[u32], n: usize) -> Added
+    requires { ⌜ GoodBook s (now book) ⌝ }
+    requires { ⌜ n * 3 ≤ length (now records) ⌝ }
+    ensures { λ r. ⌜ Adds s (now (book .entry)) meeting (now (records .entry)) n (r .guests) (r .answer) (now (book .exit)) ⌝ }
+{
+    let mut i: usize = 0;
+    while i < n {
+        let r = request_for(ADD_ATTEND, meeting, records, i);
+        let a = answer_one(book, s, r);
+        if let Answer::Refused { number, place } = a {
+            return Added {
+                guests: i,
+                answer: Answer::Refused { number, place },
+            };
+        }
+        i += 1;
+    }
+    Added {
+        guests: n,
+        answer: Answer::Done(0),
+    }
+}
+
+// Takes the first n guests back: every word is as it was before they were added.
+fn take_back(book: &mut [u32], s: Settings, meeting: u32, records: &[u32], n: usize)
+    requires { ⌜ GoodBook s (now book) ⌝ }
+    requires { ⌜ n * 3 ≤ length (now records) ⌝ }
+    ensures { λ _. ⌜ TakenBack s meeting (now (records .entry)) n (now (book .entry)) (now (book .exit)) ⌝ }
+{
+    let mut i = n;
+    while i > 0 {
+        i -= 1;
+        let r = request_for(ERASE_ATTEND, meeting, records, i);
+        answer_one(book, s, r);
+    }
+}
+
+// All n guests or none.
+fn join(book: &mut [u32], s: Settings, meeting: u32, records: &[u32], n: usize) -> Answer
+    requires { ⌜ GoodBook s (now book) ⌝ }
+    requires { ⌜ n * 3 ≤ length (now records) ⌝ }
+    ensures { λ a. ⌜
+        answered a (now (book .exit))
+        ≡ called (stepped (ledgerOf (now (book .entry)) .tail)
+        (allOrNone (ledgerOf (now (book .entry)) .diary) (joined (ledgerOf (now (book .entry)) .diary) meeting (guestsOf n (now (records .entry))))))
+        ⌝ }
+{
+    let added = add_guests(book, s, meeting, records, n);
+    let answer = added.answer;
+    if let Answer::Refused { number, place } = answer {
+        take_back(book, s, meeting, records, added.guests);
+        return Answer::Refused { number, place };
+    }
+    answer
+}
+
+// A party of n guests on any words as a book: questions 1, 2 and 27, then all the guests or none. The words of the guests are looked at
+// only where there are at most 64.
+pub fn party_of(book: &mut [u32], meeting: u32, records: &[u32], n: usize) -> Answer
+    requires { ⌜ (n ≤ 64 → n * 3 ≤ length (now records)) ⌝ }
+    ensures { λ a. ⌜ Parties (now (book .entry)) meeting n (now (records .entry)) a (now (book .exit)) ⌝ }
+{
+    let checked = checking::check(book);
+    if let Answer::Refused { number, place } = checked {
+        return Answer::Refused { number, place };
+    }
+    if n == 0 {
+        return Answer::Refused {
+            number: 27,
+            place: 0,
+        };
+    }
+    if n > MOST_GUESTS {
+        return Answer::Refused {
+            number: 27,
+            place: 0,
+        };
+    }
+    let s = settings(book);
+    join(book, s, meeting, records, n)
+}
