@@ -31,10 +31,10 @@ fn the_opposite_with_the_same_words_restores() {
     counts.want(SEED, "undo by kind and slots", sorts, 20);
 }
 
-/// Does the meeting of a request of kind 12 hold a conference room in one of its sessions?
-fn holds_a_room(state: &State, request: &Request) -> bool {
+/// Does the meeting hold a conference room in one of the request's sessions?
+fn holds_a_room(state: &State, request: &Request, meeting: u32) -> bool {
     let there = |session: u32| request.first <= session && session <= request.last;
-    state.conf.keys().any(|(session, _, meeting)| *meeting == request.b && there(session.0))
+    state.conf.keys().any(|(session, _, holder)| *holder == meeting && there(session.0))
 }
 
 #[test]
@@ -47,26 +47,28 @@ fn a_conference_room_given_and_erased_restores_exactly_when_none_was_held() {
         }
         let (erased, restored) = after(&between, &only_b(13, request));
         assert_eq!((answer, erased), (DONE, DONE), "{request:?}");
-        assert_eq!(restored == *state, !holds_a_room(state, request), "{request:?}");
-        counts.add((if holds_a_room(state, request) { "held" } else { "not held" }, slots_word(request)));
+        assert_eq!(restored == *state, !holds_a_room(state, request, request.b), "{request:?}");
+        counts.add((if holds_a_room(state, request, request.b) { "held" } else { "not held" }, slots_word(request)));
     });
     let sorts = [("held", "one"), ("held", "more"), ("not held", "one"), ("not held", "more")];
     counts.want(SEED + 1, "12 then 13, a room held before or not, by slots", sorts, 20);
 }
 
-/// Does the meeting of a request of kind 8 stand in one of its sessions? Has it a lunch on one of their
-/// dates?
+/// Does the meeting of a request of kind 8 stand in one of its sessions?
 fn stands(state: &State, request: &Request) -> bool {
     let there = |session: u32| request.first <= session && session <= request.last;
     state.standing.iter().any(|(session, meeting)| *meeting == request.a && there(session.0))
 }
 
-fn lunches(state: &State, request: &Request) -> bool {
-    state.lunch.keys().any(|(date, _, meeting)| *meeting == request.a && on_date(state, request, *date))
+/// Has it a lunch on one of their dates, or a conference room in one of them?
+fn held(state: &State, request: &Request) -> bool {
+    let eats = |date| on_date(state, request, date);
+    let lunch = state.lunch.keys().any(|(date, _, meeting)| *meeting == request.a && eats(*date));
+    lunch || holds_a_room(state, request, request.a)
 }
 
 #[test]
-fn a_meeting_stood_and_taken_off_restores_where_it_did_not_stand_and_has_no_lunch() {
+fn a_meeting_stood_and_taken_off_restores_where_it_did_not_stand_and_holds_nothing() {
     let mut counts = Counts::new();
     walk_ranges(SEED + 2, 400, 60, |state, request| {
         let (answer, between) = after(state, request);
@@ -74,10 +76,10 @@ fn a_meeting_stood_and_taken_off_restores_where_it_did_not_stand_and_has_no_lunc
             return;
         }
         let (ended, restored) = after(&between, &of_kind(9, request));
-        let sort = match (lunches(state, request), stands(state, request)) {
+        let sort = match (held(state, request), stands(state, request)) {
             (false, false) => "new",
             (false, true) => "stood",
-            (true, _) => "lunch",
+            (true, _) => "held",
         };
         assert_eq!(answer, DONE, "{request:?}");
         match sort {
@@ -87,6 +89,6 @@ fn a_meeting_stood_and_taken_off_restores_where_it_did_not_stand_and_has_no_lunc
         }
         counts.add((sort, slots_word(request)));
     });
-    let sorts = ["new", "stood", "lunch"].into_iter().flat_map(|sort| [(sort, "one"), (sort, "more")]);
+    let sorts = ["new", "stood", "held"].into_iter().flat_map(|sort| [(sort, "one"), (sort, "more")]);
     counts.want(SEED + 2, "8 then 9, by what was there before and slots", sorts, 20);
 }
