@@ -65,7 +65,7 @@ fn lists_from_fresh() {
     reached.numbers.assert_each(3..=22, 100);
     reached.refused.assert_each(pairs(4..=22), 10);
     println!("seed {}: sorts of kind 9 {}", seed(20), reached.endings);
-    reached.endings.assert_each(Ending::ALL, 40);
+    reached.endings.assert_each(Ending::ALL, 15);
 }
 
 /// The list through `requests`, with words to spare at both ends.
