@@ -130,7 +130,7 @@ QUESTIONS = {
     17: ("the meeting must have a lunch, on every date of the run", (16,)),
     18: ("the visitor must have no bookings left, on any of the dates", (2,)),
     19: ("the meeting must hold no conference room in the slot and have no lunch that day, for every slot", (9,)),
-    20: ("somebody must attend the meeting, in every slot", (9,)),
+    20: ("the meeting whose standing ends must stand, in every slot", (9,)),
     21: ("the visitor must attend some meeting in that session", (17,)),
     22: ("some conference room must be free in all the slots", (20,)),
     23: ("a line must be a frame: 56 digits of lower-case hexadecimal", ()),

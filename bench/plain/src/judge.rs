@@ -214,9 +214,7 @@ pub fn can_end(site: &Site, book: &[u32], r: &Request) -> Refusal {
     each(r, 19, |session| {
         book[site.lunch.at(site.conf.date_of(session), 3 * r.a as usize)] == 0 && !has_conf(site, book, session, r.a)
     })?;
-    each(r, 20, |session| {
-        has_bit(&site.standing, book, session, r.a) && contains(site.attend.row(book, session), r.a + 1)
-    })
+    each(r, 20, |session| has_bit(&site.standing, book, session, r.a))
 }
 
 /// 21, and the meeting.

@@ -38,7 +38,7 @@ some-number Question.hasConf = omega arith
 some-number Question.hasLunch = omega arith
 some-number Question.noBookings = omega arith
 some-number Question.notHeld = omega arith
-some-number Question.attended = omega arith
+some-number Question.standsYet = omega arith
 some-number Question.attendsOne = omega arith
 some-number Question.roomFree = omega arith
 

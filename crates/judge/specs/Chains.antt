@@ -10,7 +10,7 @@ use Rattle.book.specs.declared.grid.Grid.{Grid}
 use Rattle.book.specs.declared.grid.Grids.{Grids}
 use Rattle.book.specs.Founds.{foundOf}
 use Rattle.questions.specs.Asked.{firstWith, firstWithout, firstRowWith, slotsFail}
-use Rattle.questions.specs.Asked.{OnLeave, Stands, StandsThatDate, RoomLeft, HasConf, HasLunch, NoBookings, NotHeld, Attended}
+use Rattle.questions.specs.Asked.{OnLeave, Stands, StandsThatDate, RoomLeft, HasConf, HasLunch, NoBookings, NotHeld}
 use Rattle.model.specs.declared.Settings.{Settings}
 use Rattle.model.specs.declared.Request.{Request}
 use Rattle.model.specs.declared.Answer.{Answer}
@@ -76,7 +76,7 @@ lunchFits S b g d m n first last = tested 8 (within 1 (capacity S d) n) (lunchAd
 unfoldable pub standingEnds : Settings → List ℕ → ℕ → ℕ → ℕ → Answer
 standingEnds S b m first last =
     asked 19 (slotsFail S b NotHeld m 0 first last)
-    (asked 20 (slotsFail S b Attended m 0 first last) (Done 0))
+    (asked 20 (slotsFail S b Stands m 0 first last) (Done 0))
 
 -- kind 16: a conference room in each session, and a lunch on each date from first's to last's
 unfoldable pub eraseAll : Settings → List ℕ → ℕ → ℕ → ℕ → Answer

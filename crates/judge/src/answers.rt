@@ -200,8 +200,8 @@ fn end_standing(book: &[u32], site: Site, a: u32, first: Session, last: Session)
     if let Found::At(i) = first_held(book, site, a, first, last) {
         return refused(19, i);
     }
-    let cells = site.grids.attend;
-    settled(20, first_row_without(book, cells, a + 1, first.0, last.0))
+    let standing = site.grids.standing;
+    settled(20, first_not_member(book, standing, a, first.0, last.0))
 }
 
 // Kind 16: a conference room in each session, and a lunch on each date from first's to last's.

@@ -89,14 +89,6 @@ module _ (S : Settings) (b : List ℕ) (good : Good S b) where
       ∙ any-same (λ c. booked (readState S b) confs i c m) (λ c. eqb (cellAt (gridOf S confPairs) b i c) (m + 1)) (S .rooms)
       (λ c l. booked-eqb S b confs i h l k)
 
-  pub attended-is : (i m : ℕ) → i < allSessions S → m < S .meetings → any (λ v. stateOf b .attend i m v) (S .visitors)
-      ≡ rowHas (gridOf S attendCells) b i (m + 1)
-  unfolding rowHas readState
-  attended-is i m h k =
-      ap (λ (x : State). any (λ v. x .attend i m v) (S .visitors)) (good-state good)
-      ∙ any-same (λ v. booked (readState S b) attends i m v) (λ v. eqb (cellAt (gridOf S attendCells) b i v) (m + 1)) (S .visitors)
-      (λ v l. booked-eqb S b attends i h k l)
-
   pub lunch-held-is : (d m : ℕ) → d < S .dates → m < S .meetings → lunchHeld (stateOf b) d m ≡ not (eqb (cellAt (gridOf S lunchTriples) b d m) 0)
   unfolding lunchHeld readState
   lunch-held-is d m h k =

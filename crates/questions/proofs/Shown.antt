@@ -16,14 +16,14 @@ use Rattle.book.specs.Good.{Good}
 use Rattle.book.proofs.Goods.{good-laid}
 use Rattle.book.proofs.Regions.{date-lt}
 use Rattle.questions.specs.Asked.{firstWith, firstRowWithout, firstNotMember, slotsFail, holdsIn}
-use Rattle.questions.specs.Asked.{OnLeave, Stands, HasConf, HasLunch, Attended}
+use Rattle.questions.specs.Asked.{OnLeave, Stands, HasConf, HasLunch}
 use Rattle.model.specs.declared.Settings.{Settings}
 use Rattle.model.specs.Bounded.{bit}
 use Rattle.model.specs.Kinds.{Unit as SlotUnit, dates, slotsOf, dateOf}
 use Rattle.model.specs.Reading.{stateOf}
 use Rattle.model.specs.Site.{allSessions}
 use Rattle.model.specs.Words.{leaves}
-use Rattle.queries.proofs.Shows.{leave-is, standing-is, conf-held-is, attended-is, lunch-held-is}
+use Rattle.queries.proofs.Shows.{leave-is, standing-is, conf-held-is, lunch-held-is}
 
 module _ {S : Settings} {b : List ℕ} (good : Good S b) where
   -- the date of a slot of first..last, and the bit of a visitor on it
@@ -59,12 +59,6 @@ module _ {S : Settings} {b : List ℕ} (good : Good S b) where
       conf-fail h =
           ap foundOf (failing-same _ _ first last (λ i l j.
           ap (λ (g : Grids). rowHas (g .conf) b i (m + 1)) e ∙ sym (conf-held-is S b good i m (omega (arith, j, h)) k)))
-
-      pub attended-fail : last < allSessions S → firstRowWithout (g .attend) b (m + 1) first last ≡ slotsFail S b Attended m 0 first last
-      unfolding firstRowWithout holdsIn
-      attended-fail h =
-          ap foundOf (failing-same _ _ first last (λ i l j.
-          ap (λ (g : Grids). rowHas (g .attend) b i (m + 1)) e ∙ sym (attended-is S b good i m (omega (arith, j, h)) k)))
 
       pub lunch-fail : last < S .dates → firstWith (g .lunch) b m 0 first last ≡ slotsFail S b HasLunch m 0 first last
       unfolding firstWith holdsIn

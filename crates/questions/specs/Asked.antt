@@ -10,7 +10,7 @@ use Rattle.book.specs.Founds.{foundOf}
 use Rattle.book.specs.Grids.{cellAt}
 use Rattle.book.specs.Rows.{rowHas}
 use Rattle.model.specs.declared.Settings.{Settings}
-use Rattle.model.specs.Bounded.{any, bit, failing}
+use Rattle.model.specs.Bounded.{bit, failing}
 use Rattle.model.specs.Site.{capacity, dateOfSession}
 use Rattle.model.specs.State.{State, reserved}
 use Rattle.model.specs.Kinds.{Unit as SlotUnit, dateOf}
@@ -47,8 +47,8 @@ pub data Test : Type 0 where
   HasConf HasLunch : Test
   -- the visitor has no hotel, ride or attend entry on the date
   NoBookings : Test
-  -- the meeting has no conference room in the session and no lunch on its date; somebody attends it in the session
-  NotHeld Attended : Test
+  -- the meeting has no conference room in the session and no lunch on its date
+  NotHeld : Test
 
 -- questions 14 and 19 in slot i
 unfoldable pub roomLeft : Settings → State → ℕ → ℕ → ℕ → Bool
@@ -67,7 +67,6 @@ holdsIn S x HasConf who n i = confHeld x i who
 holdsIn S x HasLunch who n i = lunchHeld x i who
 holdsIn S x NoBookings who n i = eqb (bookings x who i i) 0
 holdsIn S x NotHeld who n i = notHeld S x i who
-holdsIn S x Attended who n i = any (λ v. x .attend i who v) (S .visitors)
 
 -- the lowest slot of first..last that fails the test of what the book shows
 abbrev pub slotsFail : Settings → List ℕ → Test → ℕ → ℕ → ℕ → ℕ → Found

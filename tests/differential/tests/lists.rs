@@ -8,6 +8,7 @@ use second::book::{
     regions::{address, Name},
 };
 use second::gen::conflicts::edges;
+use second::gen::endings::Ending;
 use second::gen::{deep_state, full_book, junk_book, list, list_from_fresh, site, sites, Mix, Rng, Size};
 use second::machine::{self, Answer, Settings, State};
 
@@ -25,6 +26,7 @@ fn one_by_one(book: &mut [u32], state: &mut State, requests: &[machine::Request]
     for request in requests {
         let before = book.to_vec();
         let answer = caviar::request(book, ours(request));
+        Ending::of(state, request).into_iter().for_each(|sort| reached.endings.add(sort));
         let expected = machine::step(state, request);
         assert_eq!(answer.words(), expected.words(), "{request:?} {:?}", state.settings);
         match expected {
@@ -62,6 +64,8 @@ fn lists_from_fresh() {
     reached.done.assert_each(1..=20, 300);
     reached.numbers.assert_each(3..=22, 100);
     reached.refused.assert_each(pairs(4..=22), 10);
+    println!("seed {}: sorts of kind 9 {}", seed(20), reached.endings);
+    reached.endings.assert_each(Ending::ALL, 15);
 }
 
 /// The list through `requests`, with words to spare at both ends.

@@ -5,6 +5,7 @@ use second::book::{self, check, lay, length, words, Rule};
 use second::frames::{frames, lines};
 use second::gen::cases::{self, Case};
 use second::gen::conflicts::{conflicts_of, edges, CONFLICTS};
+use second::gen::endings::Ending;
 use second::gen::pages::{Lent, Sort};
 use second::gen::requests::opening;
 use second::gen::sites::bad_settings;
@@ -33,7 +34,8 @@ fn want<Key: Ord + Debug>(counts: &BTreeMap<Key, u32>, keys: impl IntoIterator<I
 fn lists_reach_every_kind_and_every_number() {
     let mut rng = Rng::new(SEED);
     let (mut done, mut refused, mut conflicts) = (BTreeMap::new(), BTreeMap::new(), BTreeMap::new());
-    for _ in 0..200 {
+    let mut endings = BTreeMap::new();
+    for _ in 0..400 {
         let mut state = State::empty(site(&mut rng, Size::Any));
         let start = opening(&mut rng, &state.settings);
         run(&mut state, &start);
@@ -41,6 +43,7 @@ fn lists_reach_every_kind_and_every_number() {
         let requests = list(&mut rng, &mut state, 60, Mix::USUAL);
         for request in &requests {
             conflicts_of(&replayed, request).into_iter().for_each(|decided| count(&mut conflicts, decided));
+            Ending::of(&replayed, request).into_iter().for_each(|sort| count(&mut endings, sort));
             match step(&mut replayed, request) {
                 Answer::Done(_) => count(&mut done, request.kind),
                 Answer::Refused { number, .. } => count(&mut refused, number),
@@ -50,9 +53,11 @@ fn lists_reach_every_kind_and_every_number() {
         assert!(book::laws_broken(&state).is_empty());
     }
     println!("seed {SEED}: done by kind {done:?}, refused by number {refused:?}, conflicts decided {conflicts:?}");
+    println!("seed {SEED}: sorts of kind 9 {endings:?}");
     want(&done, 1..=20, 30);
     want(&refused, 3..=22, 30);
     want(&conflicts, CONFLICTS, 2);
+    want(&endings, Ending::ALL, 5);
 }
 
 /// Every fault of form, alone and with each other: questions 3 to 8 all say no to some.
@@ -81,7 +86,7 @@ fn edges_meet_3_to_8() {
 fn calls_on_raw_books() {
     let mut rng = Rng::new(SEED + 1);
     let mut numbers = BTreeMap::new();
-    for _ in 0..1500 {
+    for _ in 0..3000 {
         let lawful = rng.percent(40);
         let settings = site(&mut rng, Size::Small);
         let mut state = deep_state(&mut rng, settings, 20);
@@ -153,7 +158,7 @@ fn layings_reach_24_and_25() {
 fn streams_reach_23_to_25() {
     let mut rng = Rng::new(SEED + 4);
     let mut numbers = BTreeMap::new();
-    for turn in 0..400 {
+    for turn in 0..800 {
         let stream = if turn % 2 == 0 { clean_stream(&mut rng, 20) } else { damaged_stream(&mut rng, 20) };
         let out = frames(&stream);
         for line in lines(&out) {
@@ -203,11 +208,13 @@ fn cases_hold_every_sort() {
 fn tables_have_enough_steps_of_every_sort() {
     for seed in [1, 2, 3, 20_261_115] {
         let (mut done, mut refused, mut conflicts) = (BTreeMap::new(), BTreeMap::new(), BTreeMap::new());
+        let mut endings = BTreeMap::new();
         let all = tables::tables(seed);
         for table in &all {
             let mut state = State::empty(table.settings.clone());
             for (request, answer) in &table.steps {
                 conflicts_of(&state, request).into_iter().for_each(|decided| count(&mut conflicts, decided));
+                Ending::of(&state, request).into_iter().for_each(|sort| count(&mut endings, sort));
                 assert_eq!(step(&mut state, request), *answer);
                 match answer {
                     Answer::Done(_) => count(&mut done, request.kind),
@@ -221,5 +228,6 @@ fn tables_have_enough_steps_of_every_sort() {
         want(&done, 1..=20, 1);
         want(&refused, 3..=22, 1);
         want(&conflicts, CONFLICTS, 1);
+        want(&endings, Ending::ALL, 1);
     }
 }

@@ -85,7 +85,7 @@ pub fn conflict(rng: &mut Rng, state: &State, wanted: Conflict) -> Option<Reques
 }
 
 /// More slots on either side, so that different slots fail different questions.
-fn stretch(rng: &mut Rng, state: &State, request: &mut Request) {
+pub fn stretch(rng: &mut Rng, state: &State, request: &mut Request) {
     let slots = uses(request.kind).map_or(1, |used| used.unit.slots(&state.settings));
     request.first -= rng.below(3).min(request.first);
     request.last = (request.last + rng.below(4)).min(slots - 1);

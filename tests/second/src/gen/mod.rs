@@ -4,6 +4,7 @@
 pub mod books;
 pub mod cases;
 pub mod conflicts;
+pub mod endings;
 pub mod pages;
 pub mod requests;
 pub mod rng;

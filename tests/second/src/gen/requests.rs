@@ -3,6 +3,7 @@
 //! that was aimed at, and some are junk. So lists reach deep states.
 
 use super::conflicts::{conflict, CONFLICTS};
+use super::endings::{ending, Ending};
 use super::Rng;
 use crate::machine::kinds::{uses, Unit, Uses, LAST_KIND};
 use crate::machine::questions::first_no;
@@ -105,6 +106,10 @@ pub fn one(rng: &mut Rng, state: &State, mix: Mix) -> Request {
         return conflict(rng, state, wanted).unwrap_or_else(|| aim(rng, state, wanted.1));
     }
     let wanted = if turn < mix.junk + mix.conflicting + mix.aimed { rng.between(8, 22) } else { 0 };
+    if wanted == 20 {
+        let sort = rng.pick(&Ending::ALL);
+        return ending(rng, state, sort).unwrap_or_else(|| aim(rng, state, 20));
+    }
     aim(rng, state, wanted)
 }
 
@@ -202,6 +207,7 @@ fn near(rng: &mut Rng, state: &State, kind: u32) -> Option<(u32, Option<u32>, Op
             (date.0 * state.settings.times_per_date + offset, None, Some(visitor))
         }),
         7 => ride_near(rng, state).map(|(time, transport, visitor)| (time.0, Some(transport), Some(visitor))),
+        9 if rng.percent(50) => standing_near(rng, state).map(|(session, meeting)| (session.0, Some(meeting), None)),
         9 | 11 | 17 => {
             attend_near(rng, state).map(|(session, meeting, visitor)| (session.0, Some(meeting), Some(visitor)))
         }

@@ -2,6 +2,7 @@
 //! their answers, and the whole book at the end.
 
 use super::conflicts::{conflict, conflicts_of, edges, Conflict, CONFLICTS};
+use super::endings::{ending, Ending};
 use super::requests::{aim, one, opening, Mix};
 use super::sites::{site, Size};
 use super::Rng;
@@ -25,17 +26,20 @@ struct Seen {
     kinds_done: BTreeSet<u32>,
     numbers: BTreeSet<u32>,
     conflicts: BTreeSet<Conflict>,
+    endings: BTreeSet<Ending>,
 }
 
 impl Seen {
     fn everything(&self) -> bool {
         let numbers = (3..=22).all(|number| self.numbers.contains(&number));
-        self.kinds_done.len() == 20 && numbers && self.conflicts.len() == CONFLICTS.len()
+        let sorts = self.conflicts.len() == CONFLICTS.len() && self.endings.len() == Ending::ALL.len();
+        self.kinds_done.len() == 20 && numbers && sorts
     }
 }
 
 /// Tables of the seed: among them every kind is done, every number 3 to 22 is reached, every
-/// conflict of two questions occurs, and every kind has every fault of its form.
+/// conflict of two questions and every sort of kind 9 occurs, and every kind has every fault of its
+/// form.
 pub fn tables(seed: u64) -> Vec<Table> {
     let mut rng = Rng::new(seed);
     let mut seen = Seen::default();
@@ -79,6 +83,7 @@ fn edge_table(rng: &mut Rng, seen: &mut Seen) -> Table {
 
 fn add_step(table: &mut Table, state: &mut State, seen: &mut Seen, request: Request) {
     seen.conflicts.extend(conflicts_of(state, &request));
+    seen.endings.extend(Ending::of(state, &request));
     let answer = step(state, &request);
     match answer {
         Answer::Done(_) => seen.kinds_done.insert(request.kind),
@@ -87,15 +92,19 @@ fn add_step(table: &mut Table, state: &mut State, seen: &mut Seen, request: Requ
     table.steps.push((request, answer));
 }
 
-/// Every third request aims at what is still missing, conflicts and numbers in turn.
+/// Every third request aims at what is still missing: conflicts, then sorts of kind 9, then numbers.
 fn next(rng: &mut Rng, state: &State, seen: &Seen, turn: usize) -> Request {
     let missing: Vec<Conflict> = CONFLICTS.into_iter().filter(|wanted| !seen.conflicts.contains(wanted)).collect();
+    let sort = Ending::ALL.into_iter().find(|sort| !seen.endings.contains(sort));
     let number = (8..=22).find(|number| !seen.numbers.contains(number));
     if turn.is_multiple_of(3) && !missing.is_empty() {
         let wanted = rng.pick(&missing);
         if let Some(request) = conflict(rng, state, wanted) {
             return request;
         }
+    }
+    if let Some(request) = sort.filter(|_| turn % 3 == 1).and_then(|sort| ending(rng, state, sort)) {
+        return request;
     }
     match number {
         Some(number) if turn.is_multiple_of(3) => aim(rng, state, number),

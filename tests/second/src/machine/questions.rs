@@ -29,7 +29,7 @@ pub const QUESTIONS: [(u32, Question); 20] = [
     (17, meeting_has_a_lunch),
     (18, visitor_has_no_booking),
     (19, meeting_has_no_conf_and_no_lunch),
-    (20, somebody_attends),
+    (20, meeting_can_end),
     (21, visitor_attends_a_meeting),
     (22, there_is_such_a_room),
 ];
@@ -274,10 +274,10 @@ fn meeting_has_no_conf_and_no_lunch(state: &State, r: &Request) -> Verdict {
     }
 }
 
-/// Rule 5.20: the meeting is attended.
-fn somebody_attends(state: &State, r: &Request) -> Verdict {
+/// Rule 5.20: what is to end is there: the meeting stands, attended or not.
+fn meeting_can_end(state: &State, r: &Request) -> Verdict {
     match r.kind {
-        9 => each(r.sessions(), |session| pairs(state, 10, session.0).iter().any(|(meeting, _)| *meeting == r.a)),
+        9 => each(r.sessions(), |session| state.standing.contains(&(*session, r.a))),
         _ => Ok(()),
     }
 }

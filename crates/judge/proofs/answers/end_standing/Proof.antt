@@ -1,12 +1,11 @@
 -- The questions of kind 9, one after the other.
 -- Assumes nothing.
 use mathlib.Core.Path.{_∙_, ap}
-use native.Mathlib.Omega.{arith}
 use Rattle.book.specs.declared.grid.Grids.{Grids}
-use Rattle.book.proofs.Goods.{good-laid}
-use Rattle.model.specs.Words.{attendCells}
-use Rattle.questions.proofs.Shown.{attended-fail}
-use Rattle.questions.proofs.Grounds.{row-ground}
+use Rattle.book.proofs.Regions.{group-lt}
+use Rattle.model.specs.Words.{standings}
+use Rattle.questions.proofs.Shown.{stands-fail}
+use Rattle.questions.proofs.Grounds.{ground}
 use Rattle.judge.specs.Chains.{standingEnds}
 use borrow.Author.Needs.{needs}
 use Rattle.judge.proofs.answers.end_standing.Statement.{statement}
@@ -32,15 +31,11 @@ returns c =
 enum-told : tie.Need-enum-told
 enum-told c = search needs
 
-add-first-row-without : tie.Need-add-first-row-without
-add-first-row-without c =
+first-not-member-requires : tie.Need-first-not-member-requires
+first-not-member-requires c κs =
     let p = c .before .before .before .before .before .pre in
-    omega (arith, good-laid (p .0) .ranges .meetings, p .1 .1 .1)
-
-first-row-without-requires : tie.Need-first-row-without-requires
-first-row-without-requires c κs =
-    let p = c .before .before .before .before .before .pre in
-    row-ground (p .0) attendCells (ap (λ (g : Grids). g .attend) (p .1 .0)) (p .1 .1 .0)
+    let a = c .before .before .before .before .before .args in
+    ground (p .0) standings (ap (λ (g : Grids). g .standing) (p .1 .0)) (p .1 .1 .0) (group-lt (a .site .settings .meetings) (a .a) (p .1 .1 .1))
 
 settled-requires : tie.Need-settled-requires
 settled-requires c κs = search needs
@@ -53,8 +48,8 @@ returns-2 c =
     rw (
       ← (c .before .before .before .before .before .first-held .ensures),
       c .before .before .before .enum-told .given .1,
-      ← (c .before .first-row-without .ensures
-          ∙ attended-fail (p .0) (p .1 .0) (a .first .0) (a .last .0) (a .a) (p .1 .1 .1) (p .1 .1 .0)),
+      ← (c .before .first-not-member .ensures
+          ∙ stands-fail (p .0) (p .1 .0) (a .first .0) (a .last .0) (a .a) (p .1 .1 .1) (p .1 .1 .0)),
     ) (c .settled .ensures)
 
 pub end-standing-spec : {M : Type 1} → statement M
@@ -66,7 +61,6 @@ end-standing-spec =
     refused-requires
     returns
     enum-told
-    add-first-row-without
-    first-row-without-requires
+    first-not-member-requires
     settled-requires
     returns-2)
