@@ -5,11 +5,13 @@
 //! - `machine`: the diary machine, its questions 3 to 22 and its changes
 //! - `book`: the words of a book, reading them back, questions 1 and 2, laying, calls
 //! - `page`: the porter's page of a date
+//! - `party`: many guests for one meeting, all or none
 //! - `frames`: the line program as a function from bytes to bytes
-//! - `gen`: seeded settings, request lists, damaged books, damaged byte streams, pages to be written
+//! - `gen`: seeded settings, request lists, damaged books, damaged byte streams, pages to be written, parties
 
 pub mod book;
 pub mod frames;
 pub mod gen;
 pub mod machine;
 pub mod page;
+pub mod party;

@@ -7,11 +7,13 @@ use second::gen::cases::{self, Case};
 use second::gen::conflicts::{conflicts_of, edges, CONFLICTS};
 use second::gen::endings::Ending;
 use second::gen::pages::{Lent, Sort};
+use second::gen::parties;
 use second::gen::requests::opening;
 use second::gen::sites::bad_settings;
 use second::gen::{clean_stream, damaged_stream, deep_state, junk_book, list, site, tables, Mix, Rng, Size};
 use second::machine::kinds::uses;
 use second::machine::{run, step, Answer, Request, State};
+use second::party::{perform, Call};
 use std::collections::BTreeMap;
 use std::fmt::Debug;
 
@@ -175,11 +177,12 @@ fn streams_reach_23_to_25() {
     want(&numbers, (3..=22).filter(|number| *number != 14), 5);
 }
 
-/// The single cases for the specification check: 0 to 2, 24 and 25 occur, each question of a page, and
-/// every input is short.
+/// The single cases for the specification check: 0 to 2, 24 and 25 occur, each question of a page, parties of
+/// 64 and 65, and every input is short.
 #[test]
 fn cases_hold_every_sort() {
     let (mut numbers, mut rules, mut pages) = (BTreeMap::new(), BTreeMap::new(), BTreeMap::new());
+    let mut admitted = BTreeMap::new();
     let all = cases::cases(SEED + 5);
     for case in &all {
         match case {
@@ -189,6 +192,10 @@ fn cases_hold_every_sort() {
             Case::Page { book, date, answer, after, .. } => {
                 let lent = Lent { book: book.clone(), date: *date, page: after.clone() };
                 Sort::of(&lent, answer.number()).into_iter().for_each(|sort| count(&mut pages, sort))
+            }
+            Case::Party { before, meeting, guests, answer, .. } => {
+                let lent = parties::Lent { book: before.clone(), meeting: *meeting, guests: guests.clone() };
+                parties::Sort::of(&lent, answer.words()).into_iter().for_each(|sort| count(&mut admitted, sort))
             }
             Case::Input { input, output } => assert_eq!(frames(input), *output),
         }
@@ -201,6 +208,8 @@ fn cases_hold_every_sort() {
     want(&numbers, [0, 1, 2, 24, 25], 4);
     want(&pages, [Sort::Refused(7), Sort::Refused(26), Sort::Lines(0), Sort::Lines(2)], 2);
     want(&pages, [Sort::OneByteShort, Sort::Exact, Sort::Longer, Sort::Unattended, Sort::SeveralSessions], 2);
+    println!("seed {}: parties {admitted:?}", SEED + 5);
+    want(&admitted, [parties::Sort::Done(2), parties::Sort::Done(64), parties::Sort::OneTooMany], 1);
     want(&rules, Rule::breakable(), 2);
 }
 
@@ -208,17 +217,26 @@ fn cases_hold_every_sort() {
 fn tables_have_enough_steps_of_every_sort() {
     for seed in [1, 2, 3, 20_261_115] {
         let (mut done, mut refused, mut conflicts) = (BTreeMap::new(), BTreeMap::new(), BTreeMap::new());
-        let mut endings = BTreeMap::new();
+        let (mut endings, mut admitted) = (BTreeMap::new(), BTreeMap::new());
         let all = tables::tables(seed);
         for table in &all {
             let mut state = State::empty(table.settings.clone());
-            for (request, answer) in &table.steps {
-                conflicts_of(&state, request).into_iter().for_each(|decided| count(&mut conflicts, decided));
-                Ending::of(&state, request).into_iter().for_each(|sort| count(&mut endings, sort));
-                assert_eq!(step(&mut state, request), *answer);
-                match answer {
-                    Answer::Done(_) => count(&mut done, request.kind),
-                    Answer::Refused { number, .. } => count(&mut refused, *number),
+            for (call, answer) in &table.steps {
+                let before = state.clone();
+                assert_eq!(perform(&mut state, call), *answer);
+                match call {
+                    Call::Request(request) => {
+                        conflicts_of(&before, request).into_iter().for_each(|decided| count(&mut conflicts, decided));
+                        Ending::of(&before, request).into_iter().for_each(|sort| count(&mut endings, sort));
+                        match answer {
+                            Answer::Done(_) => count(&mut done, request.kind),
+                            Answer::Refused { number, .. } => count(&mut refused, *number),
+                        }
+                    }
+                    Call::Party { meeting, guests } => {
+                        let sorts = parties::Sort::of_party(&before, *meeting, guests, answer.words());
+                        sorts.into_iter().for_each(|sort| count(&mut admitted, sort));
+                    }
                 }
             }
             assert_eq!(table.book, words(&state));
@@ -229,5 +247,6 @@ fn tables_have_enough_steps_of_every_sort() {
         want(&refused, 3..=22, 1);
         want(&conflicts, CONFLICTS, 1);
         want(&endings, Ending::ALL, 1);
+        want(&admitted, tables::parties_wanted(), 1);
     }
 }

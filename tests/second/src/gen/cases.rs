@@ -1,18 +1,20 @@
 //! Single cases for the specification check, beside the tables of steps: checked books (each rule
-//! broken alone, lawful, junk), calls on raw books, layings, pages of dates, and whole inputs of the
-//! line program.
+//! broken alone, lawful, junk), calls on raw books, layings, pages of dates, parties, and whole inputs
+//! of the line program.
 
 use super::books::{damaged, junk_book};
 use super::pages::busy_state;
+use super::parties::{open_state, party};
 use super::requests::{deep_state, one, Mix};
 use super::sites::{bad_settings, large_settings, site, Size};
 use super::streams::{damage, damage_line, stream_of, DAMAGES};
-use super::tables::join;
+use super::tables::{join, party_text};
 use super::Rng;
 use crate::book::{self, length, words, Rule};
 use crate::frames::{frames, words_line};
-use crate::machine::{Answer, Date, Request, State};
+use crate::machine::{run, Answer, Date, Request, Settings, State};
 use crate::page::{self, LINE_BYTES};
+use crate::party::{self, Guest, MOST_GUESTS};
 use std::collections::BTreeMap;
 
 /// How many of each sort there are: books for each rule that a book can break, then the others.
@@ -21,18 +23,21 @@ const JUNK: usize = 20;
 const CALLS: usize = 30;
 const LAYINGS: usize = 12;
 const PAGES: usize = 18;
+const PARTIES: usize = 18;
 const STREAMS: usize = 8;
 
 /// A prover computes these, so books and inputs stay short.
 const MOST_WORDS: usize = 150;
 const MOST_BYTES: usize = 600;
 const MOST_LINES: usize = 4;
+const FEW_GUESTS: usize = 12;
 
 pub enum Case {
     Check { book: Vec<u32>, answer: Answer },
     Call { before: Vec<u32>, request: Request, answer: Answer, after: Vec<u32> },
     Lay { settings: Vec<u32>, before: Vec<u32>, answer: Answer, after: Vec<u32> },
     Page { book: Vec<u32>, date: u32, before: Vec<u8>, answer: Answer, after: Vec<u8> },
+    Party { before: Vec<u32>, meeting: u32, guests: Vec<Guest>, answer: Answer, after: Vec<u32> },
     Input { input: Vec<u8>, output: Vec<u8> },
 }
 
@@ -43,6 +48,8 @@ pub fn cases(seed: u64) -> Vec<Case> {
     all.extend((0..CALLS).map(|turn| called(&mut rng, turn % 3 == 0)));
     all.extend((0..LAYINGS).map(|turn| laid(&mut rng, turn % 3)));
     all.extend((0..PAGES).map(|turn| paged(&mut rng, turn % 6)));
+    all.extend((0..PARTIES).map(|turn| some_party(&mut rng, turn % 3 == 0)));
+    all.extend([MOST_GUESTS, MOST_GUESTS + 1].map(large_party));
     all.extend(inputs(&mut rng).into_iter().map(|input| Case::Input { output: frames(&input), input }));
     all
 }
@@ -142,6 +149,35 @@ fn paged(rng: &mut Rng, turn: usize) -> Case {
     Case::Page { book, date, before, answer, after }
 }
 
+fn admitted(before: Vec<u32>, meeting: u32, guests: Vec<Guest>) -> Case {
+    let mut after = before.clone();
+    let answer = party::party(&mut after, meeting, &guests);
+    Case::Party { before, meeting, guests, answer, after }
+}
+
+/// A party of few guests, on a book with room for it or on junk words.
+fn some_party(rng: &mut Rng, raw: bool) -> Case {
+    loop {
+        let state = open_state(rng, Size::Table);
+        let (meeting, guests) = party(rng, &state);
+        if length(&state.settings) <= MOST_WORDS as u64 && guests.len() <= FEW_GUESTS {
+            let before = if raw { short_junk(rng) } else { words(&state) };
+            return admitted(before, meeting, guests);
+        }
+    }
+}
+
+/// So many guests, every one of whom could be added: up to sixteen visitors in each of four sessions, then one more.
+fn large_party(guests: usize) -> Case {
+    let settings = Settings::from_words(&[2, 2, 1, 17, 1, 1, 1, 1, 1, 4]).expect("limits in range");
+    let mut state = State::empty(settings);
+    let leave = (0..17).map(|visitor| Request::from_words([1, 0, visitor, 0, 1, 0, 0]));
+    let opening: Vec<Request> = leave.chain([Request::from_words([8, 0, 0, 0, 3, 0, 0])]).collect();
+    run(&mut state, &opening);
+    let guest = |at: u32| Guest { visitor: if at < 64 { at % 16 } else { 16 }, first: at / 16 % 4, last: at / 16 % 4 };
+    admitted(words(&state), 0, (0..guests as u32).map(guest).collect())
+}
+
 /// No input, an empty line, settings of both refusals, each sort of damage to a line, and streams.
 fn inputs(rng: &mut Rng) -> Vec<Vec<u8>> {
     let mut all = vec![Vec::new(), vec![10]];
@@ -196,6 +232,10 @@ pub fn text(cases: &[Case]) -> String {
             Case::Page { book, date, before, answer, after } => {
                 let asked = format!("{} : {date} : {}", join(book), join(before));
                 format!("page {asked} -> {} : {}\n", join(&answer.words()), join(after))
+            }
+            Case::Party { before, meeting, guests, answer, after } => {
+                let asked = format!("{} : {}", join(before), party_text(*meeting, guests));
+                format!("party {asked} -> {} : {}\n", join(&answer.words()), join(after))
             }
             Case::Input { input, output } => format!("input {} -> {}\n", join(input), join(output)),
         };

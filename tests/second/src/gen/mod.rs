@@ -1,11 +1,12 @@
 //! Seeded test material: settings, request lists, damaged books, damaged byte streams, calls for a
-//! page. The same seed gives the same material on every machine.
+//! page, parties. The same seed gives the same material on every machine.
 
 pub mod books;
 pub mod cases;
 pub mod conflicts;
 pub mod endings;
 pub mod pages;
+pub mod parties;
 pub mod requests;
 pub mod rng;
 pub mod sites;

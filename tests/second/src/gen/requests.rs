@@ -233,7 +233,7 @@ fn leave_near(rng: &mut Rng, state: &State) -> Option<(Date, u32)> {
     state.leave.range(key..).next().copied()
 }
 
-fn leave_on(rng: &mut Rng, state: &State, date: Date) -> Option<u32> {
+pub(super) fn leave_on(rng: &mut Rng, state: &State, date: Date) -> Option<u32> {
     let from = (date, rng.below(state.settings.visitors));
     state.leave.range(from..=(date, u32::MAX)).next().map(|(_, visitor)| *visitor)
 }

@@ -1,13 +1,15 @@
-//! Random tables for the specification check: small sites, the steps of a list from fresh with
-//! their answers, and the whole book at the end.
+//! Random tables for the specification check: small sites, the calls of a list from fresh, requests
+//! and parties, with their answers, and the whole book at the end.
 
 use super::conflicts::{conflict, conflicts_of, edges, Conflict, CONFLICTS};
 use super::endings::{ending, Ending};
+use super::parties::{a_party, Sort, Where, OF_GUESTS};
 use super::requests::{aim, one, opening, Mix};
 use super::sites::{site, Size};
 use super::Rng;
 use crate::book::words;
-use crate::machine::{step, Answer, Request, Settings, State};
+use crate::machine::{Answer, Request, Settings, State};
+use crate::party::{perform, Call, Guest};
 use std::collections::BTreeSet;
 
 /// How many sites and steps the tables have at least.
@@ -16,7 +18,7 @@ const STEPS: usize = 60;
 
 pub struct Table {
     pub settings: Settings,
-    pub steps: Vec<(Request, Answer)>,
+    pub steps: Vec<(Call, Answer)>,
     pub book: Vec<u32>,
 }
 
@@ -27,19 +29,33 @@ struct Seen {
     numbers: BTreeSet<u32>,
     conflicts: BTreeSet<Conflict>,
     endings: BTreeSet<Ending>,
+    parties: BTreeSet<Sort>,
 }
 
 impl Seen {
     fn everything(&self) -> bool {
         let numbers = (3..=22).all(|number| self.numbers.contains(&number));
         let sorts = self.conflicts.len() == CONFLICTS.len() && self.endings.len() == Ending::ALL.len();
-        self.kinds_done.len() == 20 && numbers && sorts
+        let parties = parties_wanted().iter().all(|sort| self.parties.contains(sort));
+        self.kinds_done.len() == 20 && numbers && sorts && parties
     }
 }
 
+/// The sorts of parties that occur in tables: all but those of 64 guests and more, for which the sites are
+/// too small, and those of books that are none.
+pub fn parties_wanted() -> Vec<Sort> {
+    let mut wanted: Vec<Sort> = [27, 5].into_iter().chain(OF_GUESTS).map(Sort::Refused).collect();
+    for place in [Where::First, Where::Middle, Where::Last] {
+        wanted.extend(OF_GUESTS.map(|number| Sort::At(place, number)));
+    }
+    wanted.extend([Sort::Done(1), Sort::Done(2), Sort::OneRefused, Sort::NoGuest]);
+    wanted.extend([Sort::TwiceDone, Sort::TwiceInOneSession, Sort::LowerBehind, Sort::LaterPlace]);
+    wanted
+}
+
 /// Tables of the seed: among them every kind is done, every number 3 to 22 is reached, every
-/// conflict of two questions and every sort of kind 9 occurs, and every kind has every fault of its
-/// form.
+/// conflict of two questions, every sort of kind 9 and every sort of a small party occurs, and every
+/// kind has every fault of its form.
 pub fn tables(seed: u64) -> Vec<Table> {
     let mut rng = Rng::new(seed);
     let mut seen = Seen::default();
@@ -61,11 +77,12 @@ fn table(rng: &mut Rng, seen: &mut Seen) -> Table {
     let mut requests = opening(rng, &state.settings);
     requests.truncate(STEPS / 6);
     for turn in 0..STEPS {
-        let request = match requests.pop() {
-            Some(request) => request,
-            None => next(rng, &state, seen, turn),
+        let call = match requests.pop() {
+            Some(request) => Call::Request(request),
+            None if turn % 5 == 4 => small_party(rng, &state, seen),
+            None => Call::Request(next(rng, &state, seen, turn)),
         };
-        add_step(&mut table, &mut state, seen, request);
+        add_step(&mut table, &mut state, seen, call);
     }
     table.book = words(&state);
     table
@@ -75,21 +92,57 @@ fn table(rng: &mut Rng, seen: &mut Seen) -> Table {
 fn edge_table(rng: &mut Rng, seen: &mut Seen) -> Table {
     let (mut state, mut table) = opened(rng);
     for request in edges(rng, &state) {
-        add_step(&mut table, &mut state, seen, request);
+        add_step(&mut table, &mut state, seen, Call::Request(request));
     }
     table.book = words(&state);
     table
 }
 
-fn add_step(table: &mut Table, state: &mut State, seen: &mut Seen, request: Request) {
-    seen.conflicts.extend(conflicts_of(state, &request));
-    seen.endings.extend(Ending::of(state, &request));
-    let answer = step(state, &request);
-    match answer {
-        Answer::Done(_) => seen.kinds_done.insert(request.kind),
-        Answer::Refused { number, .. } => seen.numbers.insert(number),
+fn add_step(table: &mut Table, state: &mut State, seen: &mut Seen, call: Call) {
+    let before = state.clone();
+    let answer = perform(state, &call);
+    match &call {
+        Call::Request(request) => {
+            seen.conflicts.extend(conflicts_of(&before, request));
+            seen.endings.extend(Ending::of(&before, request));
+            match answer {
+                Answer::Done(_) => seen.kinds_done.insert(request.kind),
+                Answer::Refused { number, .. } => seen.numbers.insert(number),
+            };
+        }
+        Call::Party { meeting, guests } => {
+            seen.parties.extend(Sort::of_party(&before, *meeting, guests, answer.words()));
+        }
+    }
+    table.steps.push((call, answer));
+}
+
+/// How many guests a party of the tables has at most, and how many parties are drawn for a sort that is missing.
+const GUESTS: usize = 9;
+const TRIES: usize = 30;
+
+/// A party of few guests, mostly of a sort that is still missing.
+fn small_party(rng: &mut Rng, state: &State, seen: &Seen) -> Call {
+    let missing = |call: &Call| match call {
+        Call::Party { meeting, guests } => {
+            let answer = perform(&mut state.clone(), call).words();
+            let sorts = Sort::of_party(state, *meeting, guests, answer);
+            parties_wanted().iter().any(|sort| sorts.contains(sort) && !seen.parties.contains(sort))
+        }
+        Call::Request(_) => false,
     };
-    table.steps.push((request, answer));
+    let drawn: Vec<Call> = (0..TRIES).map(|_| few_guests(rng, state)).collect();
+    drawn.iter().find(|call| missing(call)).unwrap_or(&drawn[0]).clone()
+}
+
+fn few_guests(rng: &mut Rng, state: &State) -> Call {
+    loop {
+        let call = a_party(rng, state);
+        match &call {
+            Call::Party { guests, .. } if guests.len() <= GUESTS => return call,
+            _ => {}
+        }
+    }
 }
 
 /// Every third request aims at what is still missing: conflicts, then sorts of kind 9, then numbers.
@@ -117,13 +170,22 @@ pub fn join<Number: ToString>(numbers: &[Number]) -> String {
     numbers.iter().map(Number::to_string).collect::<Vec<_>>().join(" ")
 }
 
-/// The tables as plain text, one line an item: site, step, book.
+/// A party as plain text: the meeting, and the words of the guests.
+pub fn party_text(meeting: u32, guests: &[Guest]) -> String {
+    format!("{meeting} : {}", join(&guests.iter().flat_map(Guest::words).collect::<Vec<u32>>()))
+}
+
+/// The tables as plain text, one line an item: site, step (a request or a party), book.
 pub fn text(tables: &[Table]) -> String {
     let mut out = String::new();
     for table in tables {
         out += &format!("site {}\n", join(&table.settings.words()));
-        for (request, answer) in &table.steps {
-            out += &format!("step {} -> {}\n", join(&request.words()), join(&answer.words()));
+        for (call, answer) in &table.steps {
+            let asked = match call {
+                Call::Request(request) => join(&request.words()),
+                Call::Party { meeting, guests } => party_text(*meeting, guests),
+            };
+            out += &format!("step {asked} -> {}\n", join(&answer.words()));
         }
         out += &format!("book {}\n", join(&table.book));
     }

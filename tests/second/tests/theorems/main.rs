@@ -6,6 +6,7 @@ mod common;
 mod frames;
 mod locality;
 mod pages;
+mod parties;
 mod queries;
 mod reachable;
 mod removal;

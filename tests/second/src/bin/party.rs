@@ -1,0 +1,21 @@
+//! `party MEETING [VISITOR FIRST LAST]..` reads what `frames` reads and writes the answer line to the party, as
+//! the lines leave the book; nothing where the settings are refused.
+
+use second::frames::{lines, words_line, Desk};
+use second::party::{admit, Guest};
+use std::io::{self, Read, Write};
+
+fn main() -> io::Result<()> {
+    let words: Vec<u32> = std::env::args().skip(1).map(|word| word.parse().expect("a number")).collect();
+    let (meeting, guests) = words.split_first().expect("a meeting");
+    let guests: Vec<Guest> = guests.chunks(3).map(|three| Guest::from_words([three[0], three[1], three[2]])).collect();
+    let mut input = Vec::new();
+    io::stdin().lock().read_to_end(&mut input)?;
+    let lines = lines(&input);
+    let Ok(mut desk) = Desk::open(lines.first().copied()) else { return Ok(()) };
+    for line in &lines[1..] {
+        desk.answer(line);
+    }
+    let answer = admit(&mut desk.state, *meeting, &guests);
+    io::stdout().lock().write_all(&words_line(&answer.words()))
+}
