@@ -11,7 +11,8 @@
  * Every function takes any words in the arrays that it is lent, of any length, and says so where they are not a book: none has a
  * condition on contents. What each one promises below is proved, for all words. What the caller owes is what C owes any function that
  * takes arrays: a pointer to as many words as the length says (an empty array may be a null pointer), aligned for uint32_t, no two of
- * the arrays overlapping where one of them is written. All lengths are counted in words, not in bytes, but for a page, which is bytes.
+ * the arrays overlapping where one of them is written. All lengths are counted in words, not in bytes, but for a page, which is bytes,
+ * and the guests of a party, which are structs.
  *
  * Threads: calls on different books may run at the same time. On one book, calls of caviar_check and caviar_page may run beside each
  * other, the latter with a page each; every other call that is lent a book or answers counts as writing to them, whatever its requests
@@ -78,7 +79,7 @@
  *
  * An answer is the three words of struct caviar_answer. Done: number and place are 0. Refused: `number` says which question was the
  * first with the answer no, `value` is 0, and nothing has changed: not a word of the book, nor of a lent list of answers, nor a byte
- * of a lent page.
+ * of a lent page. A party (caviar_party) is refused so as a whole: where one of its guests is, none has been added.
  *
  *     number  means (asked of the kinds)                                                        place
  *      1      no book: under 9 words, a limit or capacity out of range, or another length       0
@@ -108,9 +109,11 @@
  *     24      bad settings                                                                      0
  *     25      the book has another length than the settings ask for                             0
  *     26      the lent page is shorter than its lines                                           0
+ *     27      the party has no guest, or more than 64                                           0
  *
  * Questions are asked in the order of their numbers, each of all slots before the next. The place is the lowest slot with the answer
- * no, in the unit of the kind; for 17 it is a date though the slots of kind 16 are sessions.
+ * no, in the unit of the kind; for 17 it is a date though the slots of kind 16 are sessions. A party is asked 1, 2 and 27, and then its
+ * guests come one after the other, each with the questions of kind 10.
  *
  * AN EXAMPLE
  *
@@ -151,10 +154,13 @@ extern "C" {
 #define CAVIAR_PAGE_LINE 31
 #define CAVIAR_MOST_PAGE 31744
 
+/* How many guests a party has at most. */
+#define CAVIAR_MOST_GUESTS 64
+
 /* An answer: done with a value, or refused with a number and a place. See ANSWERS above. */
 typedef struct caviar_answer {
     uint32_t number; /* 0 when done */
-    uint32_t place;  /* 0 when done, and for 1 to 8 and 22 to 26 */
+    uint32_t place;  /* 0 when done, and for 1 to 8 and 22 to 27 */
     uint32_t value;  /* 0 when refused */
 } caviar_answer;
 
@@ -168,6 +174,13 @@ typedef struct caviar_request_words {
     uint32_t n;     /* seats, for kind 14 */
     uint32_t info;  /* information, for kinds 12 and 14 */
 } caviar_request_words;
+
+/* A guest of a party: a visitor who is to attend its meeting in the sessions from first to last. */
+typedef struct caviar_guest {
+    uint32_t visitor;
+    uint32_t first; /* the first session */
+    uint32_t last;  /* the last session, included */
+} caviar_guest;
 
 /* How many words the book of these settings has: 20 to CAVIAR_MOST_WORDS. 0 for bad settings, those that 24 refuses: fewer than nine
  * words, not 9 + G of them, or one out of its range. (rule 9.3) */
@@ -222,6 +235,28 @@ caviar_answer caviar_serve(const uint32_t *settings, size_t settings_len, uint32
  * caviar_check, else with 7 for a date that is not below D, else with 26 for a page_len under CAVIAR_PAGE_LINE bytes a line; the page is
  * then as before. A page of P * C lines always does; CAVIAR_MOST_PAGE is the most. No word of the book is changed. (section 16) */
 caviar_answer caviar_page(const uint32_t *book, size_t book_len, uint32_t date, uint8_t *page, size_t page_len);
+
+/* A party for a meeting, on any words: all of its guests are added, or none. guests_len counts guests, from 1 to CAVIAR_MOST_GUESTS. A
+ * guest is added as a request of kind 10 adds a visitor, with a = meeting, b = visitor and the guest's sessions. The guests come in the
+ * order of the list, and each is judged with those before added. A visitor may come more than once, for other sessions each time.
+ *
+ * Done, the value is 0, and the book is what those requests one by one would have left. Refused with 1 or 2 as by caviar_check, else with
+ * 27 for no guest or more than CAVIAR_MOST_GUESTS, whatever they are; else with the answer of the first guest in the list who is refused:
+ *
+ *     5    the meeting is not below M (so the first guest is refused)    9    the visitor has no leave on the session's date
+ *     6    the visitor is not below V                                   10    the meeting does not stand in the session
+ *     7    first after last, or last past the end                       11    the visitor attends it already, by the book or as a guest before
+ *                                                                       13    the visitor attends another meeting in the session
+ *
+ * For 9 to 13 the place is the guest's lowest session with the answer no; which guest it was the answer does not say. (The requests of
+ * kind 10 sent one by one to a copy of the book tell it: the first that is refused.) A refused party leaves every word of the book as it
+ * was. The guests are only read.
+ *
+ *     const caviar_guest guests[] = {{.visitor = 1, .first = 4, .last = 5}, {.visitor = 2, .first = 4, .last = 4}};
+ *     caviar_answer answer = caviar_party(book, book_len, 3, guests, 2);
+ *
+ * The book is checked once. (section 17) */
+caviar_answer caviar_party(uint32_t *book, size_t book_len, uint32_t meeting, const caviar_guest *guests, size_t guests_len);
 
 #ifdef __cplusplus
 }

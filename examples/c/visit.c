@@ -1,5 +1,5 @@
-/* A visit of two dates, from C: lay a book, ask for leave, a hotel room and a meeting, see a refusal, check the book, and write the
- * porter's page of a date.
+/* A visit of two dates, from C: lay a book, ask for leave, a hotel room and a meeting, see a refusal, check the book, write the
+ * porter's page of a date and add a party.
  *
  *     rt staticlib capi
  *     gcc -Iinclude examples/c/visit.c target/staticlib/libcapi.a -o target/visit && target/visit
@@ -36,6 +36,23 @@ static void porters_page(uint32_t *book)
     say("the page of date 2", caviar_page(book, 64, 2, page, sizeof page));
 }
 
+/* Two more visitors for the meeting of date 1, both or none. */
+static void coach_party(uint32_t *book)
+{
+    const uint32_t leave[] = {
+        1, 0, 0, 1, 1, 0, 0, /* leave for visitor 0 on date 1 */
+        1, 0, 1, 1, 1, 0, 0, /* and for visitor 1 */
+    };
+    uint32_t answers[6];
+    caviar_guest guests[] = {{.visitor = 0, .first = 2, .last = 3}, {.visitor = 1, .first = 1, .last = 2}};
+
+    say("leave for visitors 0 and 1 on date 1", caviar_requests(book, 64, leave, 14, answers, 6));
+    say("a party for meeting 0, one guest from date 0", caviar_party(book, 64, 0, guests, 2));
+    guests[1].first = 2;
+    say("the party with both guests on date 1", caviar_party(book, 64, 0, guests, 2));
+    say("the party again", caviar_party(book, 64, 0, guests, 2));
+}
+
 /* The small site of docs/RULES.md, section 13, request by request. */
 static void small_site(void)
 {
@@ -53,6 +70,7 @@ static void small_site(void)
     say("remove visitor 1 on dates 0 to 1", caviar_request(book, 64, removal));
     say("check", caviar_check(book, 64));
     porters_page(book);
+    coach_party(book);
 }
 
 /* The largest site, with a list of requests. */

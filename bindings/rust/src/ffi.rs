@@ -1,6 +1,6 @@
 //! The exported functions, as include/caviar.h declares them.
 
-use crate::{Answer, Request};
+use crate::{Answer, Guest, Request};
 
 extern "C" {
     pub fn caviar_book_len(settings: *const u32, settings_len: usize) -> u64;
@@ -26,4 +26,11 @@ extern "C" {
         answers_len: usize,
     ) -> Answer;
     pub fn caviar_page(book: *const u32, book_len: usize, date: u32, page: *mut u8, page_len: usize) -> Answer;
+    pub fn caviar_party(
+        book: *mut u32,
+        book_len: usize,
+        meeting: u32,
+        guests: *const Guest,
+        guests_len: usize,
+    ) -> Answer;
 }

@@ -34,6 +34,9 @@ pub const PAGE_LINE: usize = 31;
 /// How many bytes do for the page of every date of every site.
 pub const MOST_PAGE: usize = 31_744;
 
+/// How many guests a party has at most.
+pub const MOST_GUESTS: usize = 64;
+
 /// An answer: done with a value, or refused.
 #[repr(C)]
 #[derive(Clone, Copy, Debug, Default, PartialEq, Eq)]
@@ -94,6 +97,17 @@ impl Request {
     pub fn from_words([kind, a, b, first, last, n, info]: [u32; 7]) -> Request {
         Request { kind, a, b, first, last, n, info }
     }
+}
+
+/// A guest of a party: a visitor who is to attend its meeting in these sessions.
+#[repr(C)]
+#[derive(Clone, Copy, Debug, Default, PartialEq, Eq)]
+pub struct Guest {
+    pub visitor: u32,
+    /// The first session.
+    pub first: u32,
+    /// The last session, included.
+    pub last: u32,
 }
 
 /// How many words the book of these settings has: 20 to [`MOST_WORDS`]. 0 for settings that
@@ -204,6 +218,38 @@ pub fn serve_words(settings: &[u32], book: &mut [u32], list: &[u32], answers: &m
 pub fn page(book: &[u32], date: u32, page: &mut [u8]) -> Answer {
     // SAFETY: each pointer has its slice's length, and the slices do not overlap, since one is `&mut`.
     unsafe { ffi::caviar_page(book.as_ptr(), book.len(), date, page.as_mut_ptr(), page.len()) }
+}
+
+/// A party for a meeting: all of its guests are added, or none. A guest is added as a [`Request`] of kind 10
+/// adds a visitor; the guests come in the order of the list, each judged with those before added. The answer is
+/// done with 0, and the book is what those requests one by one would have left. Refused with 1 or 2 as by
+/// [`check`], with 27 for no guest or more than [`MOST_GUESTS`], and else with the answer of the first guest who
+/// is refused: 5 for the meeting, 6 for a visitor past the limit, 7, 9, 10, 11 or 13, its place the session that
+/// fails. A refused party leaves every word of the book as it was (section 17).
+///
+/// ```
+/// use caviar::{Guest, Request};
+/// let settings = [2, 2, 2, 3, 2, 2, 1, 2, 1, 4];
+/// let mut book = vec![0; caviar::book_len(&settings)];
+/// caviar::lay(&settings, &mut book);
+/// let stands = Request { kind: 8, a: 1, first: 1, last: 3, ..Default::default() };
+/// assert_eq!(caviar::request(&mut book, stands).result(), Ok(0));
+/// for visitor in [0, 2] {
+///     let leave = Request { kind: 1, b: visitor, first: 0, last: 1, ..Default::default() };
+///     assert_eq!(caviar::request(&mut book, leave).result(), Ok(0));
+/// }
+/// let guest = |visitor, first, last| Guest { visitor, first, last };
+/// let before = book.clone();
+/// let refused = caviar::party(&mut book, 1, &[guest(0, 1, 2), guest(2, 3, 3), guest(0, 2, 3)]);
+/// assert_eq!(refused.result(), Err(caviar::Refusal { number: 11, place: 2 }));
+/// assert_eq!(book, before);
+/// let done = caviar::party(&mut book, 1, &[guest(0, 1, 2), guest(2, 3, 3), guest(0, 3, 3)]);
+/// assert_eq!(done.result(), Ok(0));
+/// ```
+pub fn party(book: &mut [u32], meeting: u32, guests: &[Guest]) -> Answer {
+    // SAFETY: each pointer has its slice's length, the slices do not overlap, since one is `&mut`, and `Guest` is
+    // the header's struct (`repr(C)`).
+    unsafe { ffi::caviar_party(book.as_mut_ptr(), book.len(), meeting, guests.as_ptr(), guests.len()) }
 }
 
 /// The words of a list of requests, which has seven in each place and nothing between.

@@ -1,7 +1,8 @@
 //! A visit of two dates, from Rust: lay a book, ask for leave, a hotel room and a meeting, see a
-//! refusal, check the book, and write the porter's page of a date; then a list on the largest book.
+//! refusal, check the book, write the porter's page of a date and add a party; then a list on the
+//! largest book.
 
-use caviar::{Answer, Request};
+use caviar::{Answer, Guest, Request};
 
 fn say(what: &str, answer: Answer) {
     match answer.result() {
@@ -26,6 +27,7 @@ fn small_site() {
     say("remove visitor 1 on dates 0 to 1", caviar::request(&mut book, removal));
     say("check", caviar::check(&book));
     porters_page(&mut book);
+    coach_party(&mut book);
 }
 
 /// Gives a meeting a room on date 1 and prints the porter's page of that date.
@@ -44,6 +46,18 @@ fn porters_page(book: &mut [u32]) {
     let lines = &page[..caviar::PAGE_LINE * answer.value as usize];
     print!("{}", String::from_utf8_lossy(lines));
     say("the page of date 2", caviar::page(book, 2, &mut page));
+}
+
+/// Two more visitors for the meeting of date 1, both or none.
+fn coach_party(book: &mut [u32]) {
+    let leave = [0, 1].map(|visitor| Request { kind: 1, b: visitor, first: 1, last: 1, ..Request::default() });
+    let mut guests = [Guest { visitor: 0, first: 2, last: 3 }, Guest { visitor: 1, first: 1, last: 2 }];
+
+    say("leave for visitors 0 and 1 on date 1", caviar::requests(book, &leave, &mut [Answer::default(); 2]));
+    say("a party for meeting 0, one guest from date 0", caviar::party(book, 0, &guests));
+    guests[1].first = 2;
+    say("the party with both guests on date 1", caviar::party(book, 0, &guests));
+    say("the party again", caviar::party(book, 0, &guests));
 }
 
 /// The largest site, with a list of requests.
