@@ -2,6 +2,7 @@
 
 use plain::{Request, Site};
 use second::book;
+use second::gen::parties::{lent, Sort};
 use second::gen::{
     clean_stream, damaged, damaged_stream, deep_state, full_book, junk_book, list, list_from_fresh, site, sites, Mix,
     Rng, Size,
@@ -93,6 +94,24 @@ fn requests_on_raw_books() {
     println!("seed {}: requests on raw books by number {numbers:?}", seed(1));
     want(&numbers, 0..=2, 500);
     want(&numbers, 3..=21, 5);
+}
+
+/// Parties of all sorts, on lawful, damaged and junk books.
+#[test]
+fn parties() {
+    let mut rng = Rng::new(seed(5));
+    let mut sorts = BTreeMap::new();
+    for _ in 0..times(6000) {
+        let call = lent(&mut rng);
+        let (mut ours, mut theirs) = (call.book.clone(), call.book.clone());
+        let guests: Vec<plain::party::Guest> = call.guests.iter().map(|guest| guest.words()).collect();
+        let answer = plain::party(&mut ours, call.meeting, &guests).words();
+        assert_eq!(answer, second::party::party(&mut theirs, call.meeting, &call.guests).words(), "{:?}", call.guests);
+        assert!(ours == theirs, "{:?}", call.guests);
+        Sort::of(&call, answer).into_iter().for_each(|sort| count(&mut sorts, sort));
+    }
+    println!("seed {}: parties {sorts:?}", seed(5));
+    want(&sorts, Sort::all(), 10);
 }
 
 /// Checking: each rule broken alone, lawful books, and lists on them.

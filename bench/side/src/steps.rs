@@ -1,9 +1,11 @@
 //! One request with its check, a list with one check, and the steps of a list without it.
 
 use crate::clock::{seconds, turns};
-use crate::sites::{load, medium, of_kind, SEED};
+use crate::sites::{load, medium, of_kind, small, SEED};
 use crate::table::{row, Row};
-use caviar::Request;
+use caviar::{Guest, Request};
+use second::book::shown;
+use second::gen::parties::{standing_meeting, welcome};
 use second::gen::{full_book, Rng};
 use second::machine::Settings;
 use std::cell::RefCell;
@@ -97,6 +99,31 @@ fn one_request(name: &str, book: &[u32], requests: &[[u32; 7]]) {
     );
     let micro = |time: f64| format!("{:.1} µs", time * 1e6);
     row(&format!("request, {name}"), times, micro, "one request with its check");
+}
+
+/// A party of as many guests as it may have, on the book of the line program's site, about half full.
+pub fn party() {
+    let mut rng = Rng::new(u64::from(SEED));
+    let book = full_book(&mut rng, &small(), 50);
+    let state = shown(&book).expect("a full book passes");
+    let meeting = standing_meeting(&mut rng, &state);
+    let guests = welcome(&mut rng, &state, meeting, caviar::MOST_GUESTS);
+    let ours: Vec<Guest> =
+        guests.iter().map(|guest| Guest { visitor: guest.visitor, first: guest.first, last: guest.last }).collect();
+    let theirs: Vec<plain::party::Guest> = guests.iter().map(|guest| guest.words()).collect();
+    let copy = Copy::of(&book, 0);
+    copy.time(|words, _| assert_eq!(caviar::party(words, meeting, &ours).number, 0));
+    let proved_left = copy.left();
+    copy.time(|words, _| assert_eq!(plain::party(words, meeting, &theirs).number, 0));
+    assert!(proved_left == copy.left(), "the engines differ");
+    let times = turns(
+        40,
+        [&mut || copy.time(|words, _| caviar::party(words, meeting, black_box(&ours))), &mut || {
+            copy.time(|words, _| plain::party(words, meeting, black_box(&theirs)))
+        }],
+    );
+    let micro = |time: f64| format!("{:.1} µs", time * 1e6);
+    row("party, small site, half full", times, micro, &format!("{} guests with one check", guests.len()));
 }
 
 /// A site of the table by kinds: how many requests of a kind, and how many turns. Many requests make

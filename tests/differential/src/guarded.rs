@@ -16,10 +16,11 @@ const READ: i32 = 1;
 const READ_WRITE: i32 = 3;
 const PRIVATE_ANONYMOUS: i32 = 0x22;
 
-/// What is lent: words, or the bytes of a porter's page. Each of its bit patterns is a value.
+/// What is lent: words, the bytes of a porter's page, or the guests of a party. Each of its bit patterns is a value.
 pub trait Plain: Copy {}
 impl Plain for u32 {}
 impl Plain for u8 {}
+impl Plain for caviar::Guest {}
 
 /// Which end of the words touches a guard page.
 #[derive(Clone, Copy, Debug, PartialEq, Eq, PartialOrd, Ord)]
@@ -67,7 +68,7 @@ impl<Item: Plain> Guarded<Item> {
     }
 
     pub fn words(&self) -> &[Item] {
-        // SAFETY: so many items were mapped there, aligned since a page is and their size divides it.
+        // SAFETY: so many items were mapped there, aligned since a page is and their sizes are multiples of their alignment.
         unsafe { std::slice::from_raw_parts(self.start.add(self.offset).cast(), self.count) }
     }
 

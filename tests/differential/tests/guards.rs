@@ -2,11 +2,12 @@
 //! may touch, against the one before its first word and against the one behind its last, and what is
 //! only read may not be written.
 
-use caviar::Request;
+use caviar::{Guest, Request};
 use differential::guarded::{End, Guarded};
 use differential::{seed, times, Counts};
 use second::book;
 use second::gen::pages::{lent, Lent};
+use second::gen::parties;
 use second::gen::{deep_state, junk_book, list, sites, Mix, Rng, Size};
 use second::machine;
 use std::os::unix::process::ExitStatusExt;
@@ -59,6 +60,19 @@ fn page_call(rng: &mut Rng, end: End, answered: &mut Answered) {
     answered.add(("page", end, answer.number));
 }
 
+/// A party: its guests may not be written.
+fn party_call(rng: &mut Rng, end: End, answered: &mut Answered) {
+    let parties::Lent { book, meeting, guests } = parties::lent(rng);
+    let list: Vec<Guest> =
+        guests.iter().map(|guest| Guest { visitor: guest.visitor, first: guest.first, last: guest.last }).collect();
+    let lent = Guarded::new(&list, end).read_only();
+    let (mut words, mut theirs) = (Guarded::new(&book, end), book.clone());
+    let answer = caviar::party(words.words_mut(), meeting, lent.words());
+    assert_eq!(answer.words(), second::party::party(&mut theirs, meeting, &guests).words());
+    assert!(words.words() == theirs);
+    answered.add(("party", end, answer.number));
+}
+
 /// One request after the other: a later one finds the book that the earlier ones left.
 fn single_calls(words: &Words, end: End, answered: &mut Answered) {
     let (mut lent, mut theirs) = (Guarded::new(&words.book, end), words.book.clone());
@@ -105,6 +119,7 @@ fn inside_what_is_lent() {
             single_calls(&words, end, &mut answered);
             list_calls(&words, end, &mut answered);
             (0..3).for_each(|_| page_call(&mut rng, end, &mut answered));
+            (0..3).for_each(|_| party_call(&mut rng, end, &mut answered));
         }
     }
     println!("seed {}: {turns} turns between guard pages, by function, end and number: {answered}", seed(40));
@@ -116,6 +131,7 @@ fn inside_what_is_lent() {
         ("requests", vec![0, 1, 2]),
         ("serve", vec![0, 24, 25]),
         ("page", vec![0, 1, 2, 7, 26]),
+        ("party", vec![0, 1, 2, 27, 5, 6, 7, 9, 10, 11, 13]),
     ];
     for (function, numbers) in met {
         for end in [End::First, End::Last] {

@@ -4,6 +4,7 @@ use crate::material::Bytes;
 use crate::reached;
 use second::book;
 use second::machine::{Request, Settings, State};
+use second::party::Guest;
 
 const MOST_REQUESTS: usize = 60;
 const ANSWER: usize = 0;
@@ -11,6 +12,8 @@ const RULE: usize = 1000;
 const WAY: usize = 3000;
 const PAGE: usize = 3100;
 const MOST_PAGE: usize = 400;
+const PARTY: usize = 3950;
+const MOST_GUESTS: u8 = 70;
 
 pub fn run(input: &[u8]) {
     let mut bytes = Bytes(input);
@@ -41,6 +44,9 @@ fn raw(bytes: Bytes) {
     assert_eq!(caviar::book_len(&words) as u64, book::book_len(&words));
     check(&words);
     page(&words, words.last().copied().unwrap_or(0), words.len() % MOST_PAGE);
+    let guests: Vec<Guest> =
+        words.chunks_exact(3).map(|three| Guest::from_words([three[0], three[1], three[2]])).collect();
+    party(&words, 0, &guests);
     let mut list = words.clone();
     list.truncate(7);
     if let Ok(seven) = list.try_into() {
@@ -55,6 +61,7 @@ fn damaged(mut bytes: Bytes) {
     let changes: Vec<(u32, u32)> = (0..changes).map(|_| (bytes.word(), bytes.word())).collect();
     let last = bytes.request();
     let (date, length) = (bytes.word(), bytes.word() as usize % MOST_PAGE);
+    let (meeting, guests) = guests(&mut bytes);
     let mut words = run_list(&settings, &requests(&mut bytes));
     for (at, value) in changes {
         let at = at as usize % words.len();
@@ -63,6 +70,7 @@ fn damaged(mut bytes: Bytes) {
     check(&words);
     call(&words, &last);
     page(&words, date, length);
+    party(&words, meeting, &guests);
 }
 
 fn check(words: &[u32]) {
@@ -96,14 +104,41 @@ fn page(words: &[u32], date: u32, length: usize) {
     reached(PAGE + 32 * answer.number as usize + answer.value.min(31) as usize);
 }
 
+/// A meeting and guests; mostly a few of them.
+fn guests(bytes: &mut Bytes) -> (u32, Vec<Guest>) {
+    let meeting = bytes.word();
+    let many = match bytes.byte() {
+        byte if byte >= 240 => byte % MOST_GUESTS,
+        byte => byte % 6,
+    };
+    (meeting, (0..many).map(|_| bytes.guest()).collect())
+}
+
+/// A party on any words: answer and book, and a refusal keeps the book.
+fn party(before: &[u32], meeting: u32, guests: &[Guest]) {
+    let (mut words, mut theirs) = (before.to_vec(), before.to_vec());
+    let list: Vec<caviar::Guest> = guests
+        .iter()
+        .map(|guest| caviar::Guest { visitor: guest.visitor, first: guest.first, last: guest.last })
+        .collect();
+    let answer = caviar::party(&mut words, meeting, &list);
+    assert_eq!(answer.words(), second::party::party(&mut theirs, meeting, guests).words());
+    assert_eq!(words, theirs);
+    assert!(answer.number == 0 || words == before);
+    reached(PARTY + 4 * answer.number as usize + guests.len().min(3));
+}
+
 fn list(mut bytes: Bytes) {
     let settings = bytes.settings();
     let (date, length) = (bytes.word(), bytes.word() as usize % MOST_PAGE);
+    let (meeting, guests) = guests(&mut bytes);
     let requests = requests(&mut bytes);
     let words = run_list(&settings, &requests);
     assert_eq!(caviar::check(&words).words(), [0, 0, 0]);
     page(&words, date, length);
     page(&words, date % settings.dates, length);
+    party(&words, meeting, &guests);
+    party(&words, meeting % settings.meetings, &guests);
 }
 
 /// The book after the list from fresh; served and step by step, beside the machine.

@@ -2,6 +2,7 @@
 
 use second::machine::site::{GREATEST, LIMITS};
 use second::machine::{Request, Settings};
+use second::party::Guest;
 
 pub struct Bytes<'a>(pub &'a [u8]);
 
@@ -61,6 +62,11 @@ impl Bytes<'_> {
         let [a, b, first, reach, n, info] = [(); 6].map(|()| self.word());
         let last = first.wrapping_add(reach);
         Request { kind, a, b, first, last, n, info }
+    }
+
+    pub fn guest(&mut self) -> Guest {
+        let [visitor, first, reach] = [(); 3].map(|()| self.word());
+        Guest { visitor, first, last: first.wrapping_add(reach) }
     }
 
     /// What is left, as raw words.

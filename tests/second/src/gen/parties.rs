@@ -98,11 +98,14 @@ pub fn party(rng: &mut Rng, state: &State) -> (u32, Vec<Guest>) {
         4 => return (rng.junk(state.settings.meetings).max(state.settings.meetings), guests),
         _ => spoil(rng, state, meeting, &mut guests),
     }
+    if guests.is_empty() {
+        guests.push(candidate(rng, state, meeting, 9));
+    }
     (meeting, guests)
 }
 
 /// A meeting that stands in some session, mostly the one that stands in most of them.
-fn standing_meeting(rng: &mut Rng, state: &State) -> u32 {
+pub fn standing_meeting(rng: &mut Rng, state: &State) -> u32 {
     let drawn: Vec<u32> = (0..3).map(|_| near(rng, state)).collect();
     let sessions = |meeting: &u32| state.standing.iter().filter(|(_, stands)| stands == meeting).count();
     drawn.into_iter().max_by_key(sessions).unwrap_or(0)
@@ -115,7 +118,7 @@ fn near(rng: &mut Rng, state: &State) -> u32 {
 }
 
 /// Up to so many guests who can all be added, one after the other.
-fn welcome(rng: &mut Rng, state: &State, meeting: u32, size: usize) -> Vec<Guest> {
+pub fn welcome(rng: &mut Rng, state: &State, meeting: u32, size: usize) -> Vec<Guest> {
     let mut reached = state.clone();
     let mut guests = Vec::new();
     while guests.len() < size {

@@ -55,7 +55,7 @@ fn a_done_party_is_its_requests() {
         counts.add((all_done, guests.len().min(2) + usize::from(guests.len() == MOST_GUESTS)));
     });
     let sorts = [true, false].into_iter().flat_map(|done| [1, 2, 3].map(|size| (done, size)));
-    counts.want(SEED, "parties by done and guests (2 for several, 3 for 64)", sorts, 30);
+    counts.want(SEED, "parties by done and guests (2 for several, 3 for 64)", sorts, 10);
 }
 
 /// party-refused and party-keeps: the answer is that of the first guest whom kind 10 refuses after those
