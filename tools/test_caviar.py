@@ -23,8 +23,8 @@ sys.dont_write_bytecode = True
 ROOT = Path(__file__).resolve().parent.parent
 sys.path.insert(0, str(ROOT / "tools"))
 
-from caviar_tool import library, lines, rules, typed  # noqa: E402
-from caviar_tool.rules import Problem, Raw, Request  # noqa: E402
+from caviar_tool import explain, library, lines, main, rules, typed  # noqa: E402
+from caviar_tool.rules import Guest, Party, Problem, Raw, Request  # noqa: E402
 
 CAVIAR = ROOT / "tools" / "caviar"
 CARGO_TARGET = Path(os.environ.get("CARGO_TARGET_DIR", ROOT / "target" / "cargo"))
@@ -212,6 +212,8 @@ class Frame(Tested):
     def test_every_complaint(self):
         cases = {
             "setings dates 2": "there is no kind 'setings'; did you mean settings?",
+            "pary meeting 0": "there is no kind 'pary'; did you mean party?",
+            "party meeting 0": "the program has no line for a party; `caviar page` and `caviar party` take it",
             "add-hotl": "there is no kind 'add-hotl'; did you mean add-hotel?",
             "frobnicate 3": "there is no kind 'frobnicate'; `caviar kinds` lists the kinds",
             "4294967296": "4294967296 does not fit in 32 bits",
@@ -325,7 +327,7 @@ class Explain(Tested):
         no_line = "not an answer line, which is 24 lower-case hexadecimal digits"
         cases = {
             "zz": no_line, "": no_line, "0" * 23: no_line, "0" * 32: no_line, "A" * 24: no_line,
-            "0000001b" + "0" * 16: "there is no question 27",
+            "0000001c" + "0" * 16: "there is no question 28",
             "000000090000000000000001": "a refusal has value 0",
             "000000000000000100000000": "a done answer has place 0",
             "000000080000000100000000": "this answer has place 0",
@@ -457,23 +459,126 @@ class Page(Tested):
         self.assertTrue(done.stderr.decode().startswith(start), done.stderr)
 
 
+class Parties(Tested):
+    """Guests of a meeting, all or none, on a site."""
+
+    def test_the_conversation(self):
+        """A site with parties is answered as written down, and so is each party by the command, on what comes before."""
+        settings, _, told = (ROOT / "tools" / "conversations" / "parties.txt").read_text().partition("\n")
+        asked, numbers = [settings], set()
+        for request, sentence in re.findall(r"^(\S.*)\n(    .*\n)", told, re.MULTILINE):
+            if request.startswith("party "):
+                status, out, _ = caviar(*request.split(), given="\n".join(asked))
+                self.assertEqual((status, out.decode()), (0, f"{request}\n{sentence}"))
+                numbers |= {int(number) for number in re.findall(r"Refused by (\d+)", sentence)}
+            asked.append(request)
+        self.assertEqual(numbers, {5, 6, 7, 9, 10, 11, 13, 27})
+        entries = typed.parse_text("\n".join(asked), parties=True)
+        self.assertEqual([typed.typed(entry) for entry in entries], asked)
+        self.assertEqual("".join(line + "\n" for line in explain.explained(entries, main.answered(entries)[1])), told)
+
+    def test_sizes(self):
+        site = f"{SETTINGS}\nadd-leave visitor 0 dates 0..1\n"
+        guests = ["visitor 0 session 1"] * 65
+        said_of = {0: "0 guests are not", 65: "65 guests are not", 64: "guest 1 of 64: meeting 0 does"}
+        for count, said in said_of.items():
+            out = self.wrote("party", "meeting 0 " + ", ".join(guests[:count]), given=site).decode().splitlines()
+            self.assertEqual(out[0].count("visitor"), count)
+            self.assertIn(said, out[1])
+
+    def test_a_party_in_a_site(self):
+        """The page counts the guests of parties that were done; those that were refused are told."""
+        site = [SETTINGS, "add-leave visitor 0 date 1", "add-standing meeting 1 sessions 2..3",
+                "add-conf room 0 meeting 1 session 2", "party meeting 1 visitor 0 session 2",
+                "party meeting 1, visitor 0 session 3, visitor 1 session 3"]
+        status, out, said = caviar("page", "1", given="\n".join(site))
+        self.assertEqual((status, out), (0, b"    2   0   1     1          0\n"))
+        why = "Refused by 9 at guest 2 of 2: visitor 1 has no leave on date 1 (session 3); nobody was added."
+        refused = ["caviar: requests that were refused and left no mark on this page: 1",
+                   "party meeting 1 visitor 0 session 3, visitor 1 session 3", f"    {why} {explain.question(9)}"]
+        self.assertEqual(said.splitlines(), refused)
+
+    def test_every_party_has_its_words(self):
+        rng = random.Random(20_261_116)
+        for _ in range(2000):
+            draw = [rng.choice([rng.randrange(9), rng.randrange(2 ** 32)]) for _ in range(1 + 3 * rng.randrange(6))]
+            guests = tuple(Guest(*draw[at:at + 3]) for at in range(1, len(draw), 3))
+            party = Party(draw[0], guests)
+            self.assertEqual(typed.parse_line(typed.typed(party), False, parties=True), party)
+
+    def test_seeded_sites(self):
+        """Parties on sites of all sizes have the second program's answers, and sentences that fit them."""
+        rng, numbers = random.Random(20_261_117), []
+        for seed in SEEDS:
+            stream = subprocess.run([built("gen"), str(seed), "300"], capture_output=True, check=True).stdout
+            entries = lines.read_lines(stream.decode())
+            book, _ = library.played(entries[0], entries[1:])
+            for _ in range(40):
+                party = self.drawn(rng, entries)
+                words = [str(word) for word in (party.meeting, *(word for guest in party.guests for word in guest))]
+                expected = subprocess.run([built("party"), *words], input=stream, capture_output=True, check=True)
+                copy = type(book).from_buffer_copy(book)
+                answer = library.admitted(copy, party)
+                self.assertEqual(list(answer[:3]), lines.read_answer(expected.stdout.decode().strip()))
+                self.assertTrue(explain.sentence_of_party(entries[0], party, answer))
+                self.assertEqual(bytes(copy) == bytes(book), answer[0] != 0)
+                numbers.append(answer[0])
+        print(f"seeds {', '.join(map(str, SEEDS))}: {len(numbers)} parties, numbers {sorted(set(numbers))}", flush=True)
+        self.assertLessEqual({0, 6, 7, 9, 10, 11, 27}, set(numbers))
+
+    @staticmethod
+    def drawn(rng, entries):
+        """A party near what the requests of kind 10 of a site ask for."""
+        asked = [entry for entry in entries if isinstance(entry, Request) and entry.kind in (8, 10)]
+        meeting = rng.choice(asked).a
+        near = [entry for entry in asked if entry.a == meeting]
+        visitors = entries[0].limit("visitors")
+        guests = []
+        for _ in range(rng.choice([0, 1, 1, 1, 2, 3])):
+            first, last = rng.choice(near)[3:5]
+            visitor = rng.choice([rng.randrange(visitors), rng.randrange(visitors), visitors + rng.randrange(2)])
+            guests.append(Guest(visitor, *rng.choice([(first, first), (first, last), (last, last), (last, first)])))
+        return Party(meeting, tuple(guests))
+
+    def test_every_complaint(self):
+        begins = f"a party begins with its meeting, as in: {typed.A_PARTY}"
+        cases = {
+            "meeting": begins, "visitor 1 session 0 meeting 0": begins, "0 visitor 1": begins,
+            "meeting x visitor 1 session 0": "'x' is not a number",
+            "meeting 0 visitor 1": "a guest lacks sessions",
+            "meeting 0 session 1": "a guest lacks visitor",
+            "meeting 0 visitor 1 first 1": "a guest lacks last",
+            "meeting 0 visitor 1 dates 0": "a guest takes no 'dates'; it takes visitor, sessions",
+            "meeting 0 visitor 1 session 0 last 1": "'last' says again what was said before",
+            "meeting 0 visitor 1 session": "nothing comes after 'session'",
+            "meeting 0 visitor 1 session 0,": "a comma stands between two guests",
+            "meeting 0 visitor 1 session 0,, visitor 2 session 0": "a comma stands between two guests",
+            "meeting 0 visitor 4294967296 session 0": "4294967296 does not fit in 32 bits",
+        }
+        for words, message in cases.items():
+            self.complains(message, "party", words, given=SETTINGS)
+            self.complains(f"line 2: {message}", "page", "0", given=f"{SETTINGS}\nparty {words}")
+        why = "these are not good settings, it is not whole words of lower-case hexadecimal"
+        self.complains(f"Refused by 24: {why}. {explain.question(24)}", "party", "meeting", "0")
+
+
 class Commands(Tested):
     """The tables, the help, and commands that are none."""
 
     def test_the_tables(self):
         table = self.wrote("table").decode().splitlines()
-        self.assertEqual([int(line.split()[0]) for line in table[:26]], list(range(1, 27)))
+        self.assertEqual([int(line.split()[0]) for line in table[:27]], list(range(1, 28)))
         self.assertTrue(all(question in line for line, (question, _) in zip(table, rules.QUESTIONS.values())))
         kinds = self.wrote("kinds").decode().splitlines()
         self.assertEqual([line.split()[:2] for line in kinds], [[str(kind.number), kind.name] for kind in rules.KINDS])
 
     def test_help(self):
-        for arguments in ([], ["frame"], ["words"], ["explain"], ["page"], ["table"], ["kinds"]):
+        for arguments in ([], ["frame"], ["words"], ["explain"], ["page"], ["party"], ["table"], ["kinds"]):
             self.assertIn(b"usage: caviar " + " ".join(arguments).encode(), self.wrote(*arguments, "--help"))
 
     def test_commands_that_are_none(self):
         for arguments in ([], ["fram"], ["table", "1"], ["explain", "--with"], ["explain", "--without"], ["page"],
-                          ["page", "0", "1"]):
+                          ["page", "0", "1"], ["party"]):
             status, out, complaint = caviar(*arguments)
             self.assertEqual((status, out), (2, b""))
             self.assertTrue(complaint.startswith("usage: caviar"), complaint)
@@ -541,6 +646,16 @@ class Documents(Tested):
         command = "    $ tools/caviar page 1 < examples/site.txt 2> refused\n"
         self.assertIn(f"{command}{indented}\n", (ROOT / "README.md").read_text())
         self.assertIn(f"\n\n{indented}", (ROOT / "docs" / "RULES.md").read_text())
+
+    def test_the_parties_of_the_readme(self):
+        """Each command with what it writes, as the README shows it."""
+        readme = (ROOT / "README.md").read_text()
+        command = r"^    \$ tools/caviar (party .*) < (examples/coach.txt)\n((?:    .*\n)+?)(?=\n|    \$)"
+        shown = re.findall(command, readme, re.MULTILINE)
+        self.assertEqual(len(shown), 2)
+        for words, site, expected in shown:
+            out = self.wrote(*words.split(), given=(ROOT / site).read_bytes()).decode()
+            self.assertEqual("".join(f"    {line}\n" for line in out.splitlines()), expected)
 
     def test_the_numbers_of_the_documents(self):
         """The tables of refusal numbers go as far as the tool's."""

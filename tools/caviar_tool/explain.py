@@ -1,7 +1,7 @@
 """Answers in sentences."""
 
 from .lines import printable, settings_in
-from .rules import BY_NUMBER, MOST_WORDS, QUESTIONS, Problem, Raw, Settings, has_place
+from .rules import BY_NUMBER, MOST_GUESTS, MOST_WORDS, QUESTIONS, Party, Problem, Raw, Settings, has_place
 from .typed import typed
 
 WIDEST_ECHO = 100
@@ -210,8 +210,23 @@ def sentence_alone(answer):
     return f"Refused by {number}{where}. {question(number)}"
 
 
+def sentence_of_party(settings, party, answer):
+    """What an answer says to a party; behind its three words is the guest whom it is for."""
+    number, place, value = checked(answer[:3])
+    guests, at = len(party.guests), answer[3]
+    if not number:
+        who = {1: "the one guest attends", 2: "both guests attend"}.get(guests, f"all {guests} guests attend")
+        return f"Done: {who} meeting {party.meeting}."
+    if number == 27:
+        return f"Refused by 27: {guests} guests are not from 1 to {MOST_GUESTS}. {question(27)}"
+    said = reason(settings, party.requests()[at - 1], number, place, value)
+    return f"Refused by {number} at guest {at} of {guests}: {said}; nobody was added. {question(number)}"
+
+
 def sentence(settings, entry, answer):
-    """What an answer says to its request."""
+    """What an answer says to its request, or to a party."""
+    if isinstance(entry, Party):
+        return sentence_of_party(settings, entry, answer)
     number, place, value = checked(answer)
     said = reason(settings, entry, number, place, value)
     if not number:

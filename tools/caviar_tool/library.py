@@ -2,10 +2,11 @@
 
 import ctypes
 import functools
+import itertools
 from pathlib import Path
 
 from .lines import WORDS_OF_ANSWER, WORDS_OF_REQUEST
-from .rules import Problem
+from .rules import Party, Problem
 
 PATH = Path(__file__).resolve().parent.parent.parent / "target" / "lib" / "libcaviar.so"
 LINE_BYTES = 31
@@ -19,15 +20,23 @@ class Answer(ctypes.Structure):
     _fields_ = [("number", WORD), ("place", WORD), ("value", WORD)]
 
 
+class Guest(ctypes.Structure):
+    """A guest of a party."""
+
+    _fields_ = [("visitor", WORD), ("first", WORD), ("last", WORD)]
+
+
 @functools.lru_cache(maxsize=None)
 def loaded():
     """The library with the types of its functions, or a Problem that says how to make it."""
     try:
         library = ctypes.CDLL(str(PATH))
-        library.caviar_serve.argtypes = [WORDS, LENGTH] * 4
-        library.caviar_serve.restype = Answer
+        library.caviar_lay.argtypes = [WORDS, LENGTH] * 2
+        library.caviar_requests.argtypes = [WORDS, LENGTH] * 3
         library.caviar_page.argtypes = [WORDS, LENGTH, WORD, ctypes.POINTER(ctypes.c_uint8), LENGTH]
-        library.caviar_page.restype = Answer
+        library.caviar_party.argtypes = [WORDS, LENGTH, WORD, ctypes.POINTER(Guest), LENGTH]
+        for function in (library.caviar_lay, library.caviar_requests, library.caviar_page, library.caviar_party):
+            function.restype = Answer
     except (OSError, AttributeError) as error:
         raise Problem(f"no library with these functions, `tools/build-library` makes it: {error}") from None
     return library
@@ -37,17 +46,48 @@ def array(words):
     return (WORD * len(words))(*words)
 
 
-def served(settings, requests):
-    """The book of the settings after the requests, and the answer to each."""
+def taken(done, what):
+    """A call that nothing can refuse here was done."""
+    if done.number:
+        raise Problem(f"the library refuses {what} by {done.number}")
+
+
+def laid(settings):
+    """The fresh book of the settings."""
+    words = array(settings.words())
+    book = (WORD * settings.book_length())()
+    taken(loaded().caviar_lay(words, len(words), book, len(book)), "these settings")
+    return book
+
+
+def answered(book, requests):
+    """The answer to each of the requests, which the book is moved along by."""
     flat = array([word for request in requests for word in request])
     assert len(flat) == WORDS_OF_REQUEST * len(requests)
     answers = (WORD * (WORDS_OF_ANSWER * len(requests)))()
-    words = array(settings.words())
-    book = (WORD * settings.book_length())()
-    done = loaded().caviar_serve(words, len(words), book, len(book), flat, len(flat), answers, len(answers))
-    if done.number:
-        raise Problem(f"the library refuses these settings by {done.number}")
-    return book, [tuple(answers[at:at + WORDS_OF_ANSWER]) for at in range(0, len(answers), WORDS_OF_ANSWER)]
+    taken(loaded().caviar_requests(book, len(book), flat, len(flat), answers, len(answers)), "this book")
+    return [tuple(answers[at:at + WORDS_OF_ANSWER]) for at in range(0, len(answers), WORDS_OF_ANSWER)]
+
+
+def admitted(book, party):
+    """The answer to a party, and which guest it is for, counted from 1; 0 for none.
+
+    The answer does not name the guest. It is the first one who is refused when they are added one by one to a copy.
+    """
+    copy = type(book).from_buffer_copy(book)
+    guests = (Guest * len(party.guests))(*party.guests)
+    done = loaded().caviar_party(book, len(book), party.meeting, guests, len(guests))
+    singly = answered(copy, party.requests()) if done.number not in (0, 27) else []
+    refused = next((at for at, answer in enumerate(singly, 1) if answer[0]), 0)
+    return done.number, done.place, done.value, refused
+
+
+def played(settings, calls):
+    """The book of the settings after the calls, requests and parties, and the answer to each."""
+    book, answers = laid(settings), []
+    for of_parties, run in itertools.groupby(calls, lambda call: isinstance(call, Party)):
+        answers += [admitted(book, party) for party in run] if of_parties else answered(book, list(run))
+    return book, answers
 
 
 def page(settings, book, date):

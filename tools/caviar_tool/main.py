@@ -7,9 +7,9 @@ from pathlib import Path
 
 from . import library
 from . import typed as words_typed
-from .explain import explained, question, sentence_alone, sentence_of_settings
+from .explain import echo, explained, question, sentence_alone, sentence_of_party, sentence_of_settings
 from .lines import printable, read_answer, read_lines, text_lines, written
-from .rules import INFO, KINDS, QUESTIONS, Problem, Raw, Request, Settings
+from .rules import INFO, KINDS, QUESTIONS, Problem, Raw, Settings
 
 BAD_INPUT = 2
 
@@ -19,15 +19,27 @@ ABOUT = """The booking book for people: typed requests to the lines that the pro
     frames < requests > answers
     caviar explain --with site.txt < answers
 
-The porter's page of a date is printed from the site alone, by the library that tools/build-library makes:
+The porter's page of a date, and what a party is answered, are told from the site alone, by the library that
+tools/build-library makes:
 
     caviar page 0 < site.txt
+    caviar party meeting 0 visitor 1 sessions 0..1, visitor 2 session 1 < site.txt
 """
 
 PAGE = """
-The site is settings and requests, typed or in the program's lines. The page has a line for each session and conference
-room in use: session, room, meeting, visitors who attend, information. Requests that are refused are told on standard
-error; the page is that of the book which the others make.
+The site is settings and requests, typed or in the program's lines, and parties where it is typed. The page has a line
+for each session and conference room in use: session, room, meeting, visitors who attend, information. What is refused
+is told on standard error; the page is that of the book which the rest makes.
+"""
+
+PARTY = """
+A party is a meeting and guests with a comma between two, each a visitor with their sessions. All of them are added, or
+where one is refused none; the sentence says which one and why.
+
+    caviar party meeting 3 visitor 1 sessions 4..5, visitor 2 session 4 < site.txt
+
+The site is settings and requests, typed or in the program's lines, and parties where it is typed. What of it is refused
+is told on standard error. The same words as a line of a typed site let the party join it.
 """
 
 
@@ -75,9 +87,9 @@ def answers_of(text):
     return answers
 
 
-def entries_in(text):
-    """The entries of a text of requests, typed or in lines."""
-    return words_typed.parse_text(text) if words_typed.is_typed(text) else read_lines(text)
+def entries_in(text, parties=False):
+    """The entries of a text of requests, typed or in lines; of parties too where they are taken."""
+    return words_typed.parse_text(text, parties) if words_typed.is_typed(text) else read_lines(text)
 
 
 def requests_of(path):
@@ -105,29 +117,44 @@ def explain(options):
 
 
 def answered(entries):
-    """The book that the entries of an input lead to, and the answer to each request, as the program would give it."""
+    """The book that the entries of a site lead to, and the answer to each, as the program would give it to a line."""
     first = entries[0] if entries else Raw("")
     if not isinstance(first, Settings):
         raise Problem(sentence_of_settings(Raw(written(first)), (24, 0, 0)))
-    book, answers = library.served(first, [entry for entry in entries[1:] if isinstance(entry, Request)])
+    book, answers = library.played(first, [entry for entry in entries[1:] if not isinstance(entry, Raw)])
     given = iter(answers)
-    return book, [next(given) if isinstance(entry, Request) else (23, 0, 0) for entry in entries[1:]]
+    return book, [(23, 0, 0) if isinstance(entry, Raw) else next(given) for entry in entries[1:]]
+
+
+def tell_refused(entries, answers, where):
+    """Says on standard error what of a site was refused."""
+    refused = [told for told, answer in zip(explained(entries, answers), answers) if answer[0]]
+    if refused:
+        told = [line for sentence in refused for line in text_lines(sentence)]
+        complain(f"requests that were refused and left no mark on this {where}: {len(refused)}", *told)
 
 
 def page(options):
-    """The lines of the porter's page. Requests that were refused are told on standard error."""
+    """The lines of the porter's page. What of the site was refused is told on standard error."""
     date = words_typed.number(options.date)
-    entries = entries_in(standard_input())
+    entries = entries_in(standard_input(), parties=True)
     book, answers = answered(entries)
     number, lines = library.page(entries[0], book, date)
     if number:  # 7: the book is a good one, and the page has room for every line
         there = f"the dates here are 0 to {entries[0].limit('dates') - 1}"
         raise Problem(f"Refused by {number}: there is no date {date}; {there}. {question(number)}")
-    refused = [told for told, answer in zip(explained(entries, answers), answers) if answer[0]]
-    if refused:
-        told = [line for sentence in refused for line in text_lines(sentence)]
-        complain(f"requests that were refused and left no mark on this page: {len(refused)}", *told)
+    tell_refused(entries, answers, "page")
     return text_lines(text_of(lines))
+
+
+def party(options):
+    """The party as it would be typed, and its answer. What of the site was refused is told on standard error."""
+    asked = words_typed.parse_party(" ".join(options.words).lower().split())
+    entries = entries_in(standard_input(), parties=True)
+    book, answers = answered(entries)
+    told = sentence_of_party(entries[0], asked, library.admitted(book, asked))
+    tell_refused(entries, answers, "book")
+    return [echo(asked), f"    {told}"]
 
 
 def table(_):
@@ -172,7 +199,9 @@ def parser():
                             help="the file that was answered, typed or in lines; sentences then say what and when")
     paging = command(page, "page", "print the porter's page of a date, from the site on standard input", PAGE)
     paging.add_argument("date", metavar="DATE", help="the date, from 0")
-    command(table, "table", "print the refusal numbers 1 to 26 with their rules")
+    joining = command(party, "party", "say what a party is answered, on the site on standard input", PARTY)
+    joining.add_argument("words", nargs="+", metavar="WORD", help="meeting N, then visitor N sessions N..N, ..")
+    command(table, "table", "print the refusal numbers 1 to 27 with their rules")
     command(kinds, "kinds", "print the kinds of requests and the words that each takes")
     return top
 

@@ -7,6 +7,9 @@ WORD_LIMIT = 2 ** 32
 # The program keeps a book of at most so many words.
 MOST_WORDS = 16_384
 
+# A party has at most so many guests.
+MOST_GUESTS = 64
+
 # The one word of a request that may be left out.
 INFO = "info"
 
@@ -107,8 +110,8 @@ KINDS = [
 BY_NUMBER = {kind.number: kind for kind in KINDS}
 BY_NAME = {kind.name: kind for kind in KINDS}
 
-# The questions of section 5, as what must be so, with the kinds that they are asked of; none where a line, a book or
-# settings are asked about.
+# The questions of section 5, as what must be so, with the kinds that they are asked of; none where a line, a book,
+# settings, a page or a party are asked about.
 EVERY = tuple(BY_NUMBER)
 QUESTIONS = {
     1: ("the words must be as many as their settings ask for, and these settings in range", ()),
@@ -137,6 +140,7 @@ QUESTIONS = {
     24: ("settings must be complete and in range", ()),
     25: ("the book must have the length that its settings ask for; in the program, at most 16,384 words", ()),
     26: ("the page must have room for its lines, 31 bytes each", ()),
+    27: ("a party must have a guest, and no more than 64 of them", ()),
 }
 
 
@@ -202,6 +206,25 @@ class Request(NamedTuple):
     last: int = 0
     n: int = 0
     info: int = 0
+
+
+class Guest(NamedTuple):
+    """A guest of a party."""
+
+    visitor: int
+    first: int
+    last: int
+
+
+class Party(NamedTuple):
+    """Guests for one meeting, who are all added, or none."""
+
+    meeting: int
+    guests: tuple
+
+    def requests(self):
+        """The requests that add the guests one by one."""
+        return [Request(BY_NAME["add-attend"].number, self.meeting, *guest) for guest in self.guests]
 
 
 class Raw(NamedTuple):

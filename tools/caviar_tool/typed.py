@@ -4,9 +4,11 @@
     add-hotel room 0 visitor 1 dates 0..1      # a kind by name or number, then its fields in any order
     4 room 0 visitor 1 date 0                  # one slot
     add-leave b 1 first 0 last 1               # the request's own field names do as well
+    party meeting 0 visitor 1 sessions 0..1, visitor 2 session 1     # all of these guests or none
 
 Every word that the kind takes must be there; only `info` may be left out, and is then 0.
 Settings come first. `raw TEXT` stands for the line TEXT as it is. Numbers are in base ten, or with 0x in base sixteen.
+A party begins with its meeting; it is for `caviar page` and `caviar party`, since the program has no line for it.
 The words are written as they are typed: whether a request is accepted is for the program to say.
 """
 
@@ -14,9 +16,13 @@ import difflib
 import re
 
 from .lines import text_lines
-from .rules import BY_NAME, BY_NUMBER, LIMITS, WORD_LIMIT, Problem, Raw, Request, Settings, settings_of
+from .rules import (BY_NAME, BY_NUMBER, LIMITS, WORD_LIMIT, Guest, Party, Problem, Raw, Request, Settings,
+                    settings_of)
 
 FIELDS = ("a", "b", "first", "last", "n", "info")
+RUN = ("first", "last")
+A_PARTY = "party meeting 0 visitor 1 sessions 0..1, visitor 2 session 1"
+GUEST_WORDS = {"visitor": ("visitor",), "session": RUN, "sessions": RUN, "first": ("first",), "last": ("last",)}
 UNITS = {"date": "date", "dates": "date", "session": "session", "sessions": "session", "time": "time", "times": "time"}
 RAW = re.compile(r"\s*raw(?:\s(.*))?", re.DOTALL | re.IGNORECASE)
 
@@ -45,7 +51,7 @@ def kind_of(text):
         return BY_NAME[text].number
     if re.fullmatch(r"[0-9]+|0x[0-9a-f]+", text, re.ASCII):
         return number(text)
-    near = difflib.get_close_matches(text, list(BY_NAME) + ["settings", "raw"], 1)
+    near = difflib.get_close_matches(text, list(BY_NAME) + ["settings", "party", "raw"], 1)
     hint = f"did you mean {near[0]}?" if near else "`caviar kinds` lists the kinds"
     raise Problem(f"there is no kind '{text}'; {hint}")
 
@@ -65,7 +71,7 @@ def fields_named(kind_number, word):
         if kind and UNITS[word] != kind.unit:
             raise Problem(f"{kind.name} takes {kind.unit}s, not {UNITS[word]}s")
         if kind:
-            return ("first", "last")
+            return RUN
     names = kind.fields() if kind else {}
     if word not in names:
         takes = ", ".join(kind.uses()) if kind else ", ".join(FIELDS)
@@ -80,20 +86,49 @@ def pairs(words):
     return zip(words[::2], words[1::2])
 
 
+def fill(given, word, fields, text):
+    """Puts what comes after a word into the fields that it names, each of them once."""
+    values = slots(text) if len(fields) == 2 else (number(text),)
+    for field, value in zip(fields, values):
+        if field in given:
+            raise Problem(f"'{word}' says again what was said before")
+        given[field] = value
+
+
 def parse_request(head, words):
     kind_number = kind_of(head)
     given = {}
     for word, text in pairs(words):
-        fields = fields_named(kind_number, word)
-        values = slots(text) if len(fields) == 2 else (number(text),)
-        for field, value in zip(fields, values):
-            if field in given:
-                raise Problem(f"'{word}' says again what was said before")
-            given[field] = value
+        fill(given, word, fields_named(kind_number, word), text)
     missing = BY_NUMBER[kind_number].lacks(given) if kind_number in BY_NUMBER else []
     if missing:
         raise Problem(f"{called(kind_number)} lacks {', '.join(missing)}")
     return Request(kind_number, **given)
+
+
+def parse_guest(words):
+    given = {}
+    for word, text in pairs(words):
+        if word not in GUEST_WORDS:
+            raise Problem(f"a guest takes no '{word}'; it takes visitor, sessions")
+        fill(given, word, GUEST_WORDS[word], text)
+    missing = ["visitor"] * ("visitor" not in given)
+    missing += [field for field in RUN if field not in given] if set(RUN) & set(given) else ["sessions"]
+    if missing:
+        raise Problem(f"a guest lacks {', '.join(missing)}")
+    return Guest(**given)
+
+
+def parse_party(words):
+    """A party: its meeting, then its guests with a comma between two; there may be none."""
+    if len(words) < 2 or words[0] != "meeting":
+        raise Problem(f"a party begins with its meeting, as in: {A_PARTY}")
+    meeting, *rest = " ".join(words[1:]).split(",")
+    meeting, *first = meeting.split() or [""]
+    guests = [first] * bool(first) + [guest.split() for guest in rest]
+    if [] in guests:
+        raise Problem("a comma stands between two guests")
+    return Party(number(meeting), tuple(map(parse_guest, guests)))
 
 
 def parse_settings(words):
@@ -111,7 +146,7 @@ def parse_settings(words):
     return settings_of([given[name] for name in LIMITS] + [number(text) for text in words[at + 1:]])
 
 
-def parse_line(line, first):
+def parse_line(line, first, parties=False):
     """What a typed line holds, or None for a blank line or a comment. Settings are for the first one."""
     raw = RAW.fullmatch(line)
     if raw:
@@ -119,6 +154,10 @@ def parse_line(line, first):
     words = line.partition("#")[0].lower().split()
     if not words:
         return None
+    if words[0] == "party":
+        if not parties:
+            raise Problem("the program has no line for a party; `caviar page` and `caviar party` take it")
+        return parse_party(words[1:])
     if words[0] != "settings":
         return parse_request(words[0], words[1:])
     if not first:
@@ -126,12 +165,12 @@ def parse_line(line, first):
     return parse_settings(words[1:])
 
 
-def parse_text(text):
-    """What a typed text holds; a Problem names the line."""
+def parse_text(text, parties=False):
+    """What a typed text holds, with parties where they are taken; a Problem names the line."""
     entries = []
     for at, line in enumerate(text_lines(text), 1):
         try:
-            entry = parse_line(line, not entries)
+            entry = parse_line(line, not entries, parties)
         except Problem as problem:
             raise Problem(f"line {at}: {problem}") from None
         if entry is not None:
@@ -145,7 +184,7 @@ def is_typed(text):
         words = line.partition("#")[0].lower().split()
         if words:
             by_number = re.fullmatch(r"[0-9]{1,10}", words[0], re.ASCII) and words[1:2] and words[1].isalpha()
-            return bool(words[0] in BY_NAME or words[0] in ("settings", "raw") or by_number)
+            return bool(words[0] in BY_NAME or words[0] in ("settings", "party", "raw") or by_number)
     return True
 
 
@@ -167,6 +206,11 @@ def typed_request(request):
     return text + "".join(f" {field} {value}" for field, value in rest.items() if value)
 
 
+def typed_party(party):
+    guests = [f" visitor {guest.visitor}{typed_slots('session', guest.first, guest.last)}" for guest in party.guests]
+    return f"party meeting {party.meeting}{','.join(guests)}"
+
+
 def typed(entry):
     """An entry as it would be typed."""
     if isinstance(entry, Raw):
@@ -174,4 +218,4 @@ def typed(entry):
     if isinstance(entry, Settings):
         limits = " ".join(f"{name} {limit}" for name, limit in zip(LIMITS, entry.limits))
         return f"settings {limits} capacities {' '.join(map(str, entry.capacities))}"
-    return typed_request(entry)
+    return typed_party(entry) if isinstance(entry, Party) else typed_request(entry)

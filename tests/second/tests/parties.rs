@@ -92,6 +92,30 @@ fn the_questions_before_the_guests() {
     assert_eq!(refused(&unlawful, 0, &[]), [2, 0, 0], "visitor 0 has no leave on date 1; 2 comes before 27");
 }
 
+/// The example of docs/RULES.md (rule 17.5), which is examples/coach.txt.
+#[test]
+fn the_example_of_the_rules() {
+    let settings = Settings::from_words(&[2, 2, 2, 3, 2, 2, 1, 2, 1, 4]).expect("good settings");
+    let mut state = State::empty(settings);
+    let requests = [
+        [1, 0, 0, 0, 1, 0, 0],
+        [1, 0, 1, 0, 1, 0, 0],
+        [1, 0, 2, 1, 1, 0, 0],
+        [8, 1, 0, 1, 3, 0, 0],
+        [8, 0, 0, 3, 3, 0, 0],
+    ];
+    run(&mut state, &requests.map(Request::from_words));
+    let book = words(&state);
+    assert_eq!(refused(&book, 1, &[]), [27, 0, 0]);
+    assert_eq!(refused(&book, 2, &[[0, 1, 2], [1, 1, 1]]), [5, 0, 0]);
+    assert_eq!(refused(&book, 1, &[[0, 1, 2], [2, 1, 3]]), [9, 1, 0]);
+    assert_eq!(refused(&book, 1, &[[0, 1, 2], [1, 0, 3], [9, 1, 1]]), [10, 0, 0]);
+    assert_eq!(refused(&book, 1, &[[0, 1, 2], [1, 3, 3], [0, 2, 3]]), [11, 2, 0]);
+    let (answer, after) = asked(&book, 1, &[[0, 1, 2], [1, 1, 3], [2, 2, 3], [0, 3, 3]]);
+    assert_eq!((answer, &after[20..32]), ([0, 0, 0], &[0, 0, 0, 2, 2, 0, 2, 2, 2, 2, 2, 2][..]));
+    assert_eq!(refused(&after, 0, &[[1, 3, 3]]), [13, 3, 0]);
+}
+
 /// Sixteen visitors in each of four sessions, one record each.
 #[test]
 fn a_party_of_64_is_done_and_of_65_is_not() {
