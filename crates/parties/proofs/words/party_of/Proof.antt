@@ -44,12 +44,11 @@ slice-aggregate-join : tie.Need-slice-aggregate-join
 slice-aggregate-join c = search needs
 
 join-requires : tie.Need-join-requires
-join-requires c κs =
-    (
-      rw (c .before .before .settings .ensures)
-          (done-good _ _ (sym (c .before .before .before .before .before .before .before .before .check .ensures) ∙ c .before .before .before .before .before .before .enum-told .given .1)),
-      omega (arith, c .before .before .before .before .if2 .left, c .before .before .before .before .before .before .before .before .before .before .before .fits),
-    )
+join-requires c κs = (
+  rw (c .before .before .settings .ensures)
+      (done-good _ _ (sym (c .before .before .before .before .before .before .before .before .check .ensures) ∙ c .before .before .before .before .before .before .enum-told .given .1)),
+  omega (arith, c .before .before .before .before .if2 .left, c .before .before .before .before .before .before .before .before .before .before .before .fits),
+)
 
 same-length-4 : tie.Need-same-length-4
 same-length-4 c = search needs
