@@ -23,7 +23,7 @@ use Rattle.book.specs.Good.{Good}
 use Rattle.book.specs.declared.grid.Grids.{Grids}
 use Rattle.book.specs.Grids.{gridOf, gridsOf}
 use Rattle.book.specs.Stores.{Wrote, Swept}
-use Rattle.book.specs.Units.{OnDates}
+use Rattle.units.specs.Units.{OnDates}
 use Rattle.book.proofs.Goods.{good-words}
 use Rattle.book.proofs.Regions.{group-lt}
 use Rattle.book.proofs.RowRuns.{one-row}

@@ -12,7 +12,7 @@ use Rattle.model.specs.Machine.{change}
 use Rattle.model.specs.Words.{leaves, hotelCells, attendCells, rideCells}
 use Rattle.book.specs.Grids.{gridOf}
 use Rattle.book.specs.Stores.{Wrote, Swept}
-use Rattle.book.specs.Units.{OnDates}
+use Rattle.units.specs.Units.{OnDates}
 use Rattle.apply.specs.Stores.{markedAll, Emptied}
 
 -- the request, and the state after it

@@ -3,7 +3,7 @@ mod dates;
 mod rows;
 
 use book::grid;
-use book::settings;
+use header::settings;
 use model::Answer;
 use rules::tables;
 ghost use mathlib.Core.Path.{_≡_};

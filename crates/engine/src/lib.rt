@@ -3,7 +3,7 @@ pub mod list;
 pub mod step;
 
 use crate::list::answer_one;
-use book::settings::settings;
+use header::settings::settings;
 use model::Answer;
 use model::Request;
 ghost use mathlib.Core.Path.{_≡_};

@@ -23,7 +23,7 @@ use Rattle.model.proofs.Search.{never, and-right, both}
 use Rattle.model.proofs.Places.{settings-length}
 use Rattle.model.proofs.Shows.{good-valid}
 use Rattle.book.specs.Good.{answered}
-use Rattle.book.specs.Heads.{neededLength}
+use Rattle.header.specs.Heads.{neededLength}
 use Rattle.text.specs.Put.{Put}
 use Rattle.lines.specs.Stream.{later, over, silent, opened}
 use Rattle.lines.specs.Laying.{layable, LaidOf, LaidBy}

@@ -3,7 +3,7 @@
 use mathlib.Core.Path.{_∙_, ap}
 use Rattle.model.specs.Site.{validSettings}
 use Rattle.book.specs.Lent.{reading}
-use Rattle.book.proofs.Heads.{seats-low, laid-valid, laid-is}
+use Rattle.header.proofs.Heads.{seats-low, laid-valid, laid-is}
 use Rattle.checking.proofs.Question2.{lawful-said}
 use Rattle.checking.proofs.diary_lawful.Statement.{statement}
 use Rattle.checking.proofs.diary_lawful.Tie as tie

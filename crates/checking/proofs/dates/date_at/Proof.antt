@@ -7,7 +7,7 @@ use borrow.Author.Needs.{needs}
 use Rattle.model.specs.Words.{leaves, hotelCells, standings, attendCells, confPairs, lunchTriples, rideCells}
 use Rattle.model.specs.Kinds.{sessions, times}
 use Rattle.book.specs.Lent.{reading}
-use Rattle.book.proofs.Regions.{unit-le}
+use Rattle.units.proofs.Slots.{unit-le}
 use Rattle.checking.proofs.Addresses.{block-fits, block-run, one-long}
 use Rattle.rules.proofs.Answers.{relay}
 use Rattle.checking.proofs.Facts.{day-kept, kept-day}
