@@ -1,6 +1,5 @@
-// Requests on a book: one step, a request on any words, a list of requests, and a list from a freshly laid book.
+// Requests on a book: a request on any words, a list of requests, and a list from a freshly laid book.
 pub mod list;
-pub mod step;
 
 use crate::list::answer_one;
 use header::settings::settings;

@@ -31,7 +31,7 @@ use Rattle.lines.specs.Post.{EndedOf}
 use Rattle.lines.specs.declared.lay.Laid.{Laid}
 use Rattle.lines.specs.declared.lay.Laid.the-variants.{Book, Refused}
 use Rattle.lines.proofs.Whole.{settings-short}
-use Rattle.engine.proofs.Kept.{fresh-good}
+use Rattle.step.proofs.Kept.{fresh-good}
 use Rattle.lines.proofs.Books.{fresh-shows}
 use Rattle.lines.proofs.Turns.{put-wrote, put-past}
 

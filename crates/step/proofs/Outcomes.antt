@@ -22,7 +22,7 @@ use Rattle.kinds.proofs.Limits.{ready-by}
 use Rattle.judge.specs.Chains.{answerFor}
 use Rattle.judge.proofs.Whole.{unless, unless-some, step-is}
 use Rattle.apply.specs.Removals.{without}
-use Rattle.engine.proofs.Kept.{good-diary}
+use Rattle.step.proofs.Kept.{good-diary}
 
 -- a refused request leaves the words of a good diary
 pub refused-book : {S : Settings} {b : List ℕ} → Good S b → (r : Request) {n p : ℕ} → step (stateOf b) r .answer ≡ Refused n p

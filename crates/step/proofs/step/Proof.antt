@@ -1,13 +1,13 @@
--- `step::step`: kind 3 by itself; every other kind is judged, and written where it is done.
+-- `step`: kind 3 by itself; every other kind is judged, and written where it is done.
 -- Assumes nothing.
 use mathlib.Core.Path.{refl, sym, _∙_, ap, ap₂}
 use borrow.Author.Needs.{needs}
 use Rattle.book.specs.Good.{answered}
 use Rattle.book.proofs.Goods.{good-laid}
 use Rattle.apply.specs.Accepted.{accepted}
-use Rattle.engine.proofs.Outcomes.{refused-book}
-use Rattle.engine.proofs.step.step.Statement.{statement}
-use Rattle.engine.proofs.step.step.Tie as tie
+use Rattle.step.proofs.Outcomes.{refused-book}
+use Rattle.step.proofs.step.Statement.{statement}
+use Rattle.step.proofs.step.Tie as tie
 
 removed-requires : tie.Need-removed-requires
 removed-requires c κs = search needs

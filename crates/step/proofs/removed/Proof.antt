@@ -1,4 +1,4 @@
--- `step::removed`: refused by the first no of questions 4 to 7, and else the removal's words and its count.
+-- `removed`: refused by the first no of questions 4 to 7, and else the removal's words and its count.
 -- Assumes nothing.
 use mathlib.Core.Path.{refl, _∙_, ap}
 use native.Mathlib.Omega.{arith}
@@ -6,9 +6,9 @@ use borrow.Author.Needs.{needs}
 use Rattle.book.proofs.Goods.{good-laid}
 use Rattle.kinds.specs.declared.table.Row.{Row}
 use Rattle.kinds.specs.Rows.{fieldsNo}
-use Rattle.engine.proofs.Outcomes.{removal-refused, removal-ready, removal-done}
-use Rattle.engine.proofs.step.removed.Statement.{statement}
-use Rattle.engine.proofs.step.removed.Tie as tie
+use Rattle.step.proofs.Outcomes.{removal-refused, removal-ready, removal-done}
+use Rattle.step.proofs.removed.Statement.{statement}
+use Rattle.step.proofs.removed.Tie as tie
 
 row-of-requires : tie.Need-row-of-requires
 row-of-requires c κs = (good-laid (c .before .pre .0) .ranges, (omega arith, omega arith))

@@ -1,13 +1,13 @@
--- `step::book_step`: a step on the first part, and what stands behind it stays.
+-- `book_step`: a step on the first part, and what stands behind it stays.
 -- Assumes nothing.
 use mathlib.Core.Path.{sym}
 use lib.Seq.{length-take-le}
 use Rattle.model.proofs.Ledger.{diary-fits}
 use Rattle.book.specs.Lent.{reading}
-use Rattle.engine.proofs.Kept.{part-good, part-stepped}
+use Rattle.step.proofs.Kept.{part-good, part-stepped}
 use borrow.Author.Needs.{needs}
-use Rattle.engine.proofs.step.book_step.Statement.{statement}
-use Rattle.engine.proofs.step.book_step.Tie as tie
+use Rattle.step.proofs.book_step.Statement.{statement}
+use Rattle.step.proofs.book_step.Tie as tie
 
 slice-relend-prefix-step : tie.Need-slice-relend-prefix-step
 slice-relend-prefix-step c = let p = c .before .pre in diary-fits _ (p .0 .laid) (p .0 .read) (p .1)
