@@ -2,7 +2,7 @@
 mod dates;
 mod rows;
 
-use book::grid;
+use book::grid::site_of;
 use header::settings;
 use model::Answer;
 use rules::tables;
@@ -19,8 +19,8 @@ fn diary_lawful(book: &[u32]) -> bool
 {
     let s = settings::settings(book);
     let caps = tables::caps_of(s);
-    let grids = grid::grids_of(s);
-    dates::dates(book, s, grids, &caps)
+    let site = site_of(s);
+    dates::dates(book, site, &caps)
 }
 
 // Question 2 of what stands behind the diary: so far nothing, and nothing is asked.
