@@ -1,7 +1,7 @@
 // The settings line: the book that it lays.
-use crate::line::line_words;
-use crate::line::whole_words;
 use book::grid::LIMITS;
+use framing::line::line_words;
+use framing::line::whole_words;
 use header::lay::lay;
 use header::settings::book_len;
 ghost use Prim.Native.Nat.{_≤_};
