@@ -2,7 +2,7 @@
 -- Assumes nothing.
 use mathlib.Core.Path.{sym, _∙_}
 use borrow.Author.Needs.{needs}
-use Rattle.engine.proofs.Kept.{good-call}
+use Rattle.step.proofs.Kept.{good-call}
 use Rattle.checking.proofs.Verdicts.{done-good}
 use Rattle.engine.proofs.Whole.{request-refused, with-removal}
 use Rattle.engine.proofs.request.Statement.{statement}
