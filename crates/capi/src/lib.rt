@@ -1,8 +1,8 @@
 // The engine for C and Rust. Every function takes any words: none has a `requires`.
-use book::lay::lay;
-use book::settings::book_len;
 use checking::check;
 use engine::list;
+use header::lay::lay;
+use header::settings::book_len;
 use model::Answer;
 use model::Guest;
 use model::Request;

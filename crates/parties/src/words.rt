@@ -1,7 +1,7 @@
 // A party whose guests come as words, three a guest: each is added by a request of kind 10, and where one is refused those before are
 // taken back by requests of kind 11, the last one first. So a refusal leaves every word as it was, and no copy of the book is kept.
-use book::settings::settings;
 use engine::list::answer_one;
+use header::settings::settings;
 use model::Answer;
 use model::Request;
 use model::Settings;
