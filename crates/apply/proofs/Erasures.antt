@@ -24,12 +24,13 @@ use Rattle.model.proofs.Laws.{Sound}
 use Rattle.model.proofs.Places.{Cell}
 use Rattle.model.proofs.Keeps.{Yes, said, yes, slots-fit}
 use Rattle.book.specs.Grids.{gridOf}
-use Rattle.book.proofs.Regions.{group-lt, date-lt}
+use Rattle.book.proofs.Regions.{group-lt}
+use Rattle.units.proofs.Slots.{date-lt}
 use Rattle.book.proofs.Goods.{ranges-by}
 use Rattle.book.specs.Stores.{wordIn, empty, swept}
 use Rattle.apply.specs.Removals.{without}
 use Rattle.apply.specs.Stores.{filled, markedAll}
-use Rattle.book.specs.Units.{OnDates}
+use Rattle.units.specs.Units.{OnDates}
 use Rattle.apply.proofs.Writes.{empty-word}
 use Rattle.apply.proofs.Stages.{Frame, Carries, column, rows, bits, up-to, in-slots, last-slot}
 use Rattle.apply.proofs.Contents.{emptied, swept-of, some-less, less-same, turned, turned-bits}

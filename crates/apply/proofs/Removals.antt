@@ -23,7 +23,7 @@ use Rattle.book.specs.Good.{Good}
 use Rattle.book.specs.declared.grid.Grids.{Grids}
 use Rattle.book.specs.Grids.{gridOf, gridsOf}
 use Rattle.book.specs.Stores.{Wrote, Swept}
-use Rattle.book.specs.Units.{OnDates}
+use Rattle.units.specs.Units.{OnDates}
 use Rattle.book.proofs.Goods.{good-words}
 use Rattle.book.proofs.Regions.{group-lt}
 use Rattle.book.proofs.RowRuns.{one-row}
@@ -118,11 +118,11 @@ removing-few {S} {v} {first} {last} {b₀} {d} {b} good r h k =
     omega (arith, k, r .count, bookings-first (stateOf b) v d last h, bookings-few good v first last)
 
 -- the four writes of one date, by grids that are the site's
-pub erased-by : {S : Settings} {G : Grids} {v d lo hi from to : ℕ} {b b1 b2 b3 c : List ℕ} {r1 r2 r3 : ℕ} → G ≡ gridsOf S
-    → OnDates S times d d lo hi → OnDates S sessions d d from to → Wrote (markedAll (G .leave) false v d (d + 1)) b b1
-    → Swept (G .hotel) (v + 1) d (d + 1) b1 b2 r1 → Swept (G .ride) (v + 1) lo hi b2 b3 r2 → Emptied (G .attend) v from to b3 c r3
-    → Erased S v d b c (r1 + r2 + r3)
-erased-by {S} {G} {v} {d} {lo} {hi} {from} {to} {b} {b1} {b2} {b3} {c} {r1} {r2} {r3} e rides meetings leave hotel ride attend =
+pub erased-by : {S : Settings} {G : Grids} {v d lo hi from to : ℕ} {b afterLeave afterHotel afterRides c : List ℕ} {hotelCount rideCount attendCount : ℕ} → G ≡ gridsOf S
+    → OnDates S times d d lo hi → OnDates S sessions d d from to → Wrote (markedAll (G .leave) false v d (d + 1)) b afterLeave
+    → Swept (G .hotel) (v + 1) d (d + 1) afterLeave afterHotel hotelCount → Swept (G .ride) (v + 1) lo hi afterHotel afterRides rideCount → Emptied (G .attend) v from to afterRides c attendCount
+    → Erased S v d b c (hotelCount + rideCount + attendCount)
+erased-by {S} {G} {v} {d} {lo} {hi} {from} {to} {b} {afterLeave} {afterHotel} {afterRides} {c} {hotelCount} {rideCount} {attendCount} e rides meetings leave hotel ride attend =
     record {
       lo = lo;
       hi = hi;
@@ -130,16 +130,16 @@ erased-by {S} {G} {v} {d} {lo} {hi} {from} {to} {b} {b1} {b2} {b3} {c} {r1} {r2}
       to = to;
       rides = rides;
       meetings = meetings;
-      b1 = b1;
-      b2 = b2;
-      b3 = b3;
-      r1 = r1;
-      r2 = r2;
-      r3 = r3;
-      leave = subst (λ (G : Grids). Wrote (markedAll (G .leave) false v d (d + 1)) b b1) e leave;
-      hotel = subst (λ (G : Grids). Swept (G .hotel) (v + 1) d (d + 1) b1 b2 r1) e hotel;
-      ride = subst (λ (G : Grids). Swept (G .ride) (v + 1) lo hi b2 b3 r2) e ride;
-      attend = subst (λ (G : Grids). Emptied (G .attend) v from to b3 c r3) e attend;
+      afterLeave = afterLeave;
+      afterHotel = afterHotel;
+      afterRides = afterRides;
+      hotelCount = hotelCount;
+      rideCount = rideCount;
+      attendCount = attendCount;
+      leave = subst (λ (G : Grids). Wrote (markedAll (G .leave) false v d (d + 1)) b afterLeave) e leave;
+      hotel = subst (λ (G : Grids). Swept (G .hotel) (v + 1) d (d + 1) afterLeave afterHotel hotelCount) e hotel;
+      ride = subst (λ (G : Grids). Swept (G .ride) (v + 1) lo hi afterHotel afterRides rideCount) e ride;
+      attend = subst (λ (G : Grids). Emptied (G .attend) v from to afterRides c attendCount) e attend;
       count = refl;
     }
 
@@ -164,9 +164,9 @@ erased-count {S} {b} {c} {v} {d} good hv hd e =
     let leave = markedAll-writes S leaves refl false v d (d + 1) (omega (arith, hd)) (group-lt (S .visitors) v hv) in
     let hotel = swept-writes S hotelCells (v + 1) d (d + 1) (omega (arith, hd)) in
     let ride = swept-writes S rideCells (v + 1) (e .lo) (e .hi) (e .rides .ends .most) in
-    let k1 : Kept S hotelCells b (e .b1) = kept-by leave refl (e .leave .is) in
-    let k2 : Kept S rideCells b (e .b2) = kept-then (kept-by leave refl (e .leave .is)) (kept-by hotel refl (e .hotel .wrote .is)) in
-    let k3 : Kept S attendCells b (e .b3) = kept-then (kept-then (kept-by leave refl (e .leave .is))
+    let k1 : Kept S hotelCells b (e .afterLeave) = kept-by leave refl (e .leave .is) in
+    let k2 : Kept S rideCells b (e .afterHotel) = kept-then (kept-by leave refl (e .leave .is)) (kept-by hotel refl (e .hotel .wrote .is)) in
+    let k3 : Kept S attendCells b (e .afterRides) = kept-then (kept-then (kept-by leave refl (e .leave .is))
     (kept-by hotel refl (e .hotel .wrote .is))) (kept-by ride refl (e .ride .wrote .is)) in
     omega (
       arith,

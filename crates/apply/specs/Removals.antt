@@ -12,7 +12,7 @@ use Rattle.model.specs.Machine.{change}
 use Rattle.model.specs.Words.{leaves, hotelCells, attendCells, rideCells}
 use Rattle.book.specs.Grids.{gridOf}
 use Rattle.book.specs.Stores.{Wrote, Swept}
-use Rattle.book.specs.Units.{OnDates}
+use Rattle.units.specs.Units.{OnDates}
 use Rattle.apply.specs.Stores.{markedAll, Emptied}
 
 -- the request, and the state after it
@@ -30,14 +30,14 @@ pub record Erased (S : Settings) (v d : ℕ) (b c : List ℕ) (r : ℕ) : Type 0
   pub to : ℕ
   pub rides : OnDates S times d d lo hi
   pub meetings : OnDates S sessions d d from to
-  pub b1 : List ℕ
-  pub b2 : List ℕ
-  pub b3 : List ℕ
-  pub r1 : ℕ
-  pub r2 : ℕ
-  pub r3 : ℕ
-  pub leave : Wrote (markedAll (gridOf S leaves) false v d (d + 1)) b b1
-  pub hotel : Swept (gridOf S hotelCells) (v + 1) d (d + 1) b1 b2 r1
-  pub ride : Swept (gridOf S rideCells) (v + 1) lo hi b2 b3 r2
-  pub attend : Emptied (gridOf S attendCells) v from to b3 c r3
-  pub count : r ≡ r1 + r2 + r3
+  pub afterLeave : List ℕ
+  pub afterHotel : List ℕ
+  pub afterRides : List ℕ
+  pub hotelCount : ℕ
+  pub rideCount : ℕ
+  pub attendCount : ℕ
+  pub leave : Wrote (markedAll (gridOf S leaves) false v d (d + 1)) b afterLeave
+  pub hotel : Swept (gridOf S hotelCells) (v + 1) d (d + 1) afterLeave afterHotel hotelCount
+  pub ride : Swept (gridOf S rideCells) (v + 1) lo hi afterHotel afterRides rideCount
+  pub attend : Emptied (gridOf S attendCells) v from to afterRides c attendCount
+  pub count : r ≡ hotelCount + rideCount + attendCount

@@ -1,8 +1,7 @@
 -- The regions as grids: each starts where the one before ends, all lie in the book, and their numbers are small.
 -- Assumes nothing.
 use Prim.Native.Nat.{ℕ, _+_, _*_, _/_, _-_, _≤_, _<_}
-use native.Mathlib.Nat.{mul-le-mul, div-lt-iff-lt-mul}
-use Rattle.model.specs.Kinds.{Unit, dates, sessions, times, slotsOf, dateOf}
+use native.Mathlib.Nat.{mul-le-mul}
 use native.Mathlib.Omega.{arith}
 use mathlib.Core.Path.{_≡_, ap}
 use mathlib.Core.List.{List}
@@ -12,17 +11,11 @@ use Rattle.book.specs.Grids.{Fits, Small, end}
 use Rattle.book.specs.Grids.{gridOf, Laid}
 use Rattle.book.specs.Lent.{Lies}
 use Rattle.model.specs.declared.Settings.{Settings}
-use Rattle.book.specs.Ranges.{Ranges}
-use Rattle.model.specs.Site.{allSessions, allTimes}
+use Rattle.units.specs.Ranges.{Ranges}
 use Rattle.model.proofs.Places.{settings-length}
+use Rattle.units.proofs.Slots.{all-sessions, all-times}
 use Rattle.model.specs.Words.{Region, leaves, hotelCells, standings, attendCells, confPairs, lunchTriples, rideCells}
 use Rattle.model.specs.Words.{base, slots, items, width, size, diaryLength}
-
-pub all-sessions : (S : Settings) → Ranges S → allSessions S ≤ 6400
-all-sessions S h = mul-le-mul {n₂ = 400} {m₂ = 16} (h .dates .1) (h .sessions .1)
-
-pub all-times : (S : Settings) → Ranges S → allTimes S ≤ 38400
-all-times S h = mul-le-mul {n₂ = 400} {m₂ = 96} (h .dates .1) (h .times .1)
 
 slots-le : (S : Settings) → Ranges S → (g : Region) → slots S g ≤ 38400
 slots-le S h leaves = omega (arith, h .dates)
@@ -115,12 +108,7 @@ pub grid-by : (S : Settings) (g : Region) (n : ℕ) → n ≡ base S g
     → _≡_ {A = Grid} (record { base = n; slots = slots S g; items = items S g; width = width g }) (gridOf S g)
 grid-by S g n e = ap (λ (n : ℕ). record { base = n; slots = slots S g; items = items S g; width = width g }) e
 
--- the date of a slot is a date, and the word of a visitor a word of the row
-pub date-lt : (S : Settings) → Ranges S → (u : Unit) (i : ℕ) → i < slotsOf S u → dateOf S u i < S .dates
-date-lt S h dates i l = l
-date-lt S h sessions i l = div-lt-iff-lt-mul {k = S .sessions} (h .sessions .0) .1 l
-date-lt S h times i l = div-lt-iff-lt-mul {k = S .times} (h .times .0) .1 l
-
+-- the word of a visitor is a word of the row
 pub group-lt : (n v : ℕ) → v < n → v / 32 < (n + 31) / 32
 group-lt n v h = omega (arith, h)
 
@@ -128,11 +116,6 @@ pub product3 : (g : Grid) → Small g → (g .slots * g .items ≤ 19660800) × 
 product3 g s =
     let a : g .slots * g .items ≤ 19660800 = mul-le-mul {n₂ = 38400} {m₂ = 512} (s .slots) (s .items) in
     (a, mul-le-mul {n₂ = 19660800} {m₂ = 3} a (s .width))
-
-pub unit-le : (S : Settings) → Ranges S → (u : Unit) → slotsOf S u ≤ 38400
-unit-le S h dates = omega (arith, h .dates)
-unit-le S h sessions = omega (arith, all-sessions S h)
-unit-le S h times = omega (arith, all-times S h)
 
 -- a slot has an item
 pub some-item : (S : Settings) → Ranges S → (g : Region) → 0 < items S g

@@ -1,10 +1,12 @@
 // The engine for C and Rust. Every function takes any words: none has a `requires`.
-use book::lay::lay;
-use book::settings::book_len;
 use checking::check;
 use engine::list;
+use header::lay::lay;
+use header::settings::book_len;
 use model::Answer;
+use model::Guest;
 use model::Request;
+use parties::party;
 ghost use mathlib.Core.Path.{_≡_};
 ghost use mathlib.Core.Bool.{cond};
 ghost use Rattle.model.specs.Machine.{answerWords};
@@ -135,4 +137,12 @@ pub extern "C" fn caviar_page(book: &[u32], date: u32, page: &mut [u8]) -> Answe
     ensures { λ r. ⌜ TellsPage (Page.page (now (book .entry)) date (now (page .entry))) r (now (page .exit)) ⌝ }
 {
     told(pages::page(book, date, page))
+}
+
+// A party: all its guests are to attend the meeting, or none. The guests are lent, three words each.
+#[no_mangle]
+pub extern "C" fn caviar_party(book: &mut [u32], meeting: u32, guests: &[Guest]) -> AnswerWords
+    ensures { λ r. ⌜ Tells (Calls.callParty (now (book .entry)) meeting (now (guests .entry))) r (now (book .exit)) ⌝ }
+{
+    told(party(book, meeting, guests))
 }

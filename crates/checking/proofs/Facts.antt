@@ -20,7 +20,7 @@ use Rattle.model.proofs.ReadBack.{inside-by}
 use Rattle.model.proofs.Sums.{sum-agree}
 use Rattle.pool.specs.Pool.{member}
 use Rattle.book.specs.Grids.{Laid}
-use Rattle.book.specs.Units.{OnDates}
+use Rattle.units.specs.Units.{OnDates}
 use Rattle.rules.specs.Rows.{rowAt, seatsIn}
 use Rattle.checking.specs.Days.{Met, Day, standsIn}
 use Rattle.checking.specs.Kept.{GuestsAt, SessionAt, seatsAt, Kept}

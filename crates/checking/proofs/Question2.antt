@@ -11,8 +11,8 @@ use lib.ListN.{getD}
 use borrow.Author.Tests.{ltb-true, ltb-false, lt-ltb, leb-true, le-leb, eqb-true, eq-eqb, ne-eqb}
 use Rattle.model.specs.declared.Settings.{Settings}
 use Rattle.model.specs.Bounded.{sum, within}
-use Rattle.book.specs.Ranges.{Ranges}
-use Rattle.book.proofs.Regions.{date-lt}
+use Rattle.units.specs.Ranges.{Ranges}
+use Rattle.units.proofs.Slots.{date-lt}
 use Rattle.model.specs.Site.{allSessions, allTimes, dateOfSession, dateOfTime, capacity}
 use Rattle.model.specs.Kinds.{sessions, times}
 use Rattle.model.specs.State.{seatsOf, hotels, rides, attends, confs, lunches, reserved}

@@ -9,7 +9,7 @@ use borrow.Author.Tests.{leb-true, leb-false, ltb-true}
 use Rattle.model.specs.declared.Settings.{Settings}
 use Rattle.model.specs.Kinds.{Unit, slotsOf, dateOf}
 use Rattle.model.proofs.Search.{and-left, and-right, true-within}
-use Rattle.book.specs.Units.{OnDates}
+use Rattle.units.specs.Units.{OnDates}
 
 module _ {S : Settings} {u : Unit} {d from to : ℕ} (o : OnDates S u d d from to) where
   pub run-order : from ≤ to

@@ -15,7 +15,7 @@ use Rattle.model.specs.Words.{Region, leaves, hotelCells, standings, attendCell
 use Rattle.model.specs.Reading.{at, bitAt, readState}
 use Rattle.book.specs.declared.grid.Grids.{Grids}
 use Rattle.book.specs.Grids.{Laid, gridsOf}
-use Rattle.book.specs.Units.{OnDates}
+use Rattle.units.specs.Units.{OnDates}
 use Rattle.checking.specs.Days.{Eaten}
 
 -- slot i of a region of visitors, on date d

@@ -2,24 +2,24 @@
 use crate::rows::guest_rows;
 use crate::rows::row_of;
 use book::blocks::block;
-use book::grid::Grids;
-use book::units::SessionRun;
-use book::units::TimeRun;
-use book::units::after;
-use book::units::date_of_session;
-use book::units::sessions_on;
-use book::units::times_on;
+use book::grid::Site;
 use model::Date;
 use model::Settings;
 use rules::row;
 use rules::tables;
+use units::SessionRun;
+use units::TimeRun;
+use units::after;
+use units::date_of_session;
+use units::sessions_on;
+use units::times_on;
 ghost use mathlib.Core.Path.{_≡_};
 ghost use Prim.Native.Nat.{ℕ, _*_, _≤_, _<_};
 ghost use mathlib.Core.Bool.{true};
 ghost use lib.ListN.{length, getD};
 ghost use Rattle.model.specs.Words.{groups};
-ghost use Rattle.book.specs.Ranges.{Ranges};
-ghost use Rattle.book.specs.Grids.{gridsOf, Laid};
+ghost use Rattle.units.specs.Ranges.{Ranges};
+ghost use Rattle.book.specs.Grids.{Sited, Laid};
 ghost use Rattle.book.specs.Lent.{reading};
 ghost use Rattle.rules.specs.Rows.{Decides, Padded, Caps, rowAt};
 ghost use Rattle.checking.specs.Days.{Blanks, Session, Day, Long, Empty};
@@ -221,16 +221,15 @@ fn date(
 // Date d of a well-laid book: its row of each region by date, and the rows of its sessions and of its times, as many as there are.
 fn date_at(
     book: &[u32],
-    s: Settings,
-    grids: Grids,
+    site: Site,
     caps: &[u32; 17],
     d: Date,
     sessions: SessionRun,
     times: TimeRun,
 ) -> bool
-    requires { ⌜ At s (reading (now book)) grids (d .0) (sessions .from .0) (sessions .to .0) (times .from .0) (times .to .0) ⌝ }
-    requires { ⌜ Caps s (now caps) ⌝ }
-    ensures { λ r. ⌜ Decides r (Kept s (now (caps .entry)) (reading (now (book .entry))) (d .0)) ⌝ }
+    requires { ⌜ At (site .settings) (reading (now book)) (site .grids) (d .0) (sessions .from .0) (sessions .to .0) (times .from .0) (times .to .0) ⌝ }
+    requires { ⌜ Caps (site .settings) (now caps) ⌝ }
+    ensures { λ r. ⌜ Decides r (Kept (site .settings) (now (caps .entry)) (reading (now (book .entry))) (d .0)) ⌝ }
 {
     let day = d.0;
     let next = day + 1;
@@ -238,13 +237,13 @@ fn date_at(
     let to = sessions.to.0;
     let first = times.from.0;
     let last = times.to.0;
-    let leave = block(book, grids.leave, day, next);
-    let hotel = block(book, grids.hotel, day, next);
-    let stand = block(book, grids.standing, from, to);
-    let attend = block(book, grids.attend, from, to);
-    let conf = block(book, grids.conf, from, to);
-    let lunch = block(book, grids.lunch, day, next);
-    let ride = block(book, grids.ride, first, last);
+    let leave = block(book, site.grids.leave, day, next);
+    let hotel = block(book, site.grids.hotel, day, next);
+    let stand = block(book, site.grids.standing, from, to);
+    let attend = block(book, site.grids.attend, from, to);
+    let conf = block(book, site.grids.conf, from, to);
+    let lunch = block(book, site.grids.lunch, day, next);
+    let ride = block(book, site.grids.ride, first, last);
     let n = (to - from) as usize;
     let q = (last - first) as usize;
     date(
@@ -255,7 +254,7 @@ fn date_at(
         conf,
         lunch,
         ride,
-        s,
+        site.settings,
         caps,
         n,
         q,
@@ -263,18 +262,18 @@ fn date_at(
 }
 
 // Each date of a well-laid book. Which sessions and times are on a date is asked of the date-of functions.
-pub fn dates(book: &[u32], s: Settings, grids: Grids, caps: &[u32; 17]) -> bool
-    requires { ⌜ Laid s (reading (now book)) ⌝ }
-    requires { ⌜ grids ≡ gridsOf s ⌝ }
-    requires { ⌜ Caps s (now caps) ⌝ }
-    ensures { λ r. ⌜ Decides r ((d : ℕ) → d < s .dates → Kept s (now (caps .entry)) (reading (now (book .entry))) d) ⌝ }
+pub fn dates(book: &[u32], site: Site, caps: &[u32; 17]) -> bool
+    requires { ⌜ Laid (site .settings) (reading (now book)) ⌝ }
+    requires { ⌜ Sited site ⌝ }
+    requires { ⌜ Caps (site .settings) (now caps) ⌝ }
+    ensures { λ r. ⌜ Decides r ((d : ℕ) → d < site .settings .dates → Kept (site .settings) (now (caps .entry)) (reading (now (book .entry))) d) ⌝ }
 {
-    let days = s.dates;
-    let mut date = date_of_session(s, model::Session(0));
+    let days = site.settings.dates;
+    let mut date = date_of_session(site.settings, model::Session(0));
     while date.0 < days {
-        let sessions = sessions_on(s, date, date);
-        let times = times_on(s, date, date);
-        if !date_at(book, s, grids, caps, date, sessions, times) {
+        let sessions = sessions_on(site.settings, date, date);
+        let times = times_on(site.settings, date, date);
+        if !date_at(book, site, caps, date, sessions, times) {
             return false;
         }
         date = after(date);

@@ -2,8 +2,8 @@
 mod dates;
 mod rows;
 
-use book::grid;
-use book::settings;
+use book::grid::site_of;
+use header::settings;
 use model::Answer;
 use rules::tables;
 ghost use mathlib.Core.Path.{_≡_};
@@ -19,8 +19,8 @@ fn diary_lawful(book: &[u32]) -> bool
 {
     let s = settings::settings(book);
     let caps = tables::caps_of(s);
-    let grids = grid::grids_of(s);
-    dates::dates(book, s, grids, &caps)
+    let site = site_of(s);
+    dates::dates(book, site, &caps)
 }
 
 // Question 2 of what stands behind the diary: so far nothing, and nothing is asked.

@@ -1,5 +1,3 @@
-pub mod Kept
-pub mod Outcomes
 pub mod Splices
 pub mod Told
 pub mod Whole

@@ -14,7 +14,7 @@ use Rattle.model.specs.Ledger.{ledgerOf}
 use Rattle.model.specs.Calls.{Calls, calls, requestsOf, repliesWords}
 use Rattle.book.specs.Good.{GoodBook}
 use Rattle.engine.specs.Lists.{spliced, One, All}
-use Rattle.engine.proofs.Kept.{good-calls}
+use Rattle.step.proofs.Kept.{good-calls}
 
 -- three writes in a row
 pub write-three : (l : List ℕ) (i x y z : ℕ) → i + 3 ≤ length l → set (set (set l i x) (i + 1) y) (i + 2) z ≡ spliced l i (x ∷ y ∷ z ∷ [])

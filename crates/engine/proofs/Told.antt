@@ -18,7 +18,7 @@ use Rattle.model.specs.Ledger.{ledgerOf}
 use Rattle.model.specs.Calls.{Calls, called, calls, requestsOf, repliesWords}
 use Rattle.book.specs.Good.{GoodBook, answered}
 use Rattle.engine.specs.Lists.{All, toldBy}
-use Rattle.engine.proofs.Kept.{good-calls}
+use Rattle.step.proofs.Kept.{good-calls}
 
 some-number : (q : Question) → 0 < number q
 some-number Question.unusedZero = omega arith

@@ -22,7 +22,7 @@ use Rattle.model.proofs.Removal.{removal}
 use Rattle.book.specs.Good.{GoodBook, answered}
 use Rattle.engine.specs.Lists.{All, asListed}
 use Rattle.checking.proofs.Verdicts.{done-good}
-use Rattle.engine.proofs.Kept.{fresh-good}
+use Rattle.step.proofs.Kept.{fresh-good}
 
 done-refused : {n p v : ℕ} {A : Type 0} → Done v ≡ Refused n p → A
 done-refused e = absurd (let z : _≡_ {A = ℕ} 0 1 = cc in omega arith)

@@ -1,9 +1,8 @@
-// Requests on a book: one step, a request on any words, a list of requests, and a list from a freshly laid book.
+// Requests on a book: a request on any words, a list of requests, and a list from a freshly laid book.
 pub mod list;
-pub mod step;
 
 use crate::list::answer_one;
-use book::settings::settings;
+use header::settings::settings;
 use model::Answer;
 use model::Request;
 ghost use mathlib.Core.Path.{_≡_};

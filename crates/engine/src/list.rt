@@ -1,12 +1,12 @@
 // Lists of requests: seven words a request, three words an answer. The book is checked or laid once; that each step keeps the laws is
 // what lets the next one go without a check.
-use crate::step::book_step;
-use book::lay::lay;
-use book::settings::diary_len;
-use book::settings::settings;
+use header::lay::lay;
+use header::settings::diary_len;
+use header::settings::settings;
 use model::Answer;
 use model::Request;
 use model::Settings;
+use step::book_step;
 ghost use mathlib.Core.Path.{_≡_};
 ghost use mathlib.Core.List.{[], _∷_};
 ghost use Prim.Native.Nat.{_+_, _*_, _/_, _≤_, min};

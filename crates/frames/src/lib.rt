@@ -12,11 +12,11 @@ ghost use lib.ListN.{length};
 ghost use Rattle.lines.specs.Post.{Going, Begun};
 ghost use Rattle.model.specs.Lines.{answerBytes, programWords};
 ghost use Rattle.frames.specs.Run.{answersRoom, heard, signed, isEnd, Turned, Finished, Driven};
+use framing::line::ANSWER_BYTES;
 use libc::EINTR;
 use libc::STDIN_FILENO;
 use libc::STDOUT_FILENO;
 use lines::lay::PROGRAM_WORDS;
-use lines::line::ANSWER_BYTES;
 use lines::stream::Phase;
 use lines::stream::Stream;
 

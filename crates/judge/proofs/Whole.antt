@@ -9,7 +9,7 @@ use native.Mathlib.Omega.{arith}
 use lib.ListN.{List·getD-eq-default}
 use Rattle.book.specs.Founds.{foundOf}
 use Rattle.book.specs.Good.{Good}
-use Rattle.book.specs.Ranges.{Ranges}
+use Rattle.units.specs.Ranges.{Ranges}
 use Rattle.book.proofs.Goods.{good-laid}
 use Rattle.kinds.specs.Rows.{lastKind, rowOf, rowFor, rowAt, firstNo, fieldsNo, unusedZero, slotsFit}
 use Rattle.kinds.proofs.Limits.{fields-is}

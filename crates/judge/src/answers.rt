@@ -4,7 +4,6 @@
 use book::found::Found;
 use book::grid::Grid;
 use book::grid::Site;
-use book::units::date_of_session;
 use kinds::seats::capacity;
 use model::Answer;
 use model::Date;
@@ -27,6 +26,7 @@ use questions::slots::first_held;
 use questions::slots::first_over;
 use questions::slots::first_session_off_leave;
 use questions::slots::first_time_off_leave;
+use units::date_of_session;
 ghost use mathlib.Core.Path.{_≡_};
 ghost use Prim.Native.Nat.{_-_, _≤_, _<_};
 ghost use Rattle.model.specs.Kinds.{dates, times};

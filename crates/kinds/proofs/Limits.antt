@@ -7,7 +7,7 @@ use mathlib.Core.Option.{Option, none, some}
 use native.Mathlib.Omega.{arith}
 use lib.Dec.{leb, ltb, eqb}
 use borrow.Author.Tests.{ltb-true, leb-true, eqb-true, ne-eqb}
-use Rattle.book.specs.Ranges.{Ranges}
+use Rattle.units.specs.Ranges.{Ranges}
 use Rattle.kinds.specs.declared.table.Field.{Field}
 use Rattle.kinds.specs.declared.table.Row.{Row}
 use Rattle.kinds.specs.Rows.{orZero, fieldOf, rowOf, named, below, unusedZero, slotsFit, firstNo, fieldsNo, Below, Ready}

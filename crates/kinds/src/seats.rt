@@ -3,7 +3,7 @@ use model::Settings;
 ghost use mathlib.Core.Path.{_≡_};
 ghost use Prim.Native.Nat.{_<_};
 ghost use Rattle.model.specs.Site.{capacity as capacityOf};
-ghost use Rattle.book.specs.Ranges.{Ranges};
+ghost use Rattle.units.specs.Ranges.{Ranges};
 
 pub fn capacity(s: Settings, room: u32) -> u32
     requires { ⌜ Ranges s ⌝ }

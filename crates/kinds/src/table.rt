@@ -2,7 +2,7 @@
 use model::Settings;
 ghost use mathlib.Core.Path.{_≡_};
 ghost use Prim.Native.Nat.{_≤_};
-ghost use Rattle.book.specs.Ranges.{Ranges};
+ghost use Rattle.units.specs.Ranges.{Ranges};
 ghost use Rattle.kinds.specs.Rows.{lastKind, rowOf, rowAt, named as namedField, plain as plainRow, single as singleRow, noted as notedRow};
 
 // The number of the last kind; kinds are numbered from 1.

@@ -19,9 +19,10 @@ use Rattle.model.proofs.Ledger.{LedgerSound, diary-settings, ledger-sound, word
 use Rattle.model.proofs.Frame.{step-settings}
 use Rattle.model.proofs.Calls.{perform-sound, empty-ledger, fresh-words}
 use native.Mathlib.Omega.{arith}
-use Rattle.lines.specs.Post.{Free, NextOf, TakenOf}
-use Rattle.lines.specs.declared.line.Next.{Next}
-use Rattle.lines.specs.declared.line.Next.the-variants.{Frame, Other}
+use Rattle.framing.specs.Front.{Free, NextOf}
+use Rattle.lines.specs.Post.{TakenOf}
+use Rattle.framing.specs.declared.line.Next.{Next}
+use Rattle.framing.specs.declared.line.Next.the-variants.{Frame, Other}
 use Rattle.book.specs.Good.{GoodBook, answered}
 use Rattle.book.proofs.Goods.{book-words}
 

@@ -10,7 +10,8 @@ use lib.ListN.{length, take, set}
 use lib.Seq.{take-all, take-append-add, take-suc-set, length-take-le}
 use Rattle.lines.specs.Stream.{heldMost, kept}
 use Rattle.text.specs.Put.{Put}
-use Rattle.lines.specs.Post.{Free, heldOf, Holds}
+use Rattle.framing.specs.Front.{Free}
+use Rattle.lines.specs.Post.{heldOf, Holds}
 use Rattle.lines.specs.declared.stream.Held.{Held}
 
 take-front : (n : ℕ) (a b : List ℕ) → take n (take n a ++ b) ≡ take n (a ++ b)

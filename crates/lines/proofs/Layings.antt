@@ -23,7 +23,7 @@ use Rattle.model.proofs.Search.{never, and-right, both}
 use Rattle.model.proofs.Places.{settings-length}
 use Rattle.model.proofs.Shows.{good-valid}
 use Rattle.book.specs.Good.{answered}
-use Rattle.book.specs.Heads.{neededLength}
+use Rattle.header.specs.Heads.{neededLength}
 use Rattle.text.specs.Put.{Put}
 use Rattle.lines.specs.Stream.{later, over, silent, opened}
 use Rattle.lines.specs.Laying.{layable, LaidOf, LaidBy}
@@ -31,7 +31,7 @@ use Rattle.lines.specs.Post.{EndedOf}
 use Rattle.lines.specs.declared.lay.Laid.{Laid}
 use Rattle.lines.specs.declared.lay.Laid.the-variants.{Book, Refused}
 use Rattle.lines.proofs.Whole.{settings-short}
-use Rattle.engine.proofs.Kept.{fresh-good}
+use Rattle.step.proofs.Kept.{fresh-good}
 use Rattle.lines.proofs.Books.{fresh-shows}
 use Rattle.lines.proofs.Turns.{put-wrote, put-past}
 

@@ -1,9 +1,6 @@
 pub mod Whole
-pub mod Values
-pub mod Framing
 pub mod Books
 pub mod Keeping
-pub mod Looking
 pub mod Turns
 pub mod Layings
 pub mod Streams

@@ -15,15 +15,16 @@ use Rattle.model.specs.Ledger.{Ledger, ledgerOf}
 use Rattle.model.specs.Lines.{answerBytes, lineOutcome}
 use Rattle.model.proofs.Search.{both}
 use Rattle.book.specs.Good.{GoodBook}
-use Rattle.lines.specs.Frame.{LineEnd}
+use Rattle.framing.specs.Frame.{LineEnd}
 use Rattle.lines.specs.Stream.{heldMost, kept, Turn, opening, later, over, silent, behind, opened, told, ended, longer, byte, run, closed}
-use Rattle.lines.specs.Post.{Free, heldOf, Holds, pointAt, pointOf, Going, Moved, Begun, endPoint, EndedOf, isLater, Told}
+use Rattle.framing.specs.Front.{Free}
+use Rattle.lines.specs.Post.{heldOf, Holds, pointAt, pointOf, Going, Moved, Begun, endPoint, EndedOf, isLater, Told}
 use Rattle.lines.specs.declared.stream.Held.{Held}
 use Rattle.lines.specs.declared.stream.Phase.{Phase}
 use Rattle.lines.specs.declared.stream.Phase.the-variants.{Opening, Later, Over}
 use Rattle.lines.specs.declared.stream.Stream.{Stream}
 use Rattle.lines.specs.declared.stream.Ended.{Ended}
-use Rattle.lines.proofs.Looking.{all-free, end-leads}
+use Rattle.framing.proofs.Looking.{all-free, end-leads}
 use Rattle.lines.proofs.Whole.{byte-end, byte-in}
 use Rattle.lines.proofs.Turns.{grown, Kept, later-kept, run-free, run-leads, run-alone, run-out, rest-none, ends-le, ends-one, tail-is}
 use Rattle.lines.proofs.Keeping.{holds-own}

@@ -21,7 +21,8 @@ use Rattle.model.specs.Lines.{answerLine, replyLine, answerBytes, lineOutcome}
 use Rattle.book.specs.Good.{GoodBook, answered}
 use Rattle.lines.specs.Stream.{kept, Point, opening, later, over, Turn, silent, behind, told, ended, longer, byte, run}
 use Rattle.text.specs.Put.{Put}
-use Rattle.lines.specs.Post.{Free, ends, Leads, TakenOf, Told}
+use Rattle.framing.specs.Front.{Free, Leads}
+use Rattle.lines.specs.Post.{ends, TakenOf, Told}
 use Rattle.lines.specs.declared.stream.Taken.{Taken}
 use Rattle.text.proofs.Puts.{drop-further}
 use Rattle.lines.proofs.Keeping.{kept-append}

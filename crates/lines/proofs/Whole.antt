@@ -23,9 +23,9 @@ use Rattle.model.specs.Calls.{settingsGood}
 use Rattle.model.specs.declared.Answer.the-variants.{Refused}
 use Rattle.model.specs.Text.{digitValue}
 use Rattle.model.specs.Lines.{wholeWords, lineWords, linesOf, answerLine, replyLine, lineOutcome, answerLines, programWords, output, frames}
-use Rattle.lines.proofs.Framing.{words-length, not-so, frame-most, no-frame}
+use Rattle.framing.proofs.Framing.{words-length, not-so, frame-most, no-frame}
 use Rattle.lines.proofs.Keeping.{kept-append}
-use Rattle.lines.specs.Post.{Free}
+use Rattle.framing.specs.Front.{Free}
 use Rattle.lines.specs.Stream.{heldMost, kept, Point, opening, later, over, Turn, silent, behind, opened, told}
 use Rattle.lines.specs.Stream.{ended, longer, byte, run, closed}
 

@@ -1,4 +1,3 @@
-pub mod Frame
 pub mod Stream
 pub mod Post
 pub mod Laying

@@ -9,13 +9,11 @@ use lib.ListN.{length, take, drop, getD}
 use Rattle.model.specs.declared.Settings.{Settings}
 use Rattle.model.specs.Reading.{settingsOf}
 use Rattle.model.specs.Ledger.{Ledger, ledgerOf}
-use Rattle.model.specs.Machine.{requestOf}
 use Rattle.model.specs.Calls.{called}
-use Rattle.model.specs.Lines.{answerBytes, isFrame, lineWords, lineOutcome}
+use Rattle.model.specs.Lines.{answerBytes, lineOutcome}
 use Rattle.book.specs.Good.{GoodBook, answered}
+use Rattle.framing.specs.Front.{Free, Leads}
 use Rattle.lines.specs.Stream.{heldMost, Point, opening, later, over, Turn, behind, run}
-use Rattle.lines.specs.declared.line.Next.{Next}
-use Rattle.lines.specs.declared.line.Next.the-variants.{Frame, Other, Partial}
 use Rattle.lines.specs.declared.stream.Ended.{Ended}
 use Rattle.lines.specs.declared.stream.Held.{Held}
 use Rattle.lines.specs.declared.stream.Taken.{Taken}
@@ -23,11 +21,7 @@ use Rattle.lines.specs.declared.stream.Phase.{Phase}
 use Rattle.lines.specs.declared.stream.Phase.the-variants.{Opening, Later, Over}
 use Rattle.lines.specs.declared.stream.Stream.{Stream}
 
--- no byte 10, and how many there are
-unfoldable pub Free : List ℕ → Type 0
-Free [] = Unit {0}
-Free (b ∷ bs) = (b ≡ 10 → ⊥) × Free bs
-
+-- how many bytes 10 there are
 unfoldable pub ends : List ℕ → ℕ
 ends [] = 0
 ends (b ∷ bs) = cond (eqb b 10) (suc (ends bs)) (ends bs)
@@ -100,23 +94,6 @@ pub record EndedOf (t : Turn) (e : Ended) (b₀ b out₀ out : List ℕ) : Type 
   pub same : record { out = take (e .wrote) out; point = endPoint e b } ≡ t
   pub book-past : drop (e .size) b ≡ drop (e .size) b₀
   pub out-past : drop (e .wrote) out ≡ drop (e .wrote) out₀
-
--- the first line of l is its first n bytes, ended by byte 10
-pub record Leads (l : List ℕ) (n : ℕ) : Type 0 where
-  pub inside : n < length l
-  pub free : Free (take n l)
-  pub ends : getD l n 0 ≡ 10
-
--- n are the digits of the frame that is the first line of l, or 0: it is no frame
-pub record FrameAhead (l : List ℕ) (n : ℕ) : Type 0 where
-  pub some : 0 < n → Leads l n × (isFrame (take n l) ≡ true)
-  pub none : n ≡ 0 → (k : ℕ) → Leads l k → isFrame (take k l) ≡ false
-
--- what stands at the front of l
-abbrev pub NextOf : List ℕ → Next → Type 0
-NextOf l (Frame n r) = Leads l n × (isFrame (take n l) ≡ true) × (r ≡ requestOf (lineWords (take n l)))
-NextOf l (Other n) = Leads l n × (isFrame (take n l) ≡ false)
-NextOf l Partial = Free l
 
 -- the first line of l was answered, the book with it; or there is no whole line
 pub record TakenOf (l b₀ : List ℕ) (t : Taken) (b : List ℕ) : Type 0 where

@@ -1,9 +1,9 @@
 // The settings line: the book that it lays.
-use crate::line::line_words;
-use crate::line::whole_words;
-use book::lay::lay;
-use book::settings::LIMITS;
-use book::settings::book_len;
+use book::grid::LIMITS;
+use framing::line::line_words;
+use framing::line::whole_words;
+use header::lay::lay;
+use header::settings::book_len;
 ghost use Prim.Native.Nat.{_≤_};
 ghost use lib.ListN.{length};
 ghost use Rattle.model.specs.Lines.{programWords};

@@ -1,5 +1,3 @@
-// Lines: frame lines, the settings line, answer lines, and the stream of chunks.
-pub mod frame;
+// Lines: the settings line, and the stream of chunks.
 pub mod lay;
-pub mod line;
 pub mod stream;

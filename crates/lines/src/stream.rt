@@ -2,16 +2,16 @@
 use crate::lay::Laid;
 use crate::lay::SETTINGS_WORDS;
 use crate::lay::lay_line;
-use crate::line::ANSWER_BYTES;
-use crate::line::Next;
-use crate::line::line_end;
-use crate::line::look;
-use crate::line::put_answer;
-use book::settings::diary_len;
-use book::settings::settings;
-use engine::step::book_step;
+use framing::line::ANSWER_BYTES;
+use framing::line::Next;
+use framing::line::line_end;
+use framing::line::look;
+use framing::line::put_answer;
+use header::settings::diary_len;
+use header::settings::settings;
 use model::Answer;
 use model::Settings;
+use step::book_step;
 ghost use mathlib.Core.Path.{_≡_};
 ghost use mathlib.Core.List.{[], _++_};
 ghost use Prim.Native.Nat.{_+_, _*_, _≤_, min};
@@ -22,7 +22,8 @@ ghost use Rattle.model.specs.Ledger.{ledgerOf};
 ghost use Rattle.model.specs.Lines.{answerBytes, programWords, lineOutcome};
 ghost use Rattle.book.specs.Good.{GoodBook};
 ghost use Rattle.lines.specs.Stream.{kept, behind, opened, told, ended, run, closed};
-ghost use Rattle.lines.specs.Post.{Free, ends, heldOf, Holds, pointAt, pointOf, Sized, Going, Begun, isLater};
+ghost use Rattle.framing.specs.Front.{Free};
+ghost use Rattle.lines.specs.Post.{ends, heldOf, Holds, pointAt, pointOf, Sized, Going, Begun, isLater};
 ghost use Rattle.lines.specs.Post.{EndSized, endPoint, EndedOf, Moved, TakenOf, Told};
 
 // The most bytes that are held of a line: one more than a good line can have, so that they say all. Byte 10 has room behind them.

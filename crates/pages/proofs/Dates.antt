@@ -25,7 +25,7 @@ use Rattle.model.proofs.Search.{bool-eq, within-true, true-within}
 use Rattle.model.proofs.Ledger.{first-part}
 use Rattle.text.specs.Put.{Put}
 use Rattle.book.specs.Good.{Good, GoodBook}
-use Rattle.book.specs.Units.{OnDates}
+use Rattle.units.specs.Units.{OnDates}
 use Rattle.book.proofs.Goods.{good-state, good-part}
 use Rattle.pages.specs.Pages.{paged, fitted, between}
 use Rattle.pages.proofs.Joins.{join-part, bytes-length, put-front}

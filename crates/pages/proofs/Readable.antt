@@ -22,7 +22,7 @@ use Rattle.model.specs.Page.{PageLine, joinFrom, attending, holder, lineOf, roo
 use Rattle.model.proofs.Search.{Lowest, lowest-is}
 use Rattle.book.proofs.Counts.{count-le}
 use Rattle.book.proofs.Goods.{ranges-by}
-use Rattle.book.proofs.Regions.{all-sessions}
+use Rattle.units.proofs.Slots.{all-sessions}
 use Rattle.text.proofs.Decimals.{decimal-trip, field-length}
 use Rattle.pages.proofs.Joins.{bytes-length}
 

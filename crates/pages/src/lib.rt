@@ -4,12 +4,12 @@ mod lines;
 mod tally;
 
 use book::grid::site_of;
-use book::settings::diary_len;
-use book::settings::settings;
-use book::units::sessions_on;
+use header::settings::diary_len;
+use header::settings::settings;
 use model::Answer;
 use model::Date;
 use model::Settings;
+use units::sessions_on;
 ghost use mathlib.Core.Path.{_≡_};
 ghost use Prim.Native.Nat.{_<_};
 ghost use Rattle.model.specs.Page;

@@ -23,7 +23,7 @@ use Rattle.model.proofs.Done.{Accepted, refused-keeps}
 use Rattle.model.proofs.Undo.{attend, undo-added}
 use Rattle.model.proofs.Party.{accepted-guest, added, joined-on, joined-off, admit-unfit}
 use Rattle.book.specs.Good.{GoodBook, answered}
-use Rattle.engine.proofs.Kept.{good-step, good-call}
+use Rattle.step.proofs.Kept.{good-step, good-call}
 use Rattle.parties.specs.Guests.{guestOf, guestsOf, guestRequest, Reaches, noneYet, oneMore, Within, Adds, TakenBack, Lent}
 use Rattle.parties.proofs.Guests.{from, from-first, from-next}
 

@@ -1,2 +1,4 @@
 pub mod Guests
 pub mod Joining
+pub mod Apart
+pub mod LocalArray

@@ -1,9 +1,9 @@
 -- The guests of a party as words, three a guest, and parts of the contracts by name.
 -- Assumes nothing.
-use Prim.Native.Nat.{ℕ, zero, suc, _*_, _≤_}
+use Prim.Native.Nat.{ℕ, zero, suc, _+_, _*_, _≤_}
 use mathlib.Core.Path.{_≡_}
 use mathlib.Core.List.{List, [], _∷_}
-use lib.ListN.{length, getD, drop}
+use lib.ListN.{length, getD, set, drop}
 use Rattle.model.specs.declared.Settings.{Settings}
 use Rattle.model.specs.declared.Request.{Request}
 use Rattle.model.specs.declared.Guest.{Guest}
@@ -22,6 +22,21 @@ guestOf w = record { visitor = getD w 0 0; first = getD w 1 0; last = getD w 2 0
 unfoldable pub guestsOf : ℕ → List ℕ → List Guest
 guestsOf zero w = []
 guestsOf (suc n) w = guestOf w ∷ guestsOf n (drop 3 w)
+
+-- guest i of a list; behind its end there is none, which is said by zeros
+abbrev pub nobody : Guest
+nobody = record { visitor = 0; first = 0; last = 0 }
+
+unfoldable pub guestAt : List Guest → ℕ → Guest
+guestAt gs i = getD gs i nobody
+
+-- the words with the three of guest i at their place
+unfoldable pub putGuest : List ℕ → ℕ → Guest → List ℕ
+putGuest w i g = set (set (set w (i * 3) (g .visitor)) (i * 3 + 1) (g .first)) (i * 3 + 2) (g .last)
+
+-- the words of all the guests, where these are not too many
+abbrev pub Apart : List Guest → List ℕ → Type 0
+Apart gs w = length gs ≤ 64 → guestsOf (length gs) w ≡ gs
 
 -- the request of a kind for a guest: of kind 10 it is the model's
 abbrev pub guestRequest : ℕ → ℕ → List ℕ → Request

@@ -1,7 +1,7 @@
 // A party whose guests come as words, three a guest: each is added by a request of kind 10, and where one is refused those before are
 // taken back by requests of kind 11, the last one first. So a refusal leaves every word as it was, and no copy of the book is kept.
-use book::settings::settings;
 use engine::list::answer_one;
+use header::settings::settings;
 use model::Answer;
 use model::Request;
 use model::Settings;
@@ -103,10 +103,9 @@ fn join(book: &mut [u32], s: Settings, meeting: u32, records: &[u32], n: usize) 
 }
 
 // A party of n guests on any words as a book: questions 1, 2 and 27, then all the guests or none. The words of the guests are looked at
-// only where there are at most 64.
-pub fn party_of(book: &mut [u32], meeting: u32, records: &[u32], n: usize) -> Answer
-    requires { ⌜ (n ≤ 64 → n * 3 ≤ length (now records)) ⌝ }
-    ensures { λ a. ⌜ Parties (now (book .entry)) meeting n (now (records .entry)) a (now (book .exit)) ⌝ }
+// only where there are at most 64, for which the array has room.
+pub fn party_of(book: &mut [u32], meeting: u32, records: [u32; 192], n: usize) -> Answer
+    ensures { λ a. ⌜ Parties (now (book .entry)) meeting n records a (now (book .exit)) ⌝ }
 {
     let checked = checking::check(book);
     if let Answer::Refused { number, place } = checked {
@@ -125,5 +124,5 @@ pub fn party_of(book: &mut [u32], meeting: u32, records: &[u32], n: usize) -> An
         };
     }
     let s = settings(book);
-    join(book, s, meeting, records, n)
+    join(book, s, meeting, &records, n)
 }

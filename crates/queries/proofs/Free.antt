@@ -22,8 +22,8 @@ use Rattle.book.specs.declared.found.Found.the-variants.{At, Nothing}
 use Rattle.book.specs.Founds.{foundOf}
 use Rattle.book.specs.Good.{Good}
 use Rattle.book.specs.Grids.{cellAt, gridOf}
-use Rattle.book.specs.Units.{Cut}
-use Rattle.book.proofs.Cuts.{between-cuts}
+use Rattle.units.specs.Units.{Cut}
+use Rattle.units.proofs.Cuts.{between-cuts}
 use Rattle.book.proofs.Goods.{good-state}
 use Rattle.queries.specs.Shown.{roomTaken}
 use Rattle.queries.proofs.Shows.{standing-is}

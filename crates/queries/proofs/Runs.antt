@@ -20,7 +20,7 @@ use Rattle.model.proofs.Sums.{sum-last, sum-agree, sum-empty}
 use Rattle.book.specs.Grids.{cellAt, gridOf}
 use Rattle.book.specs.Rows.{rowCount, rowsCount, rowMembers}
 use Rattle.book.specs.Good.{Good}
-use Rattle.book.specs.Units.{OnDates}
+use Rattle.units.specs.Units.{OnDates}
 use Rattle.book.proofs.Counts.{sum-part, count-same}
 use Rattle.book.proofs.RowRuns.{one-row}
 use Rattle.book.proofs.Entries.{booked-eqb}

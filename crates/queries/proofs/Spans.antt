@@ -19,7 +19,7 @@ use Rattle.model.proofs.Sums.{sum-last, sum-empty, sum-most, count2-add}
 use Rattle.book.specs.Good.{Good}
 use Rattle.book.proofs.Counts.{count-le}
 use Rattle.book.proofs.Goods.{good-laid, good-state, good-sound}
-use Rattle.book.proofs.Regions.{all-sessions, all-times}
+use Rattle.units.proofs.Slots.{all-sessions, all-times}
 
 -- a count of pairs whose first part has its date in a run
 module _ (date : ℕ → ℕ) (q : ℕ → ℕ → Bool) (n m : ℕ) where

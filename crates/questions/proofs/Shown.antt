@@ -14,7 +14,7 @@ use Rattle.book.specs.Grids.{cellAt, gridOf, gridsOf}
 use Rattle.book.specs.Rows.{rowHas}
 use Rattle.book.specs.Good.{Good}
 use Rattle.book.proofs.Goods.{good-laid}
-use Rattle.book.proofs.Regions.{date-lt}
+use Rattle.units.proofs.Slots.{date-lt}
 use Rattle.questions.specs.Asked.{firstWith, firstRowWithout, firstNotMember, slotsFail, holdsIn}
 use Rattle.questions.specs.Asked.{OnLeave, Stands, HasConf, HasLunch}
 use Rattle.model.specs.declared.Settings.{Settings}

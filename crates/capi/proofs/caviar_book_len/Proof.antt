@@ -1,6 +1,6 @@
 -- `caviar_book_len`: what `book_len` ensures, in the model's words.
 -- Assumes nothing.
-use Rattle.book.specs.Heads.{neededLength}
+use Rattle.header.specs.Heads.{neededLength}
 use borrow.Author.Needs.{needs}
 use Rattle.capi.proofs.caviar_book_len.Statement.{statement}
 use Rattle.capi.proofs.caviar_book_len.Tie as tie

@@ -3,7 +3,7 @@
 use mathlib.Core.Path.{sym, _∙_}
 use borrow.Author.Needs.{needs}
 use Rattle.model.specs.Machine.{request}
-use Rattle.engine.proofs.Kept.{good-call}
+use Rattle.step.proofs.Kept.{good-call}
 use Rattle.checking.proofs.Verdicts.{done-good}
 use Rattle.engine.proofs.Whole.{call-refused, with-removal}
 use Rattle.engine.proofs.request.Statement.{statement}

@@ -6,7 +6,8 @@ use native.Mathlib.Omega.{arith}
 use Rattle.model.specs.Words.{leaves, hotelCells, rideCells, attendCells}
 use Rattle.book.specs.declared.grid.Grids.{Grids}
 use Rattle.book.specs.Lent.{reading}
-use Rattle.book.proofs.Regions.{group-lt, all-sessions}
+use Rattle.book.proofs.Regions.{group-lt}
+use Rattle.units.proofs.Slots.{all-sessions}
 use Rattle.book.proofs.Turns.{wrote-then}
 use Rattle.apply.specs.Stores.{Single}
 use Rattle.apply.proofs.Counts.{emptied-few}

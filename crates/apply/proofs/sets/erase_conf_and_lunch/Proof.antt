@@ -12,7 +12,7 @@ use Rattle.book.specs.declared.grid.Grids.{Grids}
 use Rattle.book.specs.Grids.{gridOf}
 use Rattle.book.specs.Lent.{reading}
 use Rattle.book.specs.Stores.{empty, swept}
-use Rattle.book.proofs.Regions.{date-lt}
+use Rattle.units.proofs.Slots.{date-lt}
 use Rattle.book.proofs.Turns.{wrote-then}
 use Rattle.apply.specs.Stores.{filled}
 use Rattle.apply.proofs.Arms.{span-of, item-of}

@@ -13,10 +13,10 @@ use Rattle.checking.proofs.dates.dates.Statement.{statement}
 use Rattle.checking.proofs.dates.dates.Tie as tie
 
 abbrev Inv-loop : tie.InvT-loop
-Inv-loop book s grids caps days date₀ date = (date .0 ≤ days) × ((k : ℕ) → k < date .0 → Kept s caps (reading book) k)
+Inv-loop book site caps days date₀ date = (date .0 ≤ days) × ((k : ℕ) → k < date .0 → Kept (site .settings) caps (reading book) k)
 
 abbrev μ-loop : tie.MeasureT-loop
-μ-loop book s grids caps days date₀ date = days - date .0
+μ-loop book site caps days date₀ date = days - date .0
 
 date-of-session-requires : tie.Need-date-of-session-requires Inv-loop μ-loop
 date-of-session-requires c κs = c .before .pre .0 .ranges

@@ -7,7 +7,7 @@ use lib.ListN.{drop}
 use Rattle.model.specs.Machine.{requestOf}
 use Rattle.book.specs.Good.{GoodBook}
 use Rattle.book.proofs.Goods.{good-laid, good-part, good-long}
-use Rattle.engine.proofs.Kept.{good-step}
+use Rattle.step.proofs.Kept.{good-step}
 use Rattle.engine.proofs.Splices.{Left, left-start, left-turn, left-end}
 use Rattle.engine.proofs.list.answer_all.Statement.{statement}
 use Rattle.engine.proofs.list.answer_all.Tie as tie

@@ -7,7 +7,7 @@ use Rattle.book.proofs.Goods.{good-laid}
 use Prim.Native.Nat.{_<_}
 use Rattle.model.specs.Kinds.{sessions}
 use Rattle.model.specs.Words.{confPairs, lunchTriples}
-use Rattle.book.proofs.Regions.{date-lt}
+use Rattle.units.proofs.Slots.{date-lt}
 use Rattle.questions.proofs.Shown.{conf-fail, lunch-fail}
 use Rattle.questions.proofs.Grounds.{ground, row-ground}
 use Rattle.judge.specs.Chains.{eraseAll}

@@ -4,7 +4,7 @@ use Prim.Native.Nat.{ℕ}
 use mathlib.Core.Path.{sym, _∙_, ap}
 use mathlib.Core.Bool.{true, false}
 use native.Mathlib.Omega.{arith}
-use Rattle.book.proofs.Regions.{all-sessions, all-times}
+use Rattle.units.proofs.Slots.{all-sessions, all-times}
 use Rattle.model.specs.Kinds.{kindOf, dates, sessions, times, unused, visitor, meeting, room, diningRoom, hotelRoom, transport}
 use Rattle.kinds.specs.Rows.{rowOf, rowAt}
 use Rattle.kinds.proofs.Numbers.{last-kind}

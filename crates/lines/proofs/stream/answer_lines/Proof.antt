@@ -9,7 +9,7 @@ use borrow.Author.Needs.{needs}
 use Rattle.model.specs.Lines.{answerBytes}
 use Rattle.model.specs.declared.Settings.{Settings}
 use Rattle.book.specs.Good.{GoodBook}
-use Rattle.book.specs.Ranges.{Ranges}
+use Rattle.units.specs.Ranges.{Ranges}
 use Rattle.book.proofs.Goods.{good-laid, good-part}
 use Rattle.lines.proofs.Turns.{So, start, all-told, end-told, more-so, more-ends, in-reach}
 use Rattle.lines.proofs.stream.answer_lines.Statement.{statement}

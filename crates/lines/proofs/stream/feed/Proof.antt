@@ -7,7 +7,7 @@ use native.Mathlib.Omega.{arith}
 use lib.Seq.{length-take-le}
 use Rattle.lines.proofs.Streams.{all-held, line-held}
 use Rattle.lines.proofs.Keeping.{holds-own}
-use Rattle.lines.proofs.Looking.{line-free}
+use Rattle.framing.proofs.Looking.{line-free}
 use borrow.Author.Needs.{needs}
 use Rattle.model.specs.Lines.{answerBytes}
 use Rattle.lines.proofs.stream.feed.Statement.{statement}

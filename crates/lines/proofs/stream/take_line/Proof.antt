@@ -1,8 +1,8 @@
 -- `stream::take_line`: a frame is one step, any other whole line is refused, and a line that is not over gives nothing.
 -- Assumes nothing.
 use native.Mathlib.Omega.{arith}
-use Rattle.lines.specs.Post.{NextOf}
-use Rattle.lines.specs.declared.line.Next.the-variants.{Frame, Other}
+use Rattle.framing.specs.Front.{NextOf}
+use Rattle.framing.specs.declared.line.Next.the-variants.{Frame, Other}
 use Rattle.lines.proofs.Books.{next-is, taken-frame, taken-other, taken-none}
 use borrow.Author.Needs.{needs}
 use Rattle.lines.proofs.stream.take_line.Statement.{statement}

@@ -8,7 +8,7 @@ use Rattle.model.specs.Reading.{stateOf}
 use Rattle.model.specs.Page.{joinFrom, sessionLines}
 use Rattle.book.specs.Lent.{reading}
 use Rattle.book.proofs.Goods.{good-laid}
-use Rattle.book.proofs.Regions.{all-sessions}
+use Rattle.units.proofs.Slots.{all-sessions}
 use Rattle.pages.specs.Pages.{between}
 use Rattle.pages.proofs.Joins.{join-next, join-start}
 use Rattle.pages.proofs.counts.lines_between.Statement.{statement}

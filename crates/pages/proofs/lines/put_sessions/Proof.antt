@@ -7,7 +7,7 @@ use Rattle.model.specs.Reading.{stateOf}
 use Rattle.model.specs.Page.{joinFrom, sessionLines, pageBytes}
 use Rattle.book.specs.Lent.{reading}
 use Rattle.book.proofs.Goods.{good-laid}
-use Rattle.book.proofs.Regions.{all-sessions}
+use Rattle.units.proofs.Slots.{all-sessions}
 use Rattle.text.specs.Put.{Put}
 use Rattle.pages.specs.Pages.{Written, between}
 use Rattle.pages.proofs.Joins.{join-next, join-start, still-room, written-none, written-more}

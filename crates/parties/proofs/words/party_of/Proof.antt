@@ -40,17 +40,23 @@ returns-3 c = λ gs l. unfit (done-good _ _ (sym (c .before .before .before .bef
 settings-requires : tie.Need-settings-requires
 settings-requires c κs = search needs
 
+slice-aggregate-join : tie.Need-slice-aggregate-join
+slice-aggregate-join c = search needs
+
 join-requires : tie.Need-join-requires
-join-requires c κs =
-    (rw (c .before .settings .ensures) (done-good _ _ (sym (c .before .before .before .before .before .before .before .check .ensures) ∙ c .before .before .before .before .before .enum-told .given .1)), c .before .before .before .before .before .before .before .before .before .before .before .pre (omega (arith, c .before .before .before .if2 .left)))
+join-requires c κs = (
+  rw (c .before .before .settings .ensures)
+      (done-good _ _ (sym (c .before .before .before .before .before .before .before .before .check .ensures) ∙ c .before .before .before .before .before .before .enum-told .given .1)),
+  omega (arith, c .before .before .before .before .if2 .left, c .before .before .before .before .before .before .before .before .before .before .before .fits),
+)
 
 same-length-4 : tie.Need-same-length-4
 same-length-4 c = search needs
 
 returns-4 : tie.Need-returns-4
 returns-4 c =
-    λ gs l. fit (done-good _ _ (sym (c .before .before .before .before .before .before .before .before .before .before .check .ensures) ∙ c .before .before .before .before .before .before .before .before .enum-told .given .1)) _ gs l
-    (omega (arith, c .before .before .before .before .before .before .before .if1 .left)) (omega (arith, c .before .before .before .before .before .before .if2 .left)) (c .before .before .join .ensures)
+    λ gs l. fit (done-good _ _ (sym (c .before .before .before .before .before .before .before .before .before .before .before .check .ensures) ∙ c .before .before .before .before .before .before .before .before .before .enum-told .given .1)) _ gs l
+    (omega (arith, c .before .before .before .before .before .before .before .before .if1 .left)) (omega (arith, c .before .before .before .before .before .before .before .if2 .left)) (c .before .before .join .ensures)
 
 pub party-of-spec : {M : Type 1} → statement M
 party-of-spec =
@@ -66,6 +72,7 @@ party-of-spec =
     same-length-3
     returns-3
     settings-requires
+    slice-aggregate-join
     join-requires
     same-length-4
     returns-4)

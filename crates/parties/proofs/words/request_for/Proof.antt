@@ -3,9 +3,11 @@
 use Prim.Native.Nat.{ℕ, _+_, _*_}
 use mathlib.Core.Path.{_≡_, sym, _∙_, ap}
 use native.Mathlib.Omega.{arith}
-use lib.ListN.{getD}
+use lib.ListN.{getD, drop}
 use lib.Seq.{getD-drop}
 use borrow.Author.Needs.{needs}
+use Rattle.model.specs.declared.Guest.{Guest}
+use Rattle.parties.specs.Guests.{guestOf}
 use Rattle.parties.proofs.words.request_for.Statement.{statement}
 use Rattle.parties.proofs.words.request_for.Tie as tie
 
@@ -42,15 +44,13 @@ returns c =
     let w = a .records .now in
     let n = a .i * 3 in
     let z : n ≡ n + 0 = omega arith in
-    λ j. record {
-      kind = a .kind;
-      a = a .meeting;
-      b = (ap (λ (k : ℕ). getD w k 0) z ∙ sym (getD-drop n w 0 0)) j;
+    let g : record { visitor = getD w n 0; first = getD w (n + 1) 0; last = getD w (n + 2) 0 } ≡ guestOf (drop n w)
+    = λ j. record {
+      visitor = (ap (λ (k : ℕ). getD w k 0) z ∙ sym (getD-drop n w 0 0)) j;
       first = sym (getD-drop n w 1 0) j;
       last = sym (getD-drop n w 2 0) j;
-      n = 0;
-      info = 0;
-    }
+    } in
+    ap (λ (g : Guest). record { kind = a .kind; a = a .meeting; b = g .visitor; first = g .first; last = g .last; n = 0; info = 0 }) g
 
 pub request-for-spec : {M : Type 1} → statement M
 request-for-spec =

@@ -7,7 +7,7 @@ use borrow.Author.Tests.{not-true}
 use borrow.Author.Needs.{needs}
 use Rattle.model.specs.Kinds.{sessions, times}
 use Rattle.model.specs.Words.{attendCells, hotelCells, rideCells}
-use Rattle.book.proofs.Regions.{all-sessions}
+use Rattle.units.proofs.Slots.{all-sessions}
 use Rattle.book.proofs.Goods.{good-laid, good-lies}
 use Rattle.queries.proofs.Runs.{run-order, bookings-is}
 use Rattle.queries.proofs.Spans.{bookings-none-on, bookings-few}

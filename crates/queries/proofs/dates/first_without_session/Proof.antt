@@ -12,7 +12,7 @@ use Rattle.model.specs.Words.{standings}
 use Rattle.model.specs.Kinds.{sessions}
 use Rattle.model.proofs.Search.{failing-at, passed-more, none-failing}
 use Rattle.book.specs.Founds.{foundOf}
-use Rattle.book.specs.Units.{Cut}
+use Rattle.units.specs.Units.{Cut}
 use Rattle.book.proofs.Goods.{good-laid, good-lies}
 use Rattle.book.proofs.Regions.{group-lt}
 use Rattle.queries.proofs.Free.{date-bits}

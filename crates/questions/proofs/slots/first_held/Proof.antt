@@ -5,7 +5,7 @@ use native.Mathlib.Omega.{arith}
 use Rattle.model.specs.Reading.{stateOf}
 use Rattle.book.specs.Lent.{reading}
 use Rattle.book.proofs.Goods.{good-laid}
-use Rattle.book.proofs.Regions.{all-sessions}
+use Rattle.units.proofs.Slots.{all-sessions}
 use Rattle.questions.specs.Asked.{NotHeld, holdsIn}
 use Rattle.questions.proofs.Passed.{Passed, passed-none, passed-next, passed-at, passed-all}
 use borrow.Author.Needs.{needs}

@@ -3,7 +3,7 @@
 use mathlib.Core.Bool.{and-true, and-false}
 use Rattle.model.specs.Kinds.{sessions}
 use Rattle.book.proofs.Goods.{good-laid}
-use Rattle.book.proofs.Regions.{date-lt}
+use Rattle.units.proofs.Slots.{date-lt}
 use Rattle.questions.specs.Asked.{notHeld}
 use borrow.Author.Needs.{needs}
 use Rattle.questions.proofs.slots.not_held.Statement.{statement}

@@ -1,0 +1,33 @@
+-- What stands at the front of the input: a line, a frame, or no whole line.
+-- Assumes nothing.
+use Prim.Native.Nat.{ℕ, _<_}
+use mathlib.Core.Bool.{true, false}
+use mathlib.Core.Path.{_≡_}
+use mathlib.Core.List.{List, [], _∷_}
+use lib.ListN.{length, take, getD}
+use Rattle.model.specs.Machine.{requestOf}
+use Rattle.model.specs.Lines.{isFrame, lineWords}
+use Rattle.framing.specs.declared.line.Next.{Next}
+use Rattle.framing.specs.declared.line.Next.the-variants.{Frame, Other, Partial}
+
+-- no byte 10
+unfoldable pub Free : List ℕ → Type 0
+Free [] = Unit {0}
+Free (b ∷ bs) = (b ≡ 10 → ⊥) × Free bs
+
+-- the first line of l is its first n bytes, ended by byte 10
+pub record Leads (l : List ℕ) (n : ℕ) : Type 0 where
+  pub inside : n < length l
+  pub free : Free (take n l)
+  pub ends : getD l n 0 ≡ 10
+
+-- n are the digits of the frame that is the first line of l, or 0: it is no frame
+pub record FrameAhead (l : List ℕ) (n : ℕ) : Type 0 where
+  pub some : 0 < n → Leads l n × (isFrame (take n l) ≡ true)
+  pub none : n ≡ 0 → (k : ℕ) → Leads l k → isFrame (take k l) ≡ false
+
+-- what stands at the front of l
+abbrev pub NextOf : List ℕ → Next → Type 0
+NextOf l (Frame n r) = Leads l n × (isFrame (take n l) ≡ true) × (r ≡ requestOf (lineWords (take n l)))
+NextOf l (Other n) = Leads l n × (isFrame (take n l) ≡ false)
+NextOf l Partial = Free l
