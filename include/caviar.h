@@ -238,19 +238,23 @@ caviar_answer caviar_page(const uint32_t *book, size_t book_len, uint32_t date, 
 
 /* A party for a meeting, on any words: all of its guests are added, or none. guests_len counts guests, from 1 to CAVIAR_MOST_GUESTS. A
  * guest is added as a request of kind 10 adds a visitor, with a = meeting, b = visitor and the guest's sessions. The guests come in the
- * order of the list, and each is judged with those before added. A visitor may come more than once, for other sessions each time.
+ * order of the list, and each is judged on the book with those before in it. A visitor may come more than once, for other sessions each
+ * time.
  *
  * Done, the value is 0, and the book is what those requests one by one would have left. Refused with 1 or 2 as by caviar_check, else with
  * 27 for no guest or more than CAVIAR_MOST_GUESTS, whatever they are; else with the answer of the first guest in the list who is refused:
  *
- *     5    the meeting is not below M (so the first guest is refused)    9    the visitor has no leave on the session's date
- *     6    the visitor is not below V                                   10    the meeting does not stand in the session
- *     7    first after last, or last past the end                       11    the visitor attends it already, by the book or as a guest before
- *                                                                       13    the visitor attends another meeting in the session
+ *      5    the meeting is not below M; this is the first guest's answer
+ *      6    the visitor is not below V
+ *      7    first after last, or last past the end
+ *      9    the visitor has no leave on the session's date
+ *     10    the meeting does not stand in the session
+ *     11    the visitor attends the meeting already, by the book or by a guest before
+ *     13    the visitor attends another meeting in the session
  *
- * For 9 to 13 the place is the guest's lowest session with the answer no; which guest it was the answer does not say. (The requests of
- * kind 10 sent one by one to a copy of the book tell it: the first that is refused.) A refused party leaves every word of the book as it
- * was. The guests are only read.
+ * For 9 to 13 the place is the guest's lowest session with the answer no. Which guest it was the answer does not say; the requests of
+ * kind 10 sent one by one to a copy of the book tell it, by the first that is refused. A refused party leaves every word of the book as
+ * it was. The guests are only read.
  *
  *     const caviar_guest guests[] = {{.visitor = 1, .first = 4, .last = 5}, {.visitor = 2, .first = 4, .last = 4}};
  *     caviar_answer answer = caviar_party(book, book_len, 3, guests, 2);

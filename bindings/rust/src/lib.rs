@@ -221,7 +221,7 @@ pub fn page(book: &[u32], date: u32, page: &mut [u8]) -> Answer {
 }
 
 /// A party for a meeting: all of its guests are added, or none. A guest is added as a [`Request`] of kind 10
-/// adds a visitor; the guests come in the order of the list, each judged with those before added. The answer is
+/// adds a visitor; the guests come in the order of the list, each judged with those before in the book. The answer is
 /// done with 0, and the book is what those requests one by one would have left. Refused with 1 or 2 as by
 /// [`check`], with 27 for no guest or more than [`MOST_GUESTS`], and else with the answer of the first guest who
 /// is refused: 5 for the meeting, 6 for a visitor past the limit, 7, 9, 10, 11 or 13, its place the session that

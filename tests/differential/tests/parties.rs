@@ -146,7 +146,7 @@ fn welcome(rng: &mut Rng, site: &plain::Site, book: &mut [u32], meeting: u32, si
         plain::step(site, book, &plain::Request::new([kind, meeting, visitor, first, last, 0, 0])).number
     };
     let mut guests = Vec::new();
-    for _ in 0..40 * size {
+    for _ in 0..100 + 40 * size {
         let guest = some_guest(rng);
         if guests.len() < size && step(book, 10, guest) == 0 {
             guests.push(guest);
@@ -173,8 +173,9 @@ fn largest_book() {
         let size = rng.pick(&[1, 5, 64, 64]);
         let mut guests = welcome(&mut rng, &site, &mut theirs, meeting, size);
         if turn % 3 == 0 {
-            let at = rng.below(guests.len() as u32) as usize;
-            guests[at] = some_guest(&mut rng);
+            let at = rng.below(guests.len() as u32 + 1) as usize;
+            guests.insert(at, some_guest(&mut rng));
+            guests.truncate(64);
         }
         let lent: Vec<Guest> = guests.iter().map(|words| guest(*words)).collect();
         let answer = caviar::party(&mut book, meeting, &lent);
