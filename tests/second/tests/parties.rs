@@ -51,7 +51,7 @@ fn a_party_that_is_done() {
     assert_eq!(book[18..34], [0, 0, 0, 0, 0, 0, 0, 0, 0, 0, 0, 0, 2, 0, 0, 0], "visitor 0 is at meeting 1");
     let (answer, after) = asked(&book, 0, &[[1, 1, 2], [2, 2, 3], [1, 3, 3], [0, 1, 2]]);
     assert_eq!(answer, [0, 0, 0]);
-    assert_eq!(after[18..34], [0, 0, 0, 0, 1, 1, 0, 0, 1, 1, 1, 0, 2, 1, 1, 0], "visitor 1 came in two records");
+    assert_eq!(after[18..34], [0, 0, 0, 0, 1, 1, 0, 0, 1, 1, 1, 0, 2, 1, 1, 0], "visitor 1 is two of the guests");
     assert_eq!((&after[..18], &after[34..]), (&book[..18], &book[34..]), "no other word has changed");
 }
 
@@ -116,7 +116,7 @@ fn the_example_of_the_rules() {
     assert_eq!(refused(&after, 0, &[[1, 3, 3]]), [13, 3, 0]);
 }
 
-/// Sixteen visitors in each of four sessions, one record each.
+/// Sixteen visitors in each of four sessions, one guest for each.
 #[test]
 fn a_party_of_64_is_done_and_of_65_is_not() {
     let settings = Settings::from_words(&[2, 2, 1, 17, 1, 1, 1, 1, 1, 4]).expect("good settings");
