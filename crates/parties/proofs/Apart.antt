@@ -30,12 +30,14 @@ in-two w i x y e l = omega (arith, length-set w (i * 3) x, length-set (set w (i 
 
 pub put-long : (w : List ℕ) (i : ℕ) (g : Guest) → length (putGuest w i g) ≡ length w
 unfolding putGuest
-put-long w i g = length-set (set (set w (i * 3) (g .visitor)) (i * 3 + 1) (g .first)) (i * 3 + 2) (g .last) ∙ length-set (set w (i * 3) (g .visitor)) (i * 3 + 1) (g .first) ∙ length-set w (i * 3) (g .visitor)
+put-long w i g = length-set (set (set w (i * 3) (g .visitor)) (i * 3 + 1) (g .first)) (i * 3 + 2) (g .last) ∙ length-set (set w (i * 3)
+    (g .visitor)) (i * 3 + 1) (g .first) ∙ length-set w (i * 3) (g .visitor)
 
 -- a word that is none of the guest's three is as it was
 other : (w : List ℕ) (i j : ℕ) (g : Guest) → j ≢ i * 3 → j ≢ i * 3 + 1 → j ≢ i * 3 + 2 → getD (putGuest w i g) j 0 ≡ getD w j 0
 unfolding putGuest
-other w i j g n₀ n₁ n₂ = getD-set-other (set (set w (i * 3) (g .visitor)) (i * 3 + 1) (g .first)) (i * 3 + 2) j (g .last) 0 n₂ ∙ getD-set-other (set w (i * 3) (g .visitor)) (i * 3 + 1) j (g .first) 0 n₁ ∙ getD-set-other w (i * 3) j (g .visitor) 0 n₀
+other w i j g n₀ n₁ n₂ = getD-set-other (set (set w (i * 3) (g .visitor)) (i * 3 + 1) (g .first)) (i * 3 + 2) j (g .last) 0 n₂ ∙ getD-set-other
+    (set w (i * 3) (g .visitor)) (i * 3 + 1) j (g .first) 0 n₁ ∙ getD-set-other w (i * 3) j (g .visitor) 0 n₀
 
 put-other : (w : List ℕ) (i k : ℕ) (g : Guest) → k < i → wordsAt (putGuest w i g) k ≡ wordsAt w k
 put-other w i k g l j = record {
@@ -47,8 +49,10 @@ put-other w i k g l j = record {
 put-same : (w : List ℕ) (i : ℕ) (g : Guest) → length w ≡ 192 → i < 64 → wordsAt (putGuest w i g) i ≡ g
 unfolding putGuest
 put-same w i g e l j = record {
-  visitor = (getD-set-other w₂ (i * 3 + 2) (i * 3) (g .last) 0 (λ n. omega arith) ∙ getD-set-other w₁ (i * 3 + 1) (i * 3) (g .first) 0 (λ n. omega arith) ∙ getD-set-same w (i * 3) (g .visitor) 0 (omega arith)) j;
-  first = (getD-set-other w₂ (i * 3 + 2) (i * 3 + 1) (g .last) 0 (λ n. omega arith) ∙ getD-set-same w₁ (i * 3 + 1) (g .first) 0 (in-one w i (g .visitor) e l)) j;
+  visitor = (getD-set-other w₂ (i * 3 + 2) (i * 3) (g .last) 0 (λ n. omega arith) ∙ getD-set-other w₁ (i * 3 + 1) (i * 3) (g .first) 0
+      (λ n. omega arith) ∙ getD-set-same w (i * 3) (g .visitor) 0 (omega arith)) j;
+  first = (getD-set-other w₂ (i * 3 + 2) (i * 3 + 1) (g .last) 0 (λ n. omega arith) ∙ getD-set-same w₁ (i * 3 + 1) (g .first) 0 (in-one w i
+      (g .visitor) e l)) j;
   last = getD-set-same w₂ (i * 3 + 2) (g .last) 0 (in-two w i (g .visitor) (g .first) e l) j;
 }
   where

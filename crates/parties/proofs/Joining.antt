@@ -127,7 +127,8 @@ module _ {S : Settings} {a : List ℕ} (m : ℕ) (w : List ℕ) (n i : ℕ) {b :
           outcome = here ∙ joined-off now m guest (from n (suc i) w) q ∙ (λ j. record { answer = q j; state = x j });
         }
 
-pub adding-ends : {S : Settings} {a : List ℕ} (m : ℕ) (w : List ℕ) (n i : ℕ) {b : List ℕ} → Adding S a m w n i b → i ≡ n → Adds S a m w n n (Done 0) b
+pub adding-ends : {S : Settings} {a : List ℕ} (m : ℕ) (w : List ℕ) (n i : ℕ) {b : List ℕ} → Adding S a m w n i b → i ≡ n
+    → Adds S a m w n n (Done 0) b
 unfolding joined guestsOf
 adding-ends {S} {a} m w n i {b} so e =
     let z : n - n ≡ 0 = omega arith in
@@ -184,7 +185,8 @@ taken-all {S} {a} {b} {m} {w} good f so = go (so .state) (rw f at (so .reaches))
 abbrev pub ofParty : List ℕ → ℕ → List Guest → Called
 ofParty a m gs = called (stepped (ledgerOf a .tail) (allOrNone (ledgerOf a .diary) (joined (ledgerOf a .diary) m gs)))
 
-module _ {S : Settings} {a : List ℕ} (good : GoodBook S a) {m : ℕ} {w : List ℕ} {n i : ℕ} {r : Answer} {b : List ℕ} (adds : Adds S a m w n i r b) where
+module _ {S : Settings} {a : List ℕ} (good : GoodBook S a) {m : ℕ} {w : List ℕ} {n i : ℕ} {r : Answer} {b : List ℕ}
+    (adds : Adds S a m w n i r b) where
   outcome-is : ofParty a m (guestsOf n w)
       ≡ called (stepped (ledgerOf a .tail) (allOrNone (ledgerOf a .diary) (record { answer = r; state = adds .within .state })))
   outcome-is = ap (λ (o : Outcome). called (stepped (ledgerOf a .tail) (allOrNone (ledgerOf a .diary) o))) (adds .outcome)
@@ -193,13 +195,15 @@ module _ {S : Settings} {a : List ℕ} (good : GoodBook S a) {m : ℕ} {w : List
   none-joined {k} {p} e back =
       ap (answered (Refused k p)) (back a good (adds .within) ∙ sym (good-words good))
       ∙ sym (outcome-is
-      ∙ ap (λ (r : Answer). called (stepped (ledgerOf a .tail) (allOrNone (ledgerOf a .diary) (record { answer = r; state = adds .within .state })))) e)
+      ∙ ap (λ (r : Answer). called (stepped (ledgerOf a .tail) (allOrNone (ledgerOf a .diary)
+          (record { answer = r; state = adds .within .state })))) e)
 
   pub all-joined : {v : ℕ} → r ≡ Done v → answered r b ≡ ofParty a m (guestsOf n w)
   all-joined {v} e =
       ap₂ answered e (sym (within-words (adds .within)))
       ∙ sym (outcome-is
-      ∙ ap (λ (r : Answer). called (stepped (ledgerOf a .tail) (allOrNone (ledgerOf a .diary) (record { answer = r; state = adds .within .state })))) e)
+      ∙ ap (λ (r : Answer). called (stepped (ledgerOf a .tail) (allOrNone (ledgerOf a .diary)
+          (record { answer = r; state = adds .within .state })))) e)
 
 -- question 27, and the party behind it
 module _ {S : Settings} {b : List ℕ} (good : GoodBook S b) (m : ℕ) {n : ℕ} {w : List ℕ} (gs : List Guest) (lent : Lent n w gs) where

@@ -28,7 +28,8 @@ use denote.Steps.{only}
 use denote.Struct.Steps.{spelt}
 
 module _ {M : Type 1} (𝓤 : URA M) (H : Heap 𝓤) (A : Atoms 𝓤) (W : Given 𝓤 H A) (n : ℕ) (xs : List ℕ) (b : ℕ) where
-  pub elements : (v : Val) → ent 𝓤 (sep 𝓤 (H .at fullShare (tyArray (tyInt w32) n) b 0 v) (sem 𝓤 H A (Array u32 n .own xs (v ∷ [])))) (sem 𝓤 H A (cells (mem u32) xs b 0))
+  pub elements : (v : Val) → ent 𝓤 (sep 𝓤 (H .at fullShare (tyArray (tyInt w32) n) b 0 v) (sem 𝓤 H A (Array u32 n .own xs (v
+      ∷ [])))) (sem 𝓤 H A (cells (mem u32) xs b 0))
   unfolding partOf
   elements v =
       qed W (‵ (fat fullShare (tyArray (tyInt w32) n) b 0 v) ∷ ‵ (Array u32 n .own xs (v ∷ [])) ∷ []) ∵
@@ -41,10 +42,13 @@ module _ {M : Type 1} (𝓤 : URA M) (H : Heap 𝓤) (A : Atoms 𝓤) (W : Given
   abbrev pub value : Val
   value = only (array-vals (uint-vals w32) xs)
 
-  pub array : length xs ≡ n → ent 𝓤 (sem 𝓤 H A (cells (mem u32) xs b 0)) (sep 𝓤 (H .at fullShare (tyArray (tyInt w32) n) b 0 value) (sem 𝓤 H A (Array u32 n .own xs (value ∷ []))))
+  pub array : length xs ≡ n → ent 𝓤 (sem 𝓤 H A (cells (mem u32) xs b 0)) (sep 𝓤 (H .at fullShare (tyArray (tyInt w32) n) b 0 value) (sem 𝓤 H A
+      (Array u32 n .own xs (value ∷ []))))
   unfolding partOf
   array e =
-      qed W (‵ (cells (mem u32) xs b 0) ∷ []) ∵ use1 W (‵ (row u32 fullShare xs b 0)) (whole-out 𝓤 H A W u32 xs b 0) $ feqI ! ℕ (length xs) n e $ fjoin ! $
+      qed W (‵ (cells (mem u32) xs b 0) ∷ []) ∵ use1 W (‵ (row u32 fullShare xs b 0)) (whole-out 𝓤 H A W u32 xs b 0) $ feqI ! ℕ (length xs) n e $
+      fjoin ! $
       use1 W (‵ (partAt (Array u32 n) fullShare xs b 0)) (array-whole 𝓤 H A W u32 fullShare n xs b 0) $ fpick ! (λ vs. fsplit ! $
-      spelt ! (Array u32 n) (Is (Array u32 n)) (shows 𝓤 H A (Array u32 n)) (array-vals (uint-vals w32)) (array-tells u32 (uint-vals w32) (uint-tells w32) n) fullShare xs vs b 0 $
+      spelt ! (Array u32 n) (Is (Array u32 n)) (shows 𝓤 H A (Array u32 n)) (array-vals (uint-vals w32)) (array-tells u32 (uint-vals w32)
+          (uint-tells w32) n) fullShare xs vs b 0 $
       use1 W (‵ (fat fullShare (tyArray (tyInt w32) n) b 0 value)) (W .laws .raw-at fullShare (tyArray (tyInt w32) n) b 0 value) $ frame ! $ done !)

@@ -1,4 +1,5 @@
--- `caviar_party` meets its contract: a walk of its MIR, by hand. The book and the guests are passed on to `party`, at their own lifetimes, shares and names, and its answer to `told`.
+-- `caviar_party` meets its contract: a walk of its MIR, by hand. The book and the guests are passed on to `party`, at their own
+-- lifetimes, shares and names, and its answer to `told`.
 -- The slice of guests is Copy: what it owns is had twice, one copy goes to the call, and one is kept for the exit.
 -- Assumes nothing.
 use mathlib.Core.Path.{_≡_, refl, _∙_, ap}
@@ -75,7 +76,9 @@ module _ {M : Type 1} (𝓤 : URA M) (H : Heap 𝓤) (A : Atoms 𝓤) (mem : Mem
   abbrev Words : Contract 𝓤
   Words = tripleOf 𝓤 H A told.signature (told.spec 𝓤 H A mem run)
 
-module _ {M : Type 1} (𝓤 : URA M) (H : Heap 𝓤) (A : Atoms 𝓤) (W : Given 𝓤 H A) (mem : Memory → SProp 𝓤) (run : Routine → Fun 𝓤) (κ κ′ : Lft) (bounds : AllOutlive 2 (f.signature .outlives) (κ, (κ′, tt))) (q q′ : Share) (x : RefT (List ℕ)) (m : ℕ) (y : RefT (List Guest)) (room : Room u32 (length (x .now))) (m-fits : m < 2 ^ 32) (room′ : Room T.the-row (length (y .now))) where
+module _ {M : Type 1} (𝓤 : URA M) (H : Heap 𝓤) (A : Atoms 𝓤) (W : Given 𝓤 H A) (mem : Memory → SProp 𝓤) (run : Routine
+    → Fun 𝓤) (κ κ′ : Lft) (bounds : AllOutlive 2 (f.signature .outlives) (κ, (κ′, tt))) (q q′ : Share) (x : RefT (List ℕ)) (m : ℕ) (y : RefT
+        (List Guest)) (room : Room u32 (length (x .now))) (m-fits : m < 2 ^ 32) (room′ : Room T.the-row (length (y .now))) where
   -- the machine values of book and guests
   abbrev v : Val
   v = sliceVal (x .ptr) (length (x .now))
@@ -110,7 +113,8 @@ module _ {M : Type 1} (𝓤 : URA M) (H : Heap 𝓤) (A : Atoms 𝓤) (W : Given
 
   goes-party : ent 𝓤 (⋆ 𝓤 H A (Tokens ∷ ‵ Book ∷ ‵ Guests ∷ [])) (Party 𝓤 H A mem run .pre to-party)
   goes-party =
-      qed W (Tokens ∷ ‵ Book ∷ ‵ Guests ∷ []) ∵ nothing ! $ move ! (3 ∷ 0 ∷ []) $ fjoin ! $ owned ! u32 (Is u32) (uint-makes 𝓤 H A W w32) m _ (refl, m-fits) $ fjoin ! $
+      qed W (Tokens ∷ ‵ Book ∷ ‵ Guests ∷ []) ∵ nothing ! $ move ! (3 ∷ 0 ∷ []) $ fjoin ! $
+      owned ! u32 (Is u32) (uint-makes 𝓤 H A W w32) m _ (refl, m-fits) $ fjoin ! $
       move ! (2 ∷ 0 ∷ []) $ fjoin ! $ move ! (1 ∷ 0 ∷ []) $ join ! $ frame ! $ done !
 
   -- the call of `told`, at the answer r with the machine value u
@@ -120,58 +124,82 @@ module _ {M : Type 1} (𝓤 : URA M) (H : Heap 𝓤) (A : Atoms 𝓤) (W : Given
   goes-told : (r : Answer) (u : Val) → ent 𝓤 (sem 𝓤 H A (S.the-row .own r (u ∷ []))) (Words 𝓤 H A mem run .pre (to-told r u))
   goes-told r u = qed W (‵ (S.the-row .own r (u ∷ [])) ∷ []) ∵ nothing ! $ move ! (1 ∷ 0 ∷ []) $ join ! $ nothing ! $ join ! $ frame ! $ done !
 
-  told-said : (r : Answer) (w : AnswerWords) → ent 𝓤 (ensured 𝓤 H A told.ended (told.clauses 𝓤 H A mem run) tt (r, tt) tt w) (fact 𝓤 (wordsOf w ≡ answerWords r))
+  told-said : (r : Answer) (w : AnswerWords)
+      → ent 𝓤 (ensured 𝓤 H A told.ended (told.clauses 𝓤 H A mem run) tt (r, tt) tt w) (fact 𝓤 (wordsOf w ≡ answerWords r))
   told-said r w = exE 𝓤 _ (λ ws. snd∗ 𝓤 (sem 𝓤 H A (lasts told.ended tt (r, tt) ws)) (fact 𝓤 (wordsOf w ≡ answerWords r)))
 
   exits : (w : AnswerWords) (u : Val) (zs : List ℕ) → Tells (callParty (x .now) m (y .now)) w zs → length zs ≡ length (x .now)
       → ent 𝓤 (⋆ 𝓤 H A (Tokens ∷ ‵ (finally u32 (x .name) zs) ∷ ‵ Guests ∷ ‵ (R.the-row .own w (u ∷ [])) ∷ [])) (Post u)
   exits w u zs e l =
       qed W (Tokens ∷ ‵ (finally u32 (x .name) zs) ∷ ‵ Guests ∷ ‵ (R.the-row .own w (u ∷ [])) ∷ []) ∵
-      suffices ! _ (ends-at 𝓤 H A f.ended stayed (f.clauses 𝓤 H A mem run) W (((κ, (κ′, tt)), (q, (q′, tt)), bounds, a, vals), tt) u w (zs, (tt, (tt, tt))) (l, (tt, (tt, tt)))) $ says ! e $ frame ! $
-      nothing ! $ move ! (2 ∷ 0 ∷ []) $ fjoin ! $ owned ! u32 (Is u32) (uint-makes 𝓤 H A W w32) m _ (refl, m-fits) $ fjoin ! $ move ! (1 ∷ 0 ∷ []) $ fjoin ! $ frame ! $ done !
+      suffices ! _ (ends-at 𝓤 H A f.ended stayed (f.clauses 𝓤 H A mem run) W (((κ, (κ′, tt)), (q, (q′, tt)), bounds, a, vals), tt) u w (zs, (tt,
+          (tt, tt))) (l, (tt, (tt, tt)))) $ says ! e $ frame ! $
+      nothing ! $ move ! (2 ∷ 0 ∷ []) $ fjoin ! $ owned ! u32 (Is u32) (uint-makes 𝓤 H A W w32) m _ (refl, m-fits) $ fjoin ! $
+      move ! (1 ∷ 0 ∷ []) $ fjoin ! $ frame ! $ done !
 
-  module _ (C : Calls 𝓤 H) (Λ : Loops 𝓤 H) (fm : FmC 𝓤 H (W .laws) C) (known-party : Triple 𝓤 (C #parties·party) (Party 𝓤 H A mem run)) (known-told : Triple 𝓤 (C #capi·told) (Words 𝓤 H A mem run)) where
+  module _ (C : Calls 𝓤 H) (Λ : Loops 𝓤 H) (fm : FmC 𝓤 H (W .laws) C) (known-party : Triple 𝓤 (C #parties·party) (Party 𝓤 H A mem run))
+      (known-told : Triple 𝓤 (C #capi·told) (Words 𝓤 H A mem run)) where
     walk : ent 𝓤 (onEntry 𝓤 H A f.signature (κ, (κ′, tt)) (q, (q′, tt)) a vals) (WpFn 𝓤 H C Λ code.function (v ∷ vint w32 m ∷ v′ ∷ []) Post)
     walk =
-        qed W (Tokens ∷ ‵ (owns (MutSlice (named 0) κ u32 ∷ u32 ∷ ShrSlice (named 1) κ′ T.the-row ∷ []) a vals) ∷ []) ∵ enter ! C Λ code.function (v ∷ vint w32 m ∷ v′ ∷ []) _ $
+        qed W (Tokens ∷ ‵ (owns (MutSlice (named 0) κ u32 ∷ u32 ∷ ShrSlice (named 1) κ′ T.the-row ∷ []) a vals) ∷ []) ∵
+        enter ! C Λ code.function (v ∷ vint w32 m ∷ v′ ∷ []) _ $
         alloc1 ! (λ l₀. alloc1 ! (λ l₁. alloc1 ! (λ l₂. alloc1 ! (λ l₃. alloc1 ! (λ l₄. alloc1 ! (λ l₅. alloc1 ! (λ l₆. alloc0 ! $ params1 ! $
-        pass1 ! (init ! 10 refl (tt, (tt, (record { fits = room .0 }, tt)))) $ pass1 ! (init ! 8 refl (tt, record { fits = m-fits })) $ pass1 ! (init ! 6 refl (tt, (tt, (record { fits = room′ .0 }, tt)))) $ pass0 ! $
-        assigns ! (addr ! (from ! (fld ! refl (hop ! (look-in ! 10 (sub ! 0 refl (whole !))) (stop !))))) (from ! (stop !)) (init ! 2 refl (tt, tt)) $
-        assigns ! (agg ! (and-then ! (load ! (from ! (stop !)) (look ! 2 refl)) (and-then ! (load ! (from ! (fld ! refl (stop !))) (look-in ! 10 (sub ! 1 refl (whole !)))) (no-more !)))) (from ! (stop !)) (init ! 0 refl (tt, (tt, (record { fits = room .0 }, tt)))) $
-        move ! (15 ∷ []) $ fsplit ! $ move ! (1 ∷ []) $ fsplit ! $ move ! (1 ∷ []) $ fsplit ! $ use1 W (‵ Guests ⊛ ‵ Guests) (shr-slice-copy 𝓤 H A W (named 1) κ′ T.the-row .twice y (v′ ∷ [])) $ split ! $
+        pass1 ! (init ! 10 refl (tt, (tt, (record { fits = room .0 }, tt)))) $ pass1 ! (init ! 8 refl (tt, record { fits = m-fits })) $
+            pass1 ! (init ! 6 refl (tt, (tt, (record { fits = room′ .0 }, tt)))) $ pass0 ! $
+        assigns ! (addr ! (from ! (fld ! refl (hop ! (look-in ! 10 (sub ! 0 refl (whole !))) (stop !))))) (from ! (stop !)) (init ! 2 refl
+            (tt, tt)) $
+        assigns ! (agg ! (and-then ! (load ! (from ! (stop !)) (look ! 2 refl)) (and-then ! (load ! (from ! (fld ! refl (stop !))) (look-in ! 10
+            (sub ! 1 refl (whole !)))) (no-more !)))) (from ! (stop !)) (init ! 0 refl (tt, (tt, (record { fits = room .0 }, tt)))) $
+        move ! (15 ∷ []) $ fsplit ! $ move ! (1 ∷ []) $ fsplit ! $ move ! (1 ∷ []) $ fsplit ! $
+        use1 W (‵ Guests ⊛ ‵ Guests) (shr-slice-copy 𝓤 H A W (named 1) κ′ T.the-row .twice y (v′ ∷ [])) $ split ! $
         -- [what guests owns; the same; true; m's; what book owns; _6; …; _0; …; the tokens]
         move ! (19 ∷ 4 ∷ 0 ∷ []) $ use3 W (raw (Party 𝓤 H A mem run .pre to-party)) goes-party $
         -- [what `party` asks; what guests owns; true; m's; _6; …; _0; …]
-        calls-at ! fm (Party 𝓤 H A mem run) known-party to-party (and-then ! (load ! (from ! (stop !)) (look ! 4 refl)) (and-then ! (load ! (from ! (stop !)) (look ! 12 refl)) (and-then ! (load ! (from ! (stop !)) (look ! 10 refl)) (no-more !)))) (λ u.
-        use1 W (later (some (λ (r : Answer). (Tokens ⊛ ‵ (S.the-row .own r (u ∷ []))) ⊛ raw (ensured 𝓤 H A party.ended (party.clauses 𝓤 H A mem run) (κ, (κ′, tt)) a tt r)))) (id⊢ 𝓤 _) $ await ! tt $ pick ! (λ r.
-        split ! $ move ! (1 ∷ []) $ use1 W (some (λ (zs : Lasts party.ended (κ, (κ′, tt)) a). ‵ (lasts party.ended (κ, (κ′, tt)) a zs) ⊛ raw (fact 𝓤 (answered r (zs .0) ≡ callParty (x .now) m (y .now))))) (id⊢ 𝓤 _) $ pick ! (λ zs.
-        split ! $ move ! (1 ∷ []) $ heard ! (answered r (zs .0) ≡ callParty (x .now) m (y .now)) (λ e. fsplit ! $ fsplit ! $ move ! (1 ∷ []) $ feqL ! (λ l.
+        calls-at ! fm (Party 𝓤 H A mem run) known-party to-party (and-then ! (load ! (from ! (stop !)) (look ! 4 refl)) (and-then ! (load !
+            (from ! (stop !)) (look ! 12 refl)) (and-then ! (load ! (from ! (stop !)) (look ! 10 refl)) (no-more !)))) (λ u.
+        use1 W (later (some (λ (r : Answer). (Tokens ⊛ ‵ (S.the-row .own r (u
+            ∷ []))) ⊛ raw (ensured 𝓤 H A party.ended (party.clauses 𝓤 H A mem run) (κ, (κ′, tt)) a tt r)))) (id⊢ 𝓤 _) $ await ! tt $ pick ! (λ r.
+        split ! $ move ! (1 ∷ []) $ use1 W (some (λ (zs : Lasts party.ended (κ, (κ′, tt)) a). ‵ (lasts party.ended (κ, (κ′, tt)) a zs) ⊛ raw
+            (fact 𝓤 (answered r (zs .0) ≡ callParty (x .now) m (y .now))))) (id⊢ 𝓤 _) $ pick ! (λ zs.
+        split ! $ move ! (1 ∷ []) $ heard ! (answered r (zs .0) ≡ callParty (x .now) m (y .now)) (λ e. fsplit ! $ fsplit ! $ move ! (1 ∷ []) $
+        feqL ! (λ l.
         move ! (2 ∷ []) $ split ! $ move ! (1 ∷ []) $ peeks ! S.the-row (Is S.the-row) (shows 𝓤 H A S.the-row) r (u ∷ []) (λ is.
         -- [the answer; the tokens; the last list; …; what guests owns; true; m's; _6; …; _0; …]
         land ! (from ! (stop !)) (init ! 11 refl (EL.lawful S.the-type S′.the-laws 𝓤 H A W tt .typed r _ is .0)) $
         use1 W (raw (Words 𝓤 H A mem run .pre (to-told r u))) (goes-told r u) $
         calls-at ! fm (Words 𝓤 H A mem run) known-told (to-told r u) (and-then ! (load ! (from ! (stop !)) (look ! 11 refl)) (no-more !)) (λ u′.
-        use1 W (later (some (λ (w : AnswerWords). (‵ ftrue ⊛ ‵ (R.the-row .own w (u′ ∷ []))) ⊛ raw (ensured 𝓤 H A told.ended (told.clauses 𝓤 H A mem run) tt (r, tt) tt w)))) (id⊢ 𝓤 _) $ await ! tt $ pick ! (λ w.
-        split ! $ move ! (1 ∷ []) $ use1 W (raw (fact 𝓤 (wordsOf w ≡ answerWords r))) (told-said r w) $ heard ! (wordsOf w ≡ answerWords r) (λ e′. split ! $ drop ! $
+        use1 W (later (some (λ (w : AnswerWords). (‵ ftrue ⊛ ‵ (R.the-row .own w (u′
+            ∷ []))) ⊛ raw (ensured 𝓤 H A told.ended (told.clauses 𝓤 H A mem run) tt (r, tt) tt w)))) (id⊢ 𝓤 _) $ await ! tt $ pick ! (λ w.
+        split ! $ move ! (1 ∷ []) $ use1 W (raw (fact 𝓤 (wordsOf w ≡ answerWords r))) (told-said r w) $
+        heard ! (wordsOf w ≡ answerWords r) (λ e′. split ! $ drop ! $
         peeks ! R.the-row (Is R.the-row) (shows 𝓤 H A R.the-row) w (u′ ∷ []) (λ is′.
         -- [the result; the tokens; the last list; …; what guests owns; true; m's; _6; …; _0; …]
         land ! (from ! (stop !)) (init ! 19 refl (LL.lawful R.the-type R′.the-laws 𝓤 H A W .typed w _ is′ .0)) $
-        returns ! (look ! 19 refl) $ forget ! 7 refl $ forget ! 9 refl $ forget ! 11 refl $ forget ! 13 refl $ forget ! 15 refl $ forget ! 17 refl $ forget ! 19 refl $
-        move ! (19 ∷ 20 ∷ []) $ free1 ! $ move ! (17 ∷ 18 ∷ []) $ free1 ! $ move ! (15 ∷ 16 ∷ []) $ free1 ! $ move ! (13 ∷ 14 ∷ []) $ free1 ! $ move ! (11 ∷ 12 ∷ []) $ free1 ! $ move ! (9 ∷ 10 ∷ []) $ free1 ! $ move ! (7 ∷ 8 ∷ []) $ free1 ! $ free0 ! $
-        keep ! (1 ∷ 2 ∷ 4 ∷ 0 ∷ []) $ by ! (exits w u′ (zs .0) (record { answer = e′ ∙ ap (λ x. replyWords (x .reply)) e; book = ap (λ x. x .book) e }) l))))))))))))))))))
+        returns ! (look ! 19 refl) $ forget ! 7 refl $ forget ! 9 refl $ forget ! 11 refl $ forget ! 13 refl $ forget ! 15 refl $
+        forget ! 17 refl $ forget ! 19 refl $
+        move ! (19 ∷ 20 ∷ []) $ free1 ! $ move ! (17 ∷ 18 ∷ []) $ free1 ! $ move ! (15 ∷ 16 ∷ []) $ free1 ! $ move ! (13 ∷ 14 ∷ []) $ free1 ! $
+        move ! (11 ∷ 12 ∷ []) $ free1 ! $ move ! (9 ∷ 10 ∷ []) $ free1 ! $ move ! (7 ∷ 8 ∷ []) $ free1 ! $ free0 ! $
+        keep ! (1 ∷ 2 ∷ 4 ∷ 0 ∷ []) $ by ! (exits w u′ (zs .0) (record { answer = e′ ∙ ap (λ x. replyWords (x .reply)) e; book = ap
+            (λ x. x .book) e }) l))))))))))))))))))
 
 module _ {M : Type 1} (𝓤 : URA M) (H : Heap 𝓤) (A : Atoms 𝓤) (W : Given 𝓤 H A) (mem : Memory → SProp 𝓤) (run : Routine → Fun 𝓤) where
-  walks : (C : Calls 𝓤 H) (Λ : Loops 𝓤 H) → FmC 𝓤 H (W .laws) C → Triple 𝓤 (C #parties·party) (Party 𝓤 H A mem run) → Triple 𝓤 (C #capi·told) (Words 𝓤 H A mem run)
+  walks : (C : Calls 𝓤 H) (Λ : Loops 𝓤 H) → FmC 𝓤 H (W .laws) C → Triple 𝓤 (C #parties·party) (Party 𝓤 H A mem run)
+      → Triple 𝓤 (C #capi·told) (Words 𝓤 H A mem run)
       → Walks 𝓤 H A f.ended stayed (WpFn 𝓤 H C Λ code.function) (f.clauses 𝓤 H A mem run)
   walks C Λ fm known-party known-told = walked 𝓤 H A f.ended stayed (f.clauses 𝓤 H A mem run) (WpFn 𝓤 H C Λ code.function)
-      (λ κs. (slice-vals, (uint-vals w32, (slice-vals, tt)))) (λ κs. (mut-slice-tells (named 0) (κs .0) u32, (uint-tells w32, (shr-slice-tells (named 1) (κs .1 .0) T.the-row, tt))))
-      (λ κs qs bounds a g are. via 𝓤 _ (fst∗ 𝓤 _ (emp 𝓤)) (walk 𝓤 H A W mem run (κs .0) (κs .1 .0) bounds (qs .0) (qs .1 .0) (a .0) (a .1 .0) (a .1 .1 .0) (are .0 .0 .1) (are .1 .0 .1) (are .1 .1 .0 .0 .1) C Λ fm known-party known-told))
+      (λ κs. (slice-vals, (uint-vals w32, (slice-vals, tt)))) (λ κs. (mut-slice-tells (named 0) (κs .0) u32, (uint-tells w32, (shr-slice-tells
+          (named 1) (κs .1 .0) T.the-row, tt))))
+      (λ κs qs bounds a g are. via 𝓤 _ (fst∗ 𝓤 _ (emp 𝓤)) (walk 𝓤 H A W mem run (κs .0) (κs .1 .0) bounds (qs .0) (qs .1 .0) (a .0) (a .1 .0)
+          (a .1 .1 .0) (are .0 .0 .1) (are .1 .0 .1) (are .1 .1 .0 .0 .1) C Λ fm known-party known-told))
 
 meets : {M : Type 1} (𝓤 : URA M) (H : Heap 𝓤) (A : Atoms 𝓤) (W : Given 𝓤 H A) (mem : Memory → SProp 𝓤) (run : Routine → Fun 𝓤) (𝓣 : Tables 𝓤 H)
-    → Triple 𝓤 (𝓣 .C #parties·party) (Party 𝓤 H A mem run) → Triple 𝓤 (𝓣 .C #capi·told) (Words 𝓤 H A mem run) → Meets 𝓤 H A f.signature (WpFn 𝓤 H (𝓣 .C) (𝓣 .Λ) code.function) (f.spec 𝓤 H A mem run)
+    → Triple 𝓤 (𝓣 .C #parties·party) (Party 𝓤 H A mem run) → Triple 𝓤 (𝓣 .C #capi·told) (Words 𝓤 H A mem run)
+        → Meets 𝓤 H A f.signature (WpFn 𝓤 H (𝓣 .C) (𝓣 .Λ) code.function) (f.spec 𝓤 H A mem run)
 meets 𝓤 H A W mem run 𝓣 known-party known-told =
-    walk-meets 𝓤 H A f.ended stayed W (goes-gave-slice 𝓤 H A W 2 0 tt (plain (λ _. u32)), (goes-none 𝓤 H A W 2 (λ _. u32) yes (λ κs x f. refl), (goes-none-slice 𝓤 H A W 2 (1 ∷ []) tt (plain (λ _. T.the-row)) yes, tt))) (f.clauses 𝓤 H A mem run)
-    (WpFn 𝓤 H (𝓣 .C) (𝓣 .Λ) code.function) (WpFn-mono 𝓤 H (W .laws) 𝓣 code.function) (walks 𝓤 H A W mem run (𝓣 .C) (𝓣 .Λ) (fmOf 𝓤 H (W .laws) 𝓣) known-party known-told)
+    walk-meets 𝓤 H A f.ended stayed W (goes-gave-slice 𝓤 H A W 2 0 tt (plain (λ _. u32)), (goes-none 𝓤 H A W 2 (λ _. u32) yes (λ κs x f. refl),
+        (goes-none-slice 𝓤 H A W 2 (1 ∷ []) tt (plain (λ _. T.the-row)) yes, tt))) (f.clauses 𝓤 H A mem run)
+    (WpFn 𝓤 H (𝓣 .C) (𝓣 .Λ) code.function) (WpFn-mono 𝓤 H (W .laws) 𝓣 code.function) (walks 𝓤 H A W mem run (𝓣 .C) (𝓣 .Λ) (fmOf 𝓤 H
+        (W .laws) 𝓣) known-party known-told)
 
 pub caviar-party-spec : {M : Type 1} → stated.statement M
 unfolding code.routine tablesOf
@@ -179,5 +207,6 @@ caviar-party-spec 𝓤 H 𝓜 𝓖 𝓡 =
     entered 𝓤 H (tripleOf 𝓤 H (𝓖 .A) f.signature (f.spec 𝓤 H (𝓖 .A) (𝓜 .mem) (𝓡 .run)))
     (tables 𝓤 H 𝓜 𝓡 code.env .C) (tables 𝓤 H 𝓜 𝓡 code.env .Λ) #capi·caviar-party code.function (code.unfolded 𝓤 H 𝓜 𝓡)
     (meets 𝓤 H (𝓖 .A) (givenOf 𝓤 H 𝓜 𝓖) (𝓜 .mem) (𝓡 .run) (tablesOf 𝓤 H 𝓜 (tables 𝓤 H 𝓜 𝓡 code.env))
-    (cited 𝓤 H (Party 𝓤 H (𝓖 .A) (𝓜 .mem) (𝓡 .run)) 𝓜 𝓡 code.env #parties·party party-def.routine code.calls-parties·party (party-thm.met 𝓤 H 𝓜 𝓖 𝓡))
+    (cited 𝓤 H (Party 𝓤 H (𝓖 .A) (𝓜 .mem) (𝓡 .run)) 𝓜 𝓡 code.env #parties·party party-def.routine code.calls-parties·party
+        (party-thm.met 𝓤 H 𝓜 𝓖 𝓡))
     (cited 𝓤 H (Words 𝓤 H (𝓖 .A) (𝓜 .mem) (𝓡 .run)) 𝓜 𝓡 code.env #capi·told told-def.routine code.calls-capi·told (told-thm.met 𝓤 H 𝓜 𝓖 𝓡)))

@@ -1,4 +1,5 @@
--- `party` meets its contract: a walk of its MIR, by hand. The guests are taken apart by one call, and the words go to the next, with the book, which is given up for good: the call is at the borrow's own lifetime, share and name.
+-- `party` meets its contract: a walk of its MIR, by hand. The guests are taken apart by one call, and the words go to the next, with the
+-- book, which is given up for good: the call is at the borrow's own lifetime, share and name.
 -- The slice of guests is Copy: what it owns is had twice, one copy goes to the call, and one is kept for the exit.
 -- Assumes nothing.
 use mathlib.Core.Path.{_≡_, refl}
@@ -76,7 +77,9 @@ told : (book : List ℕ) (m : ℕ) (gs : List Guest) (w : List ℕ) (a : Answer)
     → answered a book′ ≡ callParty book m gs
 told book m gs w a book′ e t = t gs (record { many = refl; words = e })
 
-module _ {M : Type 1} (𝓤 : URA M) (H : Heap 𝓤) (A : Atoms 𝓤) (W : Given 𝓤 H A) (mem : Memory → SProp 𝓤) (run : Routine → Fun 𝓤) (κ κ′ : Lft) (bounds : AllOutlive 2 (f.signature .outlives) (κ, (κ′, tt))) (q q′ : Share) (x : RefT (List ℕ)) (m : ℕ) (y : RefT (List Guest)) (room : Room u32 (length (x .now))) (m-fits : m < 2 ^ 32) (room′ : Room T.the-row (length (y .now))) where
+module _ {M : Type 1} (𝓤 : URA M) (H : Heap 𝓤) (A : Atoms 𝓤) (W : Given 𝓤 H A) (mem : Memory → SProp 𝓤) (run : Routine
+    → Fun 𝓤) (κ κ′ : Lft) (bounds : AllOutlive 2 (f.signature .outlives) (κ, (κ′, tt))) (q q′ : Share) (x : RefT (List ℕ)) (m : ℕ) (y : RefT
+        (List Guest)) (room : Room u32 (length (x .now))) (m-fits : m < 2 ^ 32) (room′ : Room T.the-row (length (y .now))) where
   -- the machine values of book and guests
   abbrev v : Val
   v = sliceVal (x .ptr) (length (x .now))
@@ -107,72 +110,104 @@ module _ {M : Type 1} (𝓤 : URA M) (H : Heap 𝓤) (A : Atoms 𝓤) (W : Given
   to-apart = (((κ′, tt), (q′, tt), tt, (y, tt), (v′ ∷ [], tt)), tt)
 
   goes-apart : ent 𝓤 (⋆ 𝓤 H A (‵ Guests ∷ (‵ (flft κ′ q′) ⊛ ‵ ftrue) ∷ [])) (TakeApart 𝓤 H A mem run .pre to-apart)
-  goes-apart = qed W (‵ Guests ∷ (‵ (flft κ′ q′) ⊛ ‵ ftrue) ∷ []) ∵ nothing ! $ move ! (1 ∷ 0 ∷ []) $ fjoin ! $ move ! (1 ∷ 0 ∷ []) $ join ! $ frame ! $ done !
+  goes-apart = qed W (‵ Guests ∷ (‵ (flft κ′ q′) ⊛ ‵ ftrue) ∷ []) ∵ nothing ! $ move ! (1 ∷ 0 ∷ []) $ fjoin ! $ move ! (1 ∷ 0 ∷ []) $ join ! $
+      frame ! $ done !
 
   apart-said : (w : List ℕ) → ent 𝓤 (ensured 𝓤 H A apart.ended (apart.clauses 𝓤 H A mem run) (κ′, tt) (y, tt) tt w) (fact 𝓤 (Apart (y .now) w))
   apart-said w = exE 𝓤 _ (λ ws. snd∗ 𝓤 (sem 𝓤 H A (lasts apart.ended (κ′, tt) (y, tt) ws)) (fact 𝓤 (Apart (y .now) w)))
 
   -- the call of `party_of`, at the words w with the machine value u
   abbrev to-of : List ℕ → Val → PartyOf 𝓤 H A mem run .Ghost
-  to-of w u = (((κ, tt), (q, tt), tt, (x, (m, (w, (length (y .now), tt)))), (v ∷ [], (vint w32 m ∷ [], (u ∷ [], (vint w64 (length (y .now)) ∷ [], tt))))), tt)
+  to-of w u = (((κ, tt), (q, tt), tt, (x, (m, (w, (length (y .now), tt)))), (v ∷ [], (vint w32 m ∷ [], (u ∷ [], (vint w64 (length (y .now))
+      ∷ [], tt))))), tt)
 
-  goes-of : (w : List ℕ) (u : Val) → ent 𝓤 (⋆ 𝓤 H A (‵ (flft κ q) ∷ ‵ Book ∷ ‵ (Array u32 192 .own w (u ∷ [])) ∷ [])) (PartyOf 𝓤 H A mem run .pre (to-of w u))
+  goes-of : (w : List ℕ) (u : Val) → ent 𝓤 (⋆ 𝓤 H A (‵ (flft κ q) ∷ ‵ Book ∷ ‵ (Array u32 192 .own w (u ∷ []))
+      ∷ [])) (PartyOf 𝓤 H A mem run .pre (to-of w u))
   goes-of w u =
       qed W (‵ (flft κ q) ∷ ‵ Book ∷ ‵ (Array u32 192 .own w (u ∷ [])) ∷ []) ∵ nothing ! $ move ! (1 ∷ 0 ∷ []) $ join ! $
       nothing ! $ owned ! usize (Is usize) (uint-makes 𝓤 H A W w64) (length (y .now)) _ (refl, room′ .0) $ fjoin ! $ move ! (3 ∷ 0 ∷ []) $ fjoin ! $
-      owned ! u32 (Is u32) (uint-makes 𝓤 H A W w32) m _ (refl, m-fits) $ fjoin ! $ move ! (2 ∷ 0 ∷ []) $ fjoin ! $ move ! (1 ∷ 0 ∷ []) $ join ! $ frame ! $ done !
+      owned ! u32 (Is u32) (uint-makes 𝓤 H A W w32) m _ (refl, m-fits) $ fjoin ! $ move ! (2 ∷ 0 ∷ []) $ fjoin ! $ move ! (1 ∷ 0 ∷ []) $ join ! $
+      frame ! $ done !
 
   exits : (r : Answer) (u : Val) (zs : List ℕ) → answered r zs ≡ callParty (x .now) m (y .now) → length zs ≡ length (x .now)
-      → ent 𝓤 (⋆ 𝓤 H A ((‵ (flft κ q) ⊛ ‵ ftrue) ∷ (‵ (flft κ′ q′) ⊛ ‵ ftrue) ∷ ‵ (finally u32 (x .name) zs) ∷ ‵ Guests ∷ ‵ (S.the-row .own r (u ∷ [])) ∷ [])) (Post u)
+      → ent 𝓤 (⋆ 𝓤 H A ((‵ (flft κ q) ⊛ ‵ ftrue) ∷ (‵ (flft κ′ q′) ⊛ ‵ ftrue) ∷ ‵ (finally u32 (x .name) zs) ∷ ‵ Guests ∷ ‵ (S.the-row .own r (u
+          ∷ [])) ∷ [])) (Post u)
   exits r u zs e l =
       qed W ((‵ (flft κ q) ⊛ ‵ ftrue) ∷ (‵ (flft κ′ q′) ⊛ ‵ ftrue) ∷ ‵ (finally u32 (x .name) zs) ∷ ‵ Guests ∷ ‵ (S.the-row .own r (u ∷ [])) ∷ []) ∵
-      suffices ! _ (ends-at 𝓤 H A f.ended stayed (f.clauses 𝓤 H A mem run) W (((κ, (κ′, tt)), (q, (q′, tt)), bounds, a, vals), tt) u r (zs, (tt, (tt, tt))) (l, (tt, (tt, tt)))) $ says ! e $
+      suffices ! _ (ends-at 𝓤 H A f.ended stayed (f.clauses 𝓤 H A mem run) W (((κ, (κ′, tt)), (q, (q′, tt)), bounds, a, vals), tt) u r (zs, (tt,
+          (tt, tt))) (l, (tt, (tt, tt)))) $ says ! e $
       split ! $ move ! (0 ∷ 2 ∷ []) $ join ! $ frame ! $
-      move ! (2 ∷ 0 ∷ []) $ fjoin ! $ owned ! u32 (Is u32) (uint-makes 𝓤 H A W w32) m _ (refl, m-fits) $ fjoin ! $ move ! (1 ∷ 0 ∷ []) $ fjoin ! $ frame ! $ done !
+      move ! (2 ∷ 0 ∷ []) $ fjoin ! $ owned ! u32 (Is u32) (uint-makes 𝓤 H A W w32) m _ (refl, m-fits) $ fjoin ! $ move ! (1 ∷ 0 ∷ []) $ fjoin ! $
+      frame ! $ done !
 
-  module _ (C : Calls 𝓤 H) (Λ : Loops 𝓤 H) (fm : FmC 𝓤 H (W .laws) C) (known-apart : Triple 𝓤 (C #parties·take-apart) (TakeApart 𝓤 H A mem run)) (known-of : Triple 𝓤 (C #parties·words·party-of) (PartyOf 𝓤 H A mem run)) where
+  module _ (C : Calls 𝓤 H) (Λ : Loops 𝓤 H) (fm : FmC 𝓤 H (W .laws) C) (known-apart : Triple 𝓤 (C #parties·take-apart) (TakeApart 𝓤 H A mem run))
+      (known-of : Triple 𝓤 (C #parties·words·party-of) (PartyOf 𝓤 H A mem run)) where
     walk : ent 𝓤 (onEntry 𝓤 H A f.signature (κ, (κ′, tt)) (q, (q′, tt)) a vals) (WpFn 𝓤 H C Λ code.function (v ∷ vint w32 m ∷ v′ ∷ []) Post)
     walk =
-        qed W ((‵ (flft κ q) ⊛ ‵ (flft κ′ q′) ⊛ ‵ ftrue) ∷ ‵ (owns (MutSlice (named 0) κ u32 ∷ u32 ∷ ShrSlice (named 1) κ′ T.the-row ∷ []) a vals) ∷ []) ∵ enter ! C Λ code.function (v ∷ vint w32 m ∷ v′ ∷ []) _ $
-        alloc1 ! (λ l₀. alloc1 ! (λ l₁. alloc1 ! (λ l₂. alloc1 ! (λ l₃. alloc1 ! (λ l₄. alloc1 ! (λ l₅. alloc1 ! (λ l₆. alloc1 ! (λ l₇. alloc0 ! $ params1 ! $
-        pass1 ! (init ! 12 refl (tt, (tt, (record { fits = room .0 }, tt)))) $ pass1 ! (init ! 10 refl (tt, record { fits = m-fits })) $ pass1 ! (init ! 8 refl (tt, (tt, (record { fits = room′ .0 }, tt)))) $ pass0 ! $
-        move ! (17 ∷ []) $ fsplit ! $ move ! (1 ∷ []) $ fsplit ! $ move ! (1 ∷ []) $ fsplit ! $ use1 W (‵ Guests ⊛ ‵ Guests) (shr-slice-copy 𝓤 H A W (named 1) κ′ T.the-row .twice y (v′ ∷ [])) $ split ! $
+        qed W ((‵ (flft κ q) ⊛ ‵ (flft κ′ q′) ⊛ ‵ ftrue) ∷ ‵ (owns (MutSlice (named 0) κ u32 ∷ u32 ∷ ShrSlice (named 1) κ′ T.the-row
+            ∷ []) a vals) ∷ []) ∵ enter ! C Λ code.function (v ∷ vint w32 m ∷ v′ ∷ []) _ $
+        alloc1 ! (λ l₀. alloc1 ! (λ l₁. alloc1 ! (λ l₂. alloc1 ! (λ l₃. alloc1 ! (λ l₄. alloc1 ! (λ l₅. alloc1 ! (λ l₆. alloc1 ! (λ l₇. alloc0 ! $
+        params1 ! $
+        pass1 ! (init ! 12 refl (tt, (tt, (record { fits = room .0 }, tt)))) $ pass1 ! (init ! 10 refl (tt, record { fits = m-fits })) $
+            pass1 ! (init ! 8 refl (tt, (tt, (record { fits = room′ .0 }, tt)))) $ pass0 ! $
+        move ! (17 ∷ []) $ fsplit ! $ move ! (1 ∷ []) $ fsplit ! $ move ! (1 ∷ []) $ fsplit ! $
+        use1 W (‵ Guests ⊛ ‵ Guests) (shr-slice-copy 𝓤 H A W (named 1) κ′ T.the-row .twice y (v′ ∷ [])) $ split ! $
         -- [what guests owns; the same; true; m's; what book owns; _7; …; _0; …; the tokens]
         move ! (21 ∷ []) $ split ! $ move ! (2 ∷ 1 ∷ []) $ use2 W (raw (TakeApart 𝓤 H A mem run .pre to-apart)) goes-apart $
         calls-at ! fm (TakeApart 𝓤 H A mem run) known-apart to-apart (and-then ! (load ! (from ! (stop !)) (look ! 14 refl)) (no-more !)) (λ u.
-        use1 W (later (some (λ (w : List ℕ). ((‵ (flft κ′ q′) ⊛ ‵ ftrue) ⊛ ‵ (Array u32 192 .own w (u ∷ []))) ⊛ raw (ensured 𝓤 H A apart.ended (apart.clauses 𝓤 H A mem run) (κ′, tt) (y, tt) tt w)))) (id⊢ 𝓤 _) $ await ! tt $ pick ! (λ w.
-        split ! $ move ! (1 ∷ []) $ use1 W (raw (fact 𝓤 (Apart (y .now) w))) (apart-said w) $ heard ! (Apart (y .now) w) (λ e. split ! $ move ! (1 ∷ []) $
+        use1 W (later (some (λ (w : List ℕ). ((‵ (flft κ′ q′) ⊛ ‵ ftrue) ⊛ ‵ (Array u32 192 .own w (u
+            ∷ []))) ⊛ raw (ensured 𝓤 H A apart.ended (apart.clauses 𝓤 H A mem run) (κ′, tt) (y, tt) tt w)))) (id⊢ 𝓤 _) $ await ! tt $ pick ! (λ w.
+        split ! $ move ! (1 ∷ []) $ use1 W (raw (fact 𝓤 (Apart (y .now) w))) (apart-said w) $ heard ! (Apart (y .now) w) (λ e. split ! $
+        move ! (1 ∷ []) $
         -- [what the words own; the second token; the first; what guests owns; true; m's; what book owns; _7; …; _0; …]
         peeks ! (Array u32 192) (Is (Array u32 192)) (shows 𝓤 H A (Array u32 192)) w (u ∷ []) (λ is.
         land ! (from ! (stop !)) (init ! 13 refl (array-lawful 𝓤 H A W u32 (uint-lawful 𝓤 H A W w32) 192 .typed w _ is .0)) $
-        assigns ! (addr ! (from ! (fld ! refl (hop ! (look-in ! 19 (sub ! 0 refl (whole !))) (stop !))))) (from ! (stop !)) (init ! 11 refl (tt, tt)) $
-        assigns ! (agg ! (and-then ! (load ! (from ! (stop !)) (look ! 11 refl)) (and-then ! (load ! (from ! (fld ! refl (stop !))) (look-in ! 19 (sub ! 1 refl (whole !)))) (no-more !)))) (from ! (stop !)) (init ! 9 refl (tt, (tt, (record { fits = room .0 }, tt)))) $
-        assigns ! (of-opd ! (load ! (from ! (fld ! refl (stop !))) (look-in ! 15 (sub ! 1 refl (whole !))))) (from ! (stop !)) (init ! 7 refl (tt, record { fits = room′ .0 })) $
+        assigns ! (addr ! (from ! (fld ! refl (hop ! (look-in ! 19 (sub ! 0 refl (whole !))) (stop !))))) (from ! (stop !)) (init ! 11 refl
+            (tt, tt)) $
+        assigns ! (agg ! (and-then ! (load ! (from ! (stop !)) (look ! 11 refl)) (and-then ! (load ! (from ! (fld ! refl (stop !))) (look-in ! 19
+            (sub ! 1 refl (whole !)))) (no-more !)))) (from ! (stop !)) (init ! 9 refl (tt, (tt, (record { fits = room .0 }, tt)))) $
+        assigns ! (of-opd ! (load ! (from ! (fld ! refl (stop !))) (look-in ! 15 (sub ! 1 refl (whole !))))) (from ! (stop !)) (init ! 7 refl
+            (tt, record { fits = room′ .0 })) $
         move ! (2 ∷ 6 ∷ 0 ∷ []) $ use3 W (raw (PartyOf 𝓤 H A mem run .pre (to-of w u))) (goes-of w u) $
         -- [what `party_of` asks; the second token; what guests owns; true; m's; _7; …; _0; …]
-        calls-at ! fm (PartyOf 𝓤 H A mem run) known-of (to-of w u) (and-then ! (load ! (from ! (stop !)) (look ! 7 refl)) (and-then ! (load ! (from ! (stop !)) (look ! 15 refl)) (and-then ! (load ! (from ! (stop !)) (look ! 11 refl)) (and-then ! (load ! (from ! (stop !)) (look ! 5 refl)) (no-more !))))) (λ u′.
-        use1 W (later (some (λ (r : Answer). ((‵ (flft κ q) ⊛ ‵ ftrue) ⊛ ‵ (S.the-row .own r (u′ ∷ []))) ⊛ raw (ensured 𝓤 H A of.ended (of.clauses 𝓤 H A mem run) (κ, tt) (x, (m, (w, (length (y .now), tt)))) tt r)))) (id⊢ 𝓤 _) $ await ! tt $ pick ! (λ r.
-        split ! $ move ! (1 ∷ []) $ use1 W (some (λ (zs : Lasts of.ended (κ, tt) (x, (m, (w, (length (y .now), tt))))). ‵ (lasts of.ended (κ, tt) (x, (m, (w, (length (y .now), tt)))) zs) ⊛ raw (fact 𝓤 (Parties (x .now) m (length (y .now)) w r (zs .0))))) (id⊢ 𝓤 _) $ pick ! (λ zs.
-        split ! $ move ! (1 ∷ []) $ heard ! (Parties (x .now) m (length (y .now)) w r (zs .0)) (λ e′. fsplit ! $ fsplit ! $ move ! (1 ∷ []) $ feqL ! (λ l.
+        calls-at ! fm (PartyOf 𝓤 H A mem run) known-of (to-of w u) (and-then ! (load ! (from ! (stop !)) (look ! 7 refl)) (and-then ! (load !
+            (from ! (stop !)) (look ! 15 refl)) (and-then ! (load ! (from ! (stop !)) (look ! 11 refl)) (and-then ! (load ! (from ! (stop !))
+                (look ! 5 refl)) (no-more !))))) (λ u′.
+        use1 W (later (some (λ (r : Answer). ((‵ (flft κ q) ⊛ ‵ ftrue) ⊛ ‵ (S.the-row .own r (u′
+            ∷ []))) ⊛ raw (ensured 𝓤 H A of.ended (of.clauses 𝓤 H A mem run) (κ, tt) (x, (m, (w, (length (y .now), tt)))) tt r)))) (id⊢ 𝓤 _) $
+            await ! tt $ pick ! (λ r.
+        split ! $ move ! (1 ∷ []) $ use1 W (some (λ (zs : Lasts of.ended (κ, tt) (x, (m, (w, (length (y .now), tt))))). ‵ (lasts of.ended (κ, tt)
+            (x, (m, (w, (length (y .now), tt)))) zs) ⊛ raw (fact 𝓤 (Parties (x .now) m (length (y .now)) w r (zs .0))))) (id⊢ 𝓤 _) $ pick ! (λ zs.
+        split ! $ move ! (1 ∷ []) $ heard ! (Parties (x .now) m (length (y .now)) w r (zs .0)) (λ e′. fsplit ! $ fsplit ! $ move ! (1 ∷ []) $
+        feqL ! (λ l.
         move ! (2 ∷ []) $ split ! $ move ! (1 ∷ []) $ peeks ! S.the-row (Is S.the-row) (shows 𝓤 H A S.the-row) r (u′ ∷ []) (λ is′.
         -- [the result; the first token; the last list; …; the second token; what guests owns; true; m's; _7; …; _0; …]
         land ! (from ! (stop !)) (init ! 22 refl (EL.lawful S.the-type S′.the-laws 𝓤 H A W tt .typed r _ is′ .0)) $
-        returns ! (look ! 22 refl) $ forget ! 8 refl $ forget ! 10 refl $ forget ! 12 refl $ forget ! 14 refl $ forget ! 16 refl $ forget ! 18 refl $ forget ! 20 refl $ forget ! 22 refl $
-        move ! (22 ∷ 23 ∷ []) $ free1 ! $ move ! (20 ∷ 21 ∷ []) $ free1 ! $ move ! (18 ∷ 19 ∷ []) $ free1 ! $ move ! (16 ∷ 17 ∷ []) $ free1 ! $ move ! (14 ∷ 15 ∷ []) $ free1 ! $ move ! (12 ∷ 13 ∷ []) $ free1 ! $ move ! (10 ∷ 11 ∷ []) $ free1 ! $ move ! (8 ∷ 9 ∷ []) $ free1 ! $ free0 ! $
+        returns ! (look ! 22 refl) $ forget ! 8 refl $ forget ! 10 refl $ forget ! 12 refl $ forget ! 14 refl $ forget ! 16 refl $
+        forget ! 18 refl $ forget ! 20 refl $ forget ! 22 refl $
+        move ! (22 ∷ 23 ∷ []) $ free1 ! $ move ! (20 ∷ 21 ∷ []) $ free1 ! $ move ! (18 ∷ 19 ∷ []) $ free1 ! $ move ! (16 ∷ 17 ∷ []) $ free1 ! $
+        move ! (14 ∷ 15 ∷ []) $ free1 ! $ move ! (12 ∷ 13 ∷ []) $ free1 ! $ move ! (10 ∷ 11 ∷ []) $ free1 ! $ move ! (8 ∷ 9 ∷ []) $ free1 ! $
+        free0 ! $
         keep ! (1 ∷ 4 ∷ 2 ∷ 5 ∷ 0 ∷ []) $ by ! (exits r u′ (zs .0) (told (x .now) m (y .now) w r (zs .0) e e′) l)))))))))))))))))))
 
 module _ {M : Type 1} (𝓤 : URA M) (H : Heap 𝓤) (A : Atoms 𝓤) (W : Given 𝓤 H A) (mem : Memory → SProp 𝓤) (run : Routine → Fun 𝓤) where
-  walks : (C : Calls 𝓤 H) (Λ : Loops 𝓤 H) → FmC 𝓤 H (W .laws) C → Triple 𝓤 (C #parties·take-apart) (TakeApart 𝓤 H A mem run) → Triple 𝓤 (C #parties·words·party-of) (PartyOf 𝓤 H A mem run)
+  walks : (C : Calls 𝓤 H) (Λ : Loops 𝓤 H) → FmC 𝓤 H (W .laws) C → Triple 𝓤 (C #parties·take-apart) (TakeApart 𝓤 H A mem run)
+      → Triple 𝓤 (C #parties·words·party-of) (PartyOf 𝓤 H A mem run)
       → Walks 𝓤 H A f.ended stayed (WpFn 𝓤 H C Λ code.function) (f.clauses 𝓤 H A mem run)
   walks C Λ fm known-apart known-of = walked 𝓤 H A f.ended stayed (f.clauses 𝓤 H A mem run) (WpFn 𝓤 H C Λ code.function)
-      (λ κs. (slice-vals, (uint-vals w32, (slice-vals, tt)))) (λ κs. (mut-slice-tells (named 0) (κs .0) u32, (uint-tells w32, (shr-slice-tells (named 1) (κs .1 .0) T.the-row, tt))))
-      (λ κs qs bounds a g are. via 𝓤 _ (fst∗ 𝓤 _ (emp 𝓤)) (walk 𝓤 H A W mem run (κs .0) (κs .1 .0) bounds (qs .0) (qs .1 .0) (a .0) (a .1 .0) (a .1 .1 .0) (are .0 .0 .1) (are .1 .0 .1) (are .1 .1 .0 .0 .1) C Λ fm known-apart known-of))
+      (λ κs. (slice-vals, (uint-vals w32, (slice-vals, tt)))) (λ κs. (mut-slice-tells (named 0) (κs .0) u32, (uint-tells w32, (shr-slice-tells
+          (named 1) (κs .1 .0) T.the-row, tt))))
+      (λ κs qs bounds a g are. via 𝓤 _ (fst∗ 𝓤 _ (emp 𝓤)) (walk 𝓤 H A W mem run (κs .0) (κs .1 .0) bounds (qs .0) (qs .1 .0) (a .0) (a .1 .0)
+          (a .1 .1 .0) (are .0 .0 .1) (are .1 .0 .1) (are .1 .1 .0 .0 .1) C Λ fm known-apart known-of))
 
 meets : {M : Type 1} (𝓤 : URA M) (H : Heap 𝓤) (A : Atoms 𝓤) (W : Given 𝓤 H A) (mem : Memory → SProp 𝓤) (run : Routine → Fun 𝓤) (𝓣 : Tables 𝓤 H)
-    → Triple 𝓤 (𝓣 .C #parties·take-apart) (TakeApart 𝓤 H A mem run) → Triple 𝓤 (𝓣 .C #parties·words·party-of) (PartyOf 𝓤 H A mem run) → Meets 𝓤 H A f.signature (WpFn 𝓤 H (𝓣 .C) (𝓣 .Λ) code.function) (f.spec 𝓤 H A mem run)
+    → Triple 𝓤 (𝓣 .C #parties·take-apart) (TakeApart 𝓤 H A mem run) → Triple 𝓤 (𝓣 .C #parties·words·party-of) (PartyOf 𝓤 H A mem run)
+        → Meets 𝓤 H A f.signature (WpFn 𝓤 H (𝓣 .C) (𝓣 .Λ) code.function) (f.spec 𝓤 H A mem run)
 meets 𝓤 H A W mem run 𝓣 known-apart known-of =
-    walk-meets 𝓤 H A f.ended stayed W (goes-gave-slice 𝓤 H A W 2 0 tt (plain (λ _. u32)), (goes-none 𝓤 H A W 2 (λ _. u32) yes (λ κs x f. refl), (goes-none-slice 𝓤 H A W 2 (1 ∷ []) tt (plain (λ _. T.the-row)) yes, tt))) (f.clauses 𝓤 H A mem run)
-    (WpFn 𝓤 H (𝓣 .C) (𝓣 .Λ) code.function) (WpFn-mono 𝓤 H (W .laws) 𝓣 code.function) (walks 𝓤 H A W mem run (𝓣 .C) (𝓣 .Λ) (fmOf 𝓤 H (W .laws) 𝓣) known-apart known-of)
+    walk-meets 𝓤 H A f.ended stayed W (goes-gave-slice 𝓤 H A W 2 0 tt (plain (λ _. u32)), (goes-none 𝓤 H A W 2 (λ _. u32) yes (λ κs x f. refl),
+        (goes-none-slice 𝓤 H A W 2 (1 ∷ []) tt (plain (λ _. T.the-row)) yes, tt))) (f.clauses 𝓤 H A mem run)
+    (WpFn 𝓤 H (𝓣 .C) (𝓣 .Λ) code.function) (WpFn-mono 𝓤 H (W .laws) 𝓣 code.function) (walks 𝓤 H A W mem run (𝓣 .C) (𝓣 .Λ) (fmOf 𝓤 H
+        (W .laws) 𝓣) known-apart known-of)
 
 pub party-spec : {M : Type 1} → stated.statement M
 unfolding code.routine tablesOf
@@ -180,5 +215,7 @@ party-spec 𝓤 H 𝓜 𝓖 𝓡 =
     entered 𝓤 H (tripleOf 𝓤 H (𝓖 .A) f.signature (f.spec 𝓤 H (𝓖 .A) (𝓜 .mem) (𝓡 .run)))
     (tables 𝓤 H 𝓜 𝓡 code.env .C) (tables 𝓤 H 𝓜 𝓡 code.env .Λ) #parties·party code.function (code.unfolded 𝓤 H 𝓜 𝓡)
     (meets 𝓤 H (𝓖 .A) (givenOf 𝓤 H 𝓜 𝓖) (𝓜 .mem) (𝓡 .run) (tablesOf 𝓤 H 𝓜 (tables 𝓤 H 𝓜 𝓡 code.env))
-    (cited 𝓤 H (TakeApart 𝓤 H (𝓖 .A) (𝓜 .mem) (𝓡 .run)) 𝓜 𝓡 code.env #parties·take-apart apart-def.routine code.calls-parties·take-apart (apart-thm.met 𝓤 H 𝓜 𝓖 𝓡))
-    (cited 𝓤 H (PartyOf 𝓤 H (𝓖 .A) (𝓜 .mem) (𝓡 .run)) 𝓜 𝓡 code.env #parties·words·party-of of-def.routine code.calls-parties·words·party-of (of-thm.met 𝓤 H 𝓜 𝓖 𝓡)))
+    (cited 𝓤 H (TakeApart 𝓤 H (𝓖 .A) (𝓜 .mem) (𝓡 .run)) 𝓜 𝓡 code.env #parties·take-apart apart-def.routine code.calls-parties·take-apart
+        (apart-thm.met 𝓤 H 𝓜 𝓖 𝓡))
+    (cited 𝓤 H (PartyOf 𝓤 H (𝓖 .A) (𝓜 .mem) (𝓡 .run)) 𝓜 𝓡 code.env #parties·words·party-of of-def.routine code.calls-parties·words·party-of
+        (of-thm.met 𝓤 H 𝓜 𝓖 𝓡)))
