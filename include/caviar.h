@@ -102,7 +102,7 @@
  *     17      the meeting has no lunch on a date of the run (16)                                the date, not a session
  *     18      the visitor has a booking left (2)                                                the slot, a date
  *     19      the meeting has a conference room in the slot, or a lunch on its date (9)         the slot
- *     20      the meeting does not stand, so that this cannot end (9)                           the slot
+ *     20      the meeting does not stand, so that there is nothing to end (9)                   the slot
  *     21      the visitor attends no meeting (17)                                               the slot
  *     22      no conference room is free in all the slots (20)                                  0
  *     23      (the program `frames` alone: the line is no frame)                                0

@@ -147,7 +147,7 @@ def said_no(scene, number, place):
         17: f"{scene.b} has no lunch {there}",
         18: f"{scene.b} has a hotel, ride or attend entry {there}",
         19: f"{scene.a} has a conference room {there} or a lunch on that date",
-        20: f"{scene.a} does not stand {there}, so that this cannot end",
+        20: f"{scene.a} does not stand {there}, so that there is nothing to end",
         21: f"{scene.b} attends no meeting {there}",
         22: f"no conference room is free {scene.throughout()}",
     }

@@ -108,8 +108,7 @@ pub fn party() {
     let state = shown(&book).expect("a full book passes");
     let meeting = standing_meeting(&mut rng, &state);
     let guests = welcome(&mut rng, &state, meeting, caviar::MOST_GUESTS);
-    let ours: Vec<Guest> =
-        guests.iter().map(|guest| Guest { visitor: guest.visitor, first: guest.first, last: guest.last }).collect();
+    let ours: Vec<Guest> = guests.iter().map(|guest| Guest::from_words(guest.words())).collect();
     let theirs: Vec<plain::party::Guest> = guests.iter().map(|guest| guest.words()).collect();
     let copy = Copy::of(&book, 0);
     copy.time(|words, _| assert_eq!(caviar::party(words, meeting, &ours).number, 0));

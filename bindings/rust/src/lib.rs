@@ -110,6 +110,13 @@ pub struct Guest {
     pub last: u32,
 }
 
+impl Guest {
+    /// A guest from its three words in the order of the fields.
+    pub fn from_words([visitor, first, last]: [u32; 3]) -> Guest {
+        Guest { visitor, first, last }
+    }
+}
+
 /// How many words the book of these settings has: 20 to [`MOST_WORDS`]. 0 for settings that
 /// question 24 refuses: fewer than nine words, not nine limits with a capacity for each dining
 /// room, or one out of its range (rule 9.3).

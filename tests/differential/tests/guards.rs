@@ -63,8 +63,7 @@ fn page_call(rng: &mut Rng, end: End, answered: &mut Answered) {
 /// A party: its guests may not be written.
 fn party_call(rng: &mut Rng, end: End, answered: &mut Answered) {
     let parties::Lent { book, meeting, guests } = parties::lent(rng);
-    let list: Vec<Guest> =
-        guests.iter().map(|guest| Guest { visitor: guest.visitor, first: guest.first, last: guest.last }).collect();
+    let list: Vec<Guest> = guests.iter().map(|guest| Guest::from_words(guest.words())).collect();
     let lent = Guarded::new(&list, end).read_only();
     let (mut words, mut theirs) = (Guarded::new(&book, end), book.clone());
     let answer = caviar::party(words.words_mut(), meeting, lent.words());

@@ -4,18 +4,14 @@ use caviar::{Guest, Request};
 use differential::{seed, times, Counts};
 use second::book;
 use second::gen::parties::{calls, lent, Lent, Sort};
-use second::gen::requests::opening;
+use second::gen::requests::{opening, state_after};
 use second::gen::{full_book, sites, Rng, Size};
 use second::machine::site::GREATEST;
-use second::machine::{self, run, Settings, State};
+use second::machine::{Settings, State};
 use second::party::{party, perform, Call};
 
-fn guest([visitor, first, last]: [u32; 3]) -> Guest {
-    Guest { visitor, first, last }
-}
-
 fn ours(guests: &[second::party::Guest]) -> Vec<Guest> {
-    guests.iter().map(|of_theirs| guest(of_theirs.words())).collect()
+    guests.iter().map(|guest| Guest::from_words(guest.words())).collect()
 }
 
 /// The engine's answer to a party, which must be the second program's, as must the book; a refusal leaves
@@ -112,12 +108,9 @@ fn a_party_is_its_requests() {
 #[test]
 fn every_number_of_guests() {
     let mut rng = Rng::new(seed(63));
-    let settings = Settings::from_words(&[4, 6, 1, 40, 3, 2, 1, 1, 1, 5]).expect("settings");
-    let mut state = State::empty(settings);
     let leave = (0..40).map(|visitor| [1, 0, visitor, 0, 3, 0, 0]);
-    let opening: Vec<machine::Request> =
-        leave.chain([[8, 2, 0, 0, 23, 0, 0]]).map(machine::Request::from_words).collect();
-    run(&mut state, &opening);
+    let opening: Vec<[u32; 7]> = leave.chain([[8, 2, 0, 0, 23, 0, 0]]).collect();
+    let state = state_after(&[4, 6, 1, 40, 3, 2, 1, 1, 1, 5], &opening);
     let mut numbers = Counts::new();
     for guests in (0..80).chain([128, 192, 193, 1000, 65_536, 1_000_000]) {
         let start = rng.below(40 * 24);
@@ -177,7 +170,7 @@ fn largest_book() {
             guests.insert(at, some_guest(&mut rng));
             guests.truncate(64);
         }
-        let lent: Vec<Guest> = guests.iter().map(|words| guest(*words)).collect();
+        let lent: Vec<Guest> = guests.iter().map(|words| Guest::from_words(*words)).collect();
         let answer = caviar::party(&mut book, meeting, &lent);
         assert_eq!(answer.words(), plain::party(&mut theirs, meeting, &guests).words(), "{meeting} {guests:?}");
         assert!(book == theirs, "{meeting} {guests:?}");

@@ -117,10 +117,7 @@ fn guests(bytes: &mut Bytes) -> (u32, Vec<Guest>) {
 /// A party on any words: answer and book, and a refusal keeps the book.
 fn party(before: &[u32], meeting: u32, guests: &[Guest]) {
     let (mut words, mut theirs) = (before.to_vec(), before.to_vec());
-    let list: Vec<caviar::Guest> = guests
-        .iter()
-        .map(|guest| caviar::Guest { visitor: guest.visitor, first: guest.first, last: guest.last })
-        .collect();
+    let list: Vec<caviar::Guest> = guests.iter().map(|guest| caviar::Guest::from_words(guest.words())).collect();
     let answer = caviar::party(&mut words, meeting, &list);
     assert_eq!(answer.words(), second::party::party(&mut theirs, meeting, guests).words());
     assert_eq!(words, theirs);

@@ -85,6 +85,16 @@ pub fn trace(input: &[u8]) -> Vec<u8> {
     })
 }
 
+/// The state that the lines of an input lead to; none where the settings are refused.
+pub fn left_by(input: &[u8]) -> Option<State> {
+    let lines = lines(input);
+    let mut desk = Desk::open(lines.first().copied()).ok()?;
+    for line in &lines[1..] {
+        desk.answer(line);
+    }
+    Some(desk.state)
+}
+
 fn walk(input: &[u8], print: impl Fn(Answer, &State) -> Vec<u8>) -> Vec<u8> {
     let lines = lines(input);
     match Desk::open(lines.first().copied()) {

@@ -2,8 +2,9 @@
 
 use second::book::{check, words};
 use second::gen::pages::{lent, Lent, Sort};
+use second::gen::requests::state_after;
 use second::gen::Rng;
-use second::machine::{run, Answer, Date, Request, Session, Settings, State};
+use second::machine::{Answer, Date, Session, State};
 use second::page::{lines, page, Line};
 use std::collections::BTreeMap;
 
@@ -15,8 +16,6 @@ const CALLS: usize = 4000;
 /// in session 3. Visitors 0 and 2 attend meeting 1 in session 2, visitor 0 alone in session 3, and nobody
 /// attends meeting 0. Sessions 1 and 4 have rooms as well, and are on other dates.
 fn example() -> State {
-    let settings = Settings::from_words(&[3, 2, 1, 3, 2, 3, 1, 1, 1, 4]).expect("good settings");
-    let mut state = State::empty(settings);
     let requests = [
         [1, 0, 0, 0, 2, 0, 0],
         [1, 0, 2, 1, 1, 0, 0],
@@ -29,9 +28,7 @@ fn example() -> State {
         [12, 1, 1, 3, 4, 0, 70],
         [12, 2, 0, 3, 3, 0, 5],
     ];
-    let answers = run(&mut state, &requests.map(Request::from_words));
-    assert!(answers.iter().all(|answer| *answer == Answer::Done(0)), "{answers:?}");
-    state
+    state_after(&[3, 2, 1, 3, 2, 3, 1, 1, 1, 4], &requests)
 }
 
 /// The page of date 1, by hand.

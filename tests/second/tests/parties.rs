@@ -2,9 +2,9 @@
 
 use second::book::{self, check, words};
 use second::gen::parties::{calls, lent, Sort, OF_GUESTS};
-use second::gen::requests::opening;
+use second::gen::requests::{opening, state_after};
 use second::gen::{site, Rng, Size};
-use second::machine::{run, Answer, Request, Settings, State};
+use second::machine::{run, Answer, State};
 use second::party::{party, perform, Call, Guest};
 use std::collections::BTreeMap;
 
@@ -15,8 +15,6 @@ const CALLS: usize = 4000;
 /// in session 3. Visitors 0 and 1 have leave on both dates, visitor 2 on date 1 alone, visitor 3 on none.
 /// Visitor 0 attends meeting 1 in session 3.
 fn example() -> Vec<u32> {
-    let settings = Settings::from_words(&[2, 2, 1, 4, 2, 1, 1, 1, 1, 4]).expect("good settings");
-    let mut state = State::empty(settings);
     let requests = [
         [1, 0, 0, 0, 1, 0, 0],
         [1, 0, 1, 0, 1, 0, 0],
@@ -25,9 +23,7 @@ fn example() -> Vec<u32> {
         [8, 1, 0, 3, 3, 0, 0],
         [10, 1, 0, 3, 3, 0, 0],
     ];
-    let answers = run(&mut state, &requests.map(Request::from_words));
-    assert!(answers.iter().all(|answer| *answer == Answer::Done(0)), "{answers:?}");
-    words(&state)
+    words(&state_after(&[2, 2, 1, 4, 2, 1, 1, 1, 1, 4], &requests))
 }
 
 /// The words of the answer to a party, and the book after it.
@@ -95,8 +91,6 @@ fn the_questions_before_the_guests() {
 /// The example of docs/RULES.md (rule 17.5), which is examples/coach.txt.
 #[test]
 fn the_example_of_the_rules() {
-    let settings = Settings::from_words(&[2, 2, 2, 3, 2, 2, 1, 2, 1, 4]).expect("good settings");
-    let mut state = State::empty(settings);
     let requests = [
         [1, 0, 0, 0, 1, 0, 0],
         [1, 0, 1, 0, 1, 0, 0],
@@ -104,8 +98,7 @@ fn the_example_of_the_rules() {
         [8, 1, 0, 1, 3, 0, 0],
         [8, 0, 0, 3, 3, 0, 0],
     ];
-    run(&mut state, &requests.map(Request::from_words));
-    let book = words(&state);
+    let book = words(&state_after(&[2, 2, 2, 3, 2, 2, 1, 2, 1, 4], &requests));
     assert_eq!(refused(&book, 1, &[]), [27, 0, 0]);
     assert_eq!(refused(&book, 2, &[[0, 1, 2], [1, 1, 1]]), [5, 0, 0]);
     assert_eq!(refused(&book, 1, &[[0, 1, 2], [2, 1, 3]]), [9, 1, 0]);
@@ -119,11 +112,9 @@ fn the_example_of_the_rules() {
 /// Sixteen visitors in each of four sessions, one guest for each.
 #[test]
 fn a_party_of_64_is_done_and_of_65_is_not() {
-    let settings = Settings::from_words(&[2, 2, 1, 17, 1, 1, 1, 1, 1, 4]).expect("good settings");
-    let mut state = State::empty(settings);
-    let leave = (0..17).map(|visitor| Request::from_words([1, 0, visitor, 0, 1, 0, 0]));
-    let opening: Vec<Request> = leave.chain([Request::from_words([8, 0, 0, 0, 3, 0, 0])]).collect();
-    run(&mut state, &opening);
+    let leave = (0..17).map(|visitor| [1, 0, visitor, 0, 1, 0, 0]);
+    let opening: Vec<[u32; 7]> = leave.chain([[8, 0, 0, 0, 3, 0, 0]]).collect();
+    let state = state_after(&[2, 2, 1, 17, 1, 1, 1, 1, 1, 4], &opening);
     let mut guests: Vec<[u32; 3]> = (0..64).map(|at| [at % 16, at / 16, at / 16]).collect();
     let (answer, after) = asked(&words(&state), 0, &guests);
     assert_eq!((answer, check(&after)), ([0, 0, 0], Answer::Done(0)));

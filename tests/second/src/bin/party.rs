@@ -1,7 +1,7 @@
 //! `party MEETING [VISITOR FIRST LAST]..` reads what `frames` reads and writes the answer line to the party, as
 //! the lines leave the book; nothing where the settings are refused.
 
-use second::frames::{lines, words_line, Desk};
+use second::frames::{left_by, words_line};
 use second::party::{admit, Guest};
 use std::io::{self, Read, Write};
 
@@ -11,11 +11,7 @@ fn main() -> io::Result<()> {
     let guests: Vec<Guest> = guests.chunks(3).map(|three| Guest::from_words([three[0], three[1], three[2]])).collect();
     let mut input = Vec::new();
     io::stdin().lock().read_to_end(&mut input)?;
-    let lines = lines(&input);
-    let Ok(mut desk) = Desk::open(lines.first().copied()) else { return Ok(()) };
-    for line in &lines[1..] {
-        desk.answer(line);
-    }
-    let answer = admit(&mut desk.state, *meeting, &guests);
+    let Some(mut state) = left_by(&input) else { return Ok(()) };
+    let answer = admit(&mut state, *meeting, &guests);
     io::stdout().lock().write_all(&words_line(&answer.words()))
 }

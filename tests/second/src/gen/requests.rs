@@ -7,7 +7,7 @@ use super::endings::{ending, Ending};
 use super::Rng;
 use crate::machine::kinds::{uses, Unit, Uses, LAST_KIND};
 use crate::machine::questions::first_no;
-use crate::machine::{run, step, Date, Request, Session, Settings, State, Time};
+use crate::machine::{run, step, Answer, Date, Request, Session, Settings, State, Time};
 
 /// How many of a hundred requests are junk, aimed at two refusals at once, and aimed at one; the
 /// rest aim to be done.
@@ -285,4 +285,13 @@ pub fn junk(rng: &mut Rng, state: &State) -> Request {
         _ => return Request::from_words(std::array::from_fn(|_| rng.junk(3))),
     }
     request
+}
+
+/// The state of these settings after these requests, all of which are done with 0.
+pub fn state_after(settings: &[u32], requests: &[[u32; 7]]) -> State {
+    let mut state = State::empty(Settings::from_words(settings).expect("good settings"));
+    for request in requests {
+        assert_eq!(step(&mut state, &Request::from_words(*request)), Answer::Done(0), "{request:?}");
+    }
+    state
 }
