@@ -9,13 +9,9 @@ use Rattle.kinds.specs.declared.table.Field.{Field}
 use Rattle.kinds.specs.declared.table.Row.{Row}
 use Rattle.model.specs.declared.Settings.{Settings}
 use Rattle.model.specs.declared.Request.{Request}
-use Rattle.model.specs.Kinds.{Kind, kindOf, row, used, limit, slotsOf, unused, dates}
+use Rattle.model.specs.Kinds.{used, limit, slotsOf}
 use Rattle.model.specs.Kinds.{Field as ModelField, Row as ModelRow}
 use Rattle.model.specs.Questions.{zeroUnless}
-
--- the number of the last kind
-abbrev pub lastKind : ℕ
-lastKind = 20
 
 -- a limit as the code has it: 0 where there is none
 abbrev pub orZero : Option ℕ → ℕ
@@ -29,34 +25,30 @@ fieldOf S f = record { used = used f; limit = orZero (limit S f) }
 abbrev pub rowOf : Settings → ModelRow → Row
 rowOf S w = record { a = fieldOf S (w .a); b = fieldOf S (w .b); slots = slotsOf S (w .unit); n = w .n; info = w .info; one = w .one }
 
--- the code's fields and rows from limits, where 0 says that a field is not used
+-- the code's fields from limits, and rows from fields
 abbrev pub named : ℕ → Field
-named l = record { used = not (eqb l 0); limit = l }
+named l = record { used = true; limit = l }
 
-abbrev pub plain : ℕ → ℕ → ℕ → Row
-plain a b n = record { a = named a; b = named b; slots = n; n = false; info = false; one = false }
+abbrev pub plain : Field → Field → ℕ → Row
+plain a b n = record { a = a; b = b; slots = n; n = false; info = false; one = false }
 
-abbrev pub single : ℕ → ℕ → ℕ → Row
-single a b n = record { a = named a; b = named b; slots = n; n = false; info = false; one = true }
+abbrev pub single : Field → Field → ℕ → Row
+single a b n = record { a = a; b = b; slots = n; n = false; info = false; one = true }
 
-abbrev pub noted : ℕ → ℕ → ℕ → Bool → Row
-noted a b n t = record { a = named a; b = named b; slots = n; n = t; info = true; one = false }
+abbrev pub noted : Field → Field → ℕ → Bool → Row
+noted a b n t = record { a = a; b = b; slots = n; n = t; info = true; one = false }
 
--- the row of a kind by its number; a number that no kind has gets a row that uses nothing
-abbrev pub rowFor : Option Kind → ModelRow
-rowFor none = record { a = unused; b = unused; unit = dates; n = false; info = false; one = false }
-rowFor (some k) = row k
+-- question 4, and what a word leaves over for it; question 5 or 6 of a field and a word; question 7 of a number of slots
+abbrev pub leftOver : Bool → ℕ → ℕ
+leftOver true w = 0
+leftOver false w = w
 
-abbrev pub rowAt : ℕ → ModelRow
-rowAt k = rowFor (kindOf k)
-
--- question 4; question 5 or 6 of a limit and a word; question 7 of a number of slots
 unfoldable pub unusedZero : Row → ℕ → ℕ → ℕ → ℕ → Bool
 unusedZero w a b n info =
     zeroUnless (w .a .used) a && zeroUnless (w .b .used) b && zeroUnless (w .n) n && zeroUnless (w .info) info
 
-unfoldable pub below : ℕ → ℕ → Bool
-below l w = eqb l 0 || ltb w l
+unfoldable pub below : Field → ℕ → Bool
+below f w = not (f .used) || ltb w (f .limit)
 
 unfoldable pub slotsFit : ℕ → Bool → ℕ → ℕ → Bool
 slotsFit n one first last = leb first last && ltb last n && (not one || eqb first last)
@@ -70,8 +62,8 @@ firstNo n false next = n
 unfoldable pub fieldsNo : Row → Request → ℕ
 fieldsNo w r =
     firstNo 4 (unusedZero w (r .a) (r .b) (r .n) (r .info))
-    (firstNo 5 (below (w .a .limit) (r .a))
-    (firstNo 6 (below (w .b .limit) (r .b))
+    (firstNo 5 (below (w .a) (r .a))
+    (firstNo 6 (below (w .b) (r .b))
     (firstNo 7 (slotsFit (w .slots) (w .one) (r .first) (r .last)) 0)))
 
 -- what questions 5 to 7 leave of a request

@@ -1,12 +1,14 @@
-// The table of kinds at a site.
+// The table of kinds at a site: a row for each way in which the kinds use their fields.
+//
+// Each row is a function by itself, so that whoever knows the kind asks its questions without a choice by kind, and whether a field is used
+// is known before the program runs.
 use model::Settings;
 ghost use mathlib.Core.Path.{_≡_};
-ghost use Prim.Native.Nat.{_≤_};
 ghost use Rattle.units.specs.Ranges.{Ranges};
-ghost use Rattle.kinds.specs.Rows.{lastKind, rowOf, rowAt, named as namedField, plain as plainRow, single as singleRow, noted as notedRow};
-
-// The number of the last kind; kinds are numbered from 1.
-pub const LAST_KIND: u32 = 20;
+ghost use Rattle.model.specs.Kinds.{row};
+ghost use Rattle.model.specs.Kinds.{Kind.addLeave, Kind.addHotel, Kind.addRide, Kind.addStanding, Kind.addAttend, Kind.addConf, Kind.eraseConf};
+ghost use Rattle.model.specs.Kinds.{Kind.addLunch, Kind.eraseLunch, Kind.whichMeeting, Kind.countLeave, Kind.seatsLeft, Kind.freeRoom};
+ghost use Rattle.kinds.specs.Rows.{rowOf, named as namedField, plain as plainRow, single as singleRow, noted as notedRow};
 
 // The field a or b of a kind: whether it is used, and its limit, 0 where it has none.
 pub struct Field {
@@ -24,24 +26,21 @@ pub struct Row {
     pub one: bool,
 }
 
-// The limit of a field that a kind does not use.
-const UNUSED: u32 = 0;
+const UNUSED: Field = Field {
+    used: false,
+    limit: 0,
+};
 
 fn named(limit: u32) -> Field
     ensures { λ r. ⌜ r ≡ namedField limit ⌝ }
 {
-    Field {
-        used: limit != UNUSED,
-        limit,
-    }
+    Field { used: true, limit }
 }
 
 // A row without n and info, with several slots; the same with one slot.
-fn plain(limit_a: u32, limit_b: u32, slots: u32) -> Row
-    ensures { λ r. ⌜ r ≡ plainRow «limit_a» «limit_b» slots ⌝ }
+fn plain(a: Field, b: Field, slots: u32) -> Row
+    ensures { λ r. ⌜ r ≡ plainRow a b slots ⌝ }
 {
-    let a = named(limit_a);
-    let b = named(limit_b);
     Row {
         a,
         b,
@@ -52,11 +51,9 @@ fn plain(limit_a: u32, limit_b: u32, slots: u32) -> Row
     }
 }
 
-fn single(limit_a: u32, limit_b: u32, slots: u32) -> Row
-    ensures { λ r. ⌜ r ≡ singleRow «limit_a» «limit_b» slots ⌝ }
+fn single(a: Field, b: Field, slots: u32) -> Row
+    ensures { λ r. ⌜ r ≡ singleRow a b slots ⌝ }
 {
-    let a = named(limit_a);
-    let b = named(limit_b);
     Row {
         a,
         b,
@@ -68,11 +65,9 @@ fn single(limit_a: u32, limit_b: u32, slots: u32) -> Row
 }
 
 // A row with info, and with n where it says so.
-fn noted(limit_a: u32, limit_b: u32, slots: u32, n: bool) -> Row
-    ensures { λ r. ⌜ r ≡ notedRow «limit_a» «limit_b» slots n ⌝ }
+fn noted(a: Field, b: Field, slots: u32, n: bool) -> Row
+    ensures { λ r. ⌜ r ≡ notedRow a b slots n ⌝ }
 {
-    let a = named(limit_a);
-    let b = named(limit_b);
     Row {
         a,
         b,
@@ -83,36 +78,105 @@ fn noted(limit_a: u32, limit_b: u32, slots: u32, n: bool) -> Row
     }
 }
 
-// The row of a kind. The limits are read in its arm, so that nothing is read for the other kinds.
-pub fn row_of(s: Settings, kind: u32) -> Row
-    requires { ⌜ Ranges s ⌝ }
-    requires { ⌜ 1 ≤ kind ⌝ }
-    requires { ⌜ kind ≤ lastKind ⌝ }
-    ensures { λ r. ⌜ r ≡ rowOf s (rowAt kind) ⌝ }
+// Kinds 1 to 3.
+pub fn visitor_row(s: Settings) -> Row
+    ensures { λ r. ⌜ r ≡ rowOf s (row addLeave) ⌝ }
 {
-    let dates = s.dates;
-    let sessions = s.dates * s.sessions;
-    let times = s.dates * s.times;
-    match kind {
-        1 => plain(UNUSED, s.visitors, dates),
-        2 => plain(UNUSED, s.visitors, dates),
-        3 => plain(UNUSED, s.visitors, dates),
-        4 => plain(s.hotels, s.visitors, dates),
-        5 => plain(s.hotels, s.visitors, dates),
-        6 => plain(s.transports, s.visitors, times),
-        7 => plain(s.transports, s.visitors, times),
-        8 => plain(s.meetings, UNUSED, sessions),
-        9 => plain(s.meetings, UNUSED, sessions),
-        10 => plain(s.meetings, s.visitors, sessions),
-        11 => plain(s.meetings, s.visitors, sessions),
-        12 => noted(s.rooms, s.meetings, sessions, false),
-        13 => plain(UNUSED, s.meetings, sessions),
-        14 => noted(s.dining, s.meetings, dates, true),
-        15 => plain(s.dining, s.meetings, dates),
-        16 => plain(UNUSED, s.meetings, sessions),
-        17 => single(UNUSED, s.visitors, sessions),
-        18 => single(UNUSED, UNUSED, dates),
-        19 => single(s.dining, UNUSED, dates),
-        _ => plain(UNUSED, UNUSED, sessions),
-    }
+    plain(UNUSED, named(s.visitors), s.dates)
+}
+
+// Kinds 4 and 5.
+pub fn hotel_row(s: Settings) -> Row
+    ensures { λ r. ⌜ r ≡ rowOf s (row addHotel) ⌝ }
+{
+    plain(named(s.hotels), named(s.visitors), s.dates)
+}
+
+// Kinds 6 and 7.
+pub fn ride_row(s: Settings) -> Row
+    requires { ⌜ Ranges s ⌝ }
+    ensures { λ r. ⌜ r ≡ rowOf s (row addRide) ⌝ }
+{
+    plain(named(s.transports), named(s.visitors), s.dates * s.times)
+}
+
+// Kinds 8 and 9.
+pub fn standing_row(s: Settings) -> Row
+    requires { ⌜ Ranges s ⌝ }
+    ensures { λ r. ⌜ r ≡ rowOf s (row addStanding) ⌝ }
+{
+    plain(named(s.meetings), UNUSED, s.dates * s.sessions)
+}
+
+// Kinds 10 and 11.
+pub fn attend_row(s: Settings) -> Row
+    requires { ⌜ Ranges s ⌝ }
+    ensures { λ r. ⌜ r ≡ rowOf s (row addAttend) ⌝ }
+{
+    plain(named(s.meetings), named(s.visitors), s.dates * s.sessions)
+}
+
+// Kind 12.
+pub fn add_conf_row(s: Settings) -> Row
+    requires { ⌜ Ranges s ⌝ }
+    ensures { λ r. ⌜ r ≡ rowOf s (row addConf) ⌝ }
+{
+    noted(
+        named(s.rooms),
+        named(s.meetings),
+        s.dates * s.sessions,
+        false,
+    )
+}
+
+// Kinds 13 and 16.
+pub fn meeting_row(s: Settings) -> Row
+    requires { ⌜ Ranges s ⌝ }
+    ensures { λ r. ⌜ r ≡ rowOf s (row eraseConf) ⌝ }
+{
+    plain(UNUSED, named(s.meetings), s.dates * s.sessions)
+}
+
+// Kind 14.
+pub fn add_lunch_row(s: Settings) -> Row
+    ensures { λ r. ⌜ r ≡ rowOf s (row addLunch) ⌝ }
+{
+    noted(named(s.dining), named(s.meetings), s.dates, true)
+}
+
+// Kind 15.
+pub fn erase_lunch_row(s: Settings) -> Row
+    ensures { λ r. ⌜ r ≡ rowOf s (row eraseLunch) ⌝ }
+{
+    plain(named(s.dining), named(s.meetings), s.dates)
+}
+
+// Kind 17.
+pub fn which_meeting_row(s: Settings) -> Row
+    requires { ⌜ Ranges s ⌝ }
+    ensures { λ r. ⌜ r ≡ rowOf s (row whichMeeting) ⌝ }
+{
+    single(UNUSED, named(s.visitors), s.dates * s.sessions)
+}
+
+// Kind 18.
+pub fn count_leave_row(s: Settings) -> Row
+    ensures { λ r. ⌜ r ≡ rowOf s (row countLeave) ⌝ }
+{
+    single(UNUSED, UNUSED, s.dates)
+}
+
+// Kind 19.
+pub fn seats_left_row(s: Settings) -> Row
+    ensures { λ r. ⌜ r ≡ rowOf s (row seatsLeft) ⌝ }
+{
+    single(named(s.dining), UNUSED, s.dates)
+}
+
+// Kind 20.
+pub fn free_room_row(s: Settings) -> Row
+    requires { ⌜ Ranges s ⌝ }
+    ensures { λ r. ⌜ r ≡ rowOf s (row freeRoom) ⌝ }
+{
+    plain(UNUSED, UNUSED, s.dates * s.sessions)
 }

@@ -1,62 +1,67 @@
--- Field by field.
+-- The sum of what is left over is 0 exactly when each word is.
 -- Assumes nothing.
-use mathlib.Core.Path.{sym, _∙_}
-use borrow.Author.Tests.{not-true, not-false}
-use Rattle.kinds.specs.Rows.{unusedZero}
+use Rattle.kinds.proofs.Limits.{unused-by}
 use borrow.Author.Needs.{needs}
 use Rattle.kinds.proofs.fields.unused_zero.Statement.{statement}
 use Rattle.kinds.proofs.fields.unused_zero.Tie as tie
 
-zero-unless-requires : tie.Need-zero-unless-requires
-zero-unless-requires c κs = search needs
+left-over-requires : tie.Need-left-over-requires
+left-over-requires c κs = search needs
+
+cast-fields : tie.Need-cast-fields
+cast-fields c = search needs
+
+left-over-requires-2 : tie.Need-left-over-requires-2
+left-over-requires-2 c κs = search needs
+
+cast-fields-2 : tie.Need-cast-fields-2
+cast-fields-2 c = search needs
+
+add-fields : tie.Need-add-fields
+add-fields c = search needs
+
+left-over-requires-3 : tie.Need-left-over-requires-3
+left-over-requires-3 c κs = search needs
+
+cast-result : tie.Need-cast-result
+cast-result c = search needs
+
+add-result : tie.Need-add-result
+add-result c = search needs
+
+left-over-requires-4 : tie.Need-left-over-requires-4
+left-over-requires-4 c κs = search needs
+
+cast-result-2 : tie.Need-cast-result-2
+cast-result-2 c = search needs
+
+add-result-2 : tie.Need-add-result-2
+add-result-2 c = search needs
 
 returns : tie.Need-returns
-unfolding unusedZero
-returns c = rw (sym (c .before .zero-unless .ensures) ∙ not-true _ (c .if1 .taken))
-
-zero-unless-requires-2 : tie.Need-zero-unless-requires-2
-zero-unless-requires-2 c κs = search needs
-
-returns-2 : tie.Need-returns-2
-unfolding unusedZero
-returns-2 c = rw (
-  sym (c .before .before .before .zero-unless .ensures) ∙ not-false _ (c .before .before .if1 .left),
-  sym (c .before .zero-unless2 .ensures) ∙ not-true _ (c .if2 .taken),
-)
-
-zero-unless-requires-3 : tie.Need-zero-unless-requires-3
-zero-unless-requires-3 c κs = search needs
-
-returns-3 : tie.Need-returns-3
-unfolding unusedZero
-returns-3 c = rw (
-  sym (c .before .before .before .before .before .zero-unless .ensures)
-      ∙ not-false _ (c .before .before .before .before .if1 .left),
-  sym (c .before .before .before .zero-unless2 .ensures) ∙ not-false _ (c .before .before .if2 .left),
-  sym (c .before .zero-unless3 .ensures) ∙ not-true _ (c .if3 .taken),
-)
-
-zero-unless-requires-4 : tie.Need-zero-unless-requires-4
-zero-unless-requires-4 c κs = search needs
-
-returns-4 : tie.Need-returns-4
-unfolding unusedZero
-returns-4 c = rw (
-  sym (c .before .before .before .before .before .before .zero-unless .ensures)
-      ∙ not-false _ (c .before .before .before .before .before .if1 .left),
-  sym (c .before .before .before .before .zero-unless2 .ensures) ∙ not-false _ (c .before .before .before .if2 .left),
-  sym (c .before .before .zero-unless3 .ensures) ∙ not-false _ (c .before .if3 .left),
-) (c .zero-unless4 .ensures)
+returns c =
+    let a = c .before .before .before .before .args in
+    rw (
+      ← (unused-by (a .w) (a .a) (a .b) (a .n) (a .info)),
+      ← (c .before .before .before .left-over .ensures),
+      ← (c .before .before .left-over2 .ensures),
+      ← (c .before .left-over3 .ensures),
+      ← (c .left-over4 .ensures),
+    )
 
 pub unused-zero-spec : {M : Type 1} → statement M
 unused-zero-spec =
     tie.close
     (tie.spec
-    zero-unless-requires
-    returns
-    zero-unless-requires-2
-    returns-2
-    zero-unless-requires-3
-    returns-3
-    zero-unless-requires-4
-    returns-4)
+    left-over-requires
+    cast-fields
+    left-over-requires-2
+    cast-fields-2
+    add-fields
+    left-over-requires-3
+    cast-result
+    add-result
+    left-over-requires-4
+    cast-result-2
+    add-result-2
+    returns)
