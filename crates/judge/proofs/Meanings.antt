@@ -10,9 +10,10 @@ use Rattle.book.specs.declared.grid.Grids.{Grids}
 use Rattle.book.specs.Founds.{foundOf}
 use Rattle.book.specs.Grids.{gridsOf}
 use Rattle.book.specs.Good.{Good}
-use Rattle.kinds.specs.Rows.{Ready, rowFor, rowAt}
+use Rattle.kinds.specs.declared.table.Row.{Row}
+use Rattle.kinds.specs.Rows.{Ready, rowOf, fieldsNo}
 use Rattle.questions.specs.Asked.{firstWith, firstWithout, firstRowWith, holdsIn, roomLeft, notHeld}
-use Rattle.judge.specs.Chains.{asked, tested, foundOr, askedAll, answerFor, answerAt, inWords}
+use Rattle.judge.specs.Chains.{asked, tested, foundOr, askedAll, answerFor, inWords}
 use Rattle.judge.specs.Chains.{addStay, attendAdds, confAdds, lunchAdds, lunchFits, standingEnds, eraseAll, erasePair}
 use Rattle.questions.proofs.Pairs.{present-fails, absent-fails, free-fails, elsewhere-a-fails, elsewhere-v-fails}
 use Rattle.model.specs.declared.Settings.{Settings}
@@ -29,8 +30,9 @@ use Rattle.model.specs.Kinds.{Kind.addLunch, Kind.eraseLunch, Kind.eraseConfAnd
 use Rattle.model.specs.Kinds.{Kind.whichMeeting, Kind.countLeave, Kind.seatsLeft, Kind.freeRoom}
 use Rattle.model.specs.Questions.{ask, test, further, meetingOf, lowestFree, inA, inB}
 use Rattle.model.specs.Questions.{Question.onLeave, Question.stands, Question.seatsFit, Question.standsThatDate, Question.roomLeft as roomIsLeft}
-use Rattle.model.specs.Machine.{value}
+use Rattle.model.specs.Machine.{value, step as machine}
 use Rattle.model.specs.Reading.{settingsOf, readState, stateOf}
+use Rattle.judge.proofs.Whole.{ready, past-seven}
 use Rattle.model.proofs.Search.{failing-at, none-failing}
 
 -- a question whose search agrees, before others and as the last; a question that is the same
@@ -132,19 +134,12 @@ module _ (b : List ℕ) (good : Good (settingsOf b) b) (r : Request) where
   kind-is seatsLeft h = refl
   kind-is freeRoom h = found-is 22 0 (lowestFree (stateOf b) (r .first) (r .last))
 
--- by number, for a good book
-pub answer-is : {S : Settings} {g : Grids} {b : List ℕ} → Good S b → g ≡ gridsOf S → (r : Request) (n : ℕ) (k : Kind)
-    → r .kind ≡ n → kindOf n ≡ some k → Ready S (rowAt (r .kind)) r → inWords S g b r k ≡ answerAt b r
-answer-is {S} {g} {b} good e r n k m f h =
-    ap (λ (g : Grids). inWords S g b r k) e
-    ∙ subst (λ (S : Settings). Ready S (row k) r → inWords S (gridsOf S) b r k ≡ askedAll (stateOf b) r k (further k) (Done (value (stateOf b) r k)))
+-- for a good book: the kind's own answer, as the code finds it past question 7, is the machine's
+pub answered-by : {S : Settings} {g : Grids} {b : List ℕ} (good : Good S b) → g ≡ gridsOf S → (r : Request) (k : Kind) → kindOf (r .kind) ≡ some k
+    → {w : Row} {n : ℕ} → w ≡ rowOf S (row k) → n ≡ fieldsNo w r → n ≡ 0 → inWords S g b r k ≡ machine (stateOf b) r .answer
+answered-by {S} {g} {b} good grids r k is row-is first z =
+    ap (λ (g : Grids). inWords S g b r k) grids
+    ∙ subst (λ (S : Settings). Ready S (row k) r → inWords S (gridsOf S) b r k ≡ answerFor (stateOf b) r k)
     (sym (good .read)) (kind-is b (record { read = refl; laid = good .laid; lawful = good .lawful }) r k)
-    (subst (λ (o : Option Kind). Ready S (rowFor o) r) named h)
-    ∙ ap (answerFor (stateOf b) r) (sym named)
-  where
-    named : kindOf (r .kind) ≡ some k
-    named = ap kindOf m ∙ f
-
--- what questions 5 to 7 leave, by the kind's number
-pub ready-at : {S : Settings} {r : Request} (n : ℕ) → r .kind ≡ n → Ready S (rowAt (r .kind)) r → Ready S (rowAt n) r
-ready-at {S} {r} n e h = subst (λ (n : ℕ). Ready S (rowAt n) r) e h
+    (ready good r k is row-is first z)
+    ∙ past-seven good r k is row-is first z

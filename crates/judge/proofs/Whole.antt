@@ -1,30 +1,25 @@
 -- Questions 3 to 7, asked of the words of a request, and the machine's answer from them on.
 -- Assumes nothing.
-use Prim.Native.Nat.{ℕ, zero, suc, _≤_, _<_}
-use mathlib.Core.Path.{_≡_, refl, sym, _∙_, ap, subst}
-use mathlib.Core.Bool.{Bool, true, false, cond, false≢true}
+use Prim.Native.Nat.{ℕ, zero, suc}
+use mathlib.Core.Path.{_≡_, refl, sym, _∙_, ap}
+use mathlib.Core.Bool.{Bool, true, false, cond}
 use mathlib.Core.Option.{Option, none, some}
 use mathlib.Core.List.{List, [], _∷_, _++_}
-use native.Mathlib.Omega.{arith}
-use lib.ListN.{List·getD-eq-default}
 use Rattle.book.specs.Founds.{foundOf}
 use Rattle.book.specs.Good.{Good}
-use Rattle.units.specs.Ranges.{Ranges}
-use Rattle.book.proofs.Goods.{good-laid}
-use Rattle.kinds.specs.Rows.{lastKind, rowOf, rowFor, rowAt, firstNo, fieldsNo, unusedZero, slotsFit}
-use Rattle.kinds.proofs.Limits.{fields-is}
-use Rattle.judge.specs.Chains.{asked, askedAll, answerFor, answerAt}
+use Rattle.kinds.specs.declared.table.Row.{Row}
+use Rattle.kinds.specs.Rows.{Ready, rowOf, firstNo, fieldsNo, unusedZero, slotsFit}
+use Rattle.kinds.proofs.Limits.{fields-is, ready-by}
+use Rattle.judge.specs.Chains.{asked, askedAll, answerFor}
 use Rattle.model.specs.declared.Settings.{Settings}
 use Rattle.model.specs.declared.Request.{Request}
 use Rattle.model.specs.declared.Answer.{Answer}
 use Rattle.model.specs.declared.Answer.the-variants.{Done, Refused}
-use Rattle.model.specs.Bounded.{all, isSome}
 use Rattle.model.specs.State.{State}
-use Rattle.model.specs.Kinds.{Kind, kindOf, kinds, row, limit, slotsOf}
+use Rattle.model.specs.Kinds.{Kind, kindOf, row, limit, slotsOf}
 use Rattle.model.specs.Questions.{Question, number, ask, test, judge, always, further, refusal, Refusal, below}
 use Rattle.model.specs.Machine.{value, finish, stepKind, step}
 use Rattle.model.specs.Reading.{settingsOf, readState, stateOf}
-use Rattle.model.proofs.Search.{all-true}
 
 -- ---- the machine's answer as the questions one after the other
 
@@ -47,11 +42,11 @@ finish-asked x r k none = refl
 finish-asked x r k (some f) = refl
 
 -- the code's number of the first no, and 0 for none, before what follows
-abbrev pub unless : ℕ → Answer → Answer
+abbrev unless : ℕ → Answer → Answer
 unless zero next = next
 unless (suc n) next = Refused (suc n) 0
 
-pub unless-some : (n : ℕ) (next : Answer) → (n ≡ 0 → ⊥) → unless n next ≡ Refused n 0
+unless-some : (n : ℕ) (next : Answer) → (n ≡ 0 → ⊥) → unless n next ≡ Refused n 0
 unless-some zero next h = absurd (h refl)
 unless-some (suc n) next h = refl
 
@@ -68,56 +63,45 @@ whole-four true true false t7 next = refl
 whole-four true true true false next = refl
 whole-four true true true true next = refl
 
-module _ (b : List ℕ) (h : Ranges (settingsOf b)) (r : Request) where
-  fields-are : (k : Kind)
-      → unless (fieldsNo (rowOf (settingsOf b) (row k)) r) (answerFor (stateOf b) r (some k))
+module _ (b : List ℕ) (r : Request) (k : Kind) where
+  fields-are : unless (fieldsNo (rowOf (settingsOf b) (row k)) r) (answerFor (stateOf b) r k)
       ≡ askedAll (stateOf b) r k (always ++ further k) (Done (value (stateOf b) r k))
   unfolding unusedZero slotsFit ask test stateOf readState
-  fields-are k =
-      ap (λ (n : ℕ). unless n (answerFor (stateOf b) r (some k))) (fields-is h (row k) r)
+  fields-are =
+      ap (λ (n : ℕ). unless n (answerFor (stateOf b) r k)) (fields-is (settingsOf b) (row k) r)
       ∙ whole-four (unusedZero (rowOf (settingsOf b) (row k)) (r .a) (r .b) (r .n) (r .info)) (below (limit (settingsOf b) (row k .a)) (r .a))
       (below (limit (settingsOf b) (row k .b)) (r .b)) (slotsFit (slotsOf (settingsOf b) (row k .unit)) (row k .one) (r .first) (r .last))
-      (answerFor (stateOf b) r (some k))
+      (answerFor (stateOf b) r k)
 
-  step-by : (k : Kind) → kindOf (r .kind) ≡ some k
-      → unless (fieldsNo (rowOf (settingsOf b) (rowAt (r .kind))) r) (answerAt b r) ≡ step (stateOf b) r .answer
+  -- the answer of a request of the kind from question 4 on
+  step-is : kindOf (r .kind) ≡ some k → unless (fieldsNo (rowOf (settingsOf b) (row k)) r) (answerFor (stateOf b) r k) ≡ step (stateOf b) r .answer
   unfolding step
-  step-by k e =
-      ap (λ (o : Option Kind). unless (fieldsNo (rowOf (settingsOf b) (rowFor o)) r) (answerFor (stateOf b) r o)) e
-      ∙ fields-are k
+  step-is e =
+      fields-are
       ∙ sym (judge-asked (stateOf b) r k (always ++ further k) (value (stateOf b) r k))
       ∙ sym (finish-asked (stateOf b) r k (judge (stateOf b) r k (always ++ further k)))
       ∙ ap (λ (o : Option Kind). stepKind (stateOf b) r o .answer) (sym e)
 
--- ---- question 3: the numbers of kinds
+-- a request of kind k on a good book, where n is the first no of questions 4 to 7 by the kind's row w, and 0 for none
+module _ {S : Settings} {b : List ℕ} (good : Good S b) (r : Request) (k : Kind) (is : kindOf (r .kind) ≡ some k)
+    {w : Row} {n : ℕ} (row-is : w ≡ rowOf S (row k)) (no : n ≡ fieldsNo w r) where
+  first-is : n ≡ fieldsNo (rowOf S (row k)) r
+  first-is = no ∙ ap (λ (w : Row). fieldsNo w r) row-is
 
-unfoldable named : ℕ → Bool
-named n = isSome (kindOf (suc n))
+  from-four : unless n (answerFor (stateOf b) r k) ≡ step (stateOf b) r .answer
+  from-four =
+      ap (λ (n : ℕ). unless n (answerFor (stateOf b) r k)) (first-is ∙ ap (λ (S : Settings). fieldsNo (rowOf S (row k)) r) (good .read))
+      ∙ step-is b r k is
 
-all-named : all named lastKind ≡ true
-unfolding kindOf named
-all-named = refl
+  pub refused-by : (n ≡ 0 → ⊥) → Refused n 0 ≡ step (stateOf b) r .answer
+  refused-by h = sym (unless-some n (answerFor (stateOf b) r k) h) ∙ from-four
 
-some-by : {A : Type 0} (o : Option A) → isSome o ≡ true → (a : A) × (o ≡ some a)
-some-by none e = absurd (false≢true e)
-some-by (some a) e = (a, refl)
+  pub ready : n ≡ 0 → Ready S (row k) r
+  ready z = ready-by S (row k) r (sym first-is ∙ z)
 
-pub kind-some : (n : ℕ) → 1 ≤ n → n ≤ lastKind → (k : Kind) × (kindOf n ≡ some k)
-unfolding named
-kind-some zero l h = absurd (omega (arith, l))
-kind-some (suc n) l h = some-by (kindOf (suc n)) (all-true named lastKind all-named n (omega (arith, h)))
-
-pub kind-none : (n : ℕ) → lastKind < n → kindOf n ≡ none
-unfolding kindOf
-kind-none n h = List·getD-eq-default kinds none h
-
--- the answer of a request from question 4 on, for a good book
-pub step-is : {S : Settings} {b : List ℕ} → Good S b → (r : Request) → 1 ≤ r .kind → r .kind ≤ lastKind
-    → unless (fieldsNo (rowOf S (rowAt (r .kind))) r) (answerAt b r) ≡ step (stateOf b) r .answer
-step-is {S} {b} good r l h =
-    let k = kind-some (r .kind) l h in
-    ap (λ (S : Settings). unless (fieldsNo (rowOf S (rowAt (r .kind))) r) (answerAt b r)) (good .read)
-    ∙ step-by b (subst Ranges (good .read) (good-laid good .ranges)) r (k .0) (k .1)
+  -- past question 7 the answer is that of the kind's own questions
+  pub past-seven : n ≡ 0 → answerFor (stateOf b) r k ≡ step (stateOf b) r .answer
+  past-seven z = ap (λ (n : ℕ). unless n (answerFor (stateOf b) r k)) (sym z) ∙ from-four
 
 -- and where no kind has the number
 pub step-none : (b : List ℕ) (r : Request) → kindOf (r .kind) ≡ none → Refused 3 0 ≡ step (stateOf b) r .answer

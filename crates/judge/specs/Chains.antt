@@ -2,7 +2,6 @@
 -- Assumes nothing.
 use Prim.Native.Nat.{ℕ, _+_, _-_}
 use mathlib.Core.Bool.{Bool, true, false}
-use mathlib.Core.Option.{Option, none, some}
 use mathlib.Core.List.{List, [], _∷_}
 use Rattle.book.specs.declared.found.Found.{Found}
 use Rattle.book.specs.declared.found.Found.the-variants.{At, Nothing}
@@ -18,7 +17,7 @@ use Rattle.model.specs.declared.Answer.the-variants.{Done, Refused}
 use Rattle.model.specs.Bounded.{within, count}
 use Rattle.model.specs.Site.{capacity, dateOfSession}
 use Rattle.model.specs.State.{State, reserved}
-use Rattle.model.specs.Kinds.{Kind, kindOf, Unit as SlotUnit, dates, sessions, times}
+use Rattle.model.specs.Kinds.{Kind, Unit as SlotUnit, dates, sessions, times}
 use Rattle.model.specs.Kinds.{Kind.addLeave, Kind.endLeave, Kind.removeVisitor, Kind.addHotel, Kind.eraseHotel, Kind.addRide, Kind.eraseRide}
 use Rattle.model.specs.Kinds.{Kind.addStanding, Kind.endStanding, Kind.addAttend, Kind.eraseAttend, Kind.addConf, Kind.eraseConf}
 use Rattle.model.specs.Kinds.{Kind.addLunch, Kind.eraseLunch, Kind.eraseConfAndLunch}
@@ -121,10 +120,6 @@ abbrev pub askedAll : State → Request → Kind → List Question → Answer �
 askedAll x r k [] end = end
 askedAll x r k (q ∷ qs) end = asked (number q) (foundOf (ask x r k q)) (askedAll x r k qs end)
 
--- the answer of a request whose questions up to 7 are answered yes
-abbrev pub answerFor : State → Request → Option Kind → Answer
-answerFor x r none = Refused 3 0
-answerFor x r (some k) = askedAll x r k (further k) (Done (value x r k))
-
-abbrev pub answerAt : List ℕ → Request → Answer
-answerAt b r = answerFor (stateOf b) r (kindOf (r .kind))
+-- the answer of a request of kind k whose questions up to 7 are answered yes
+abbrev pub answerFor : State → Request → Kind → Answer
+answerFor x r k = askedAll x r k (further k) (Done (value x r k))

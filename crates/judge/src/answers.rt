@@ -7,21 +7,15 @@ use book::grid::Site;
 use kinds::seats::capacity;
 use model::Answer;
 use model::Date;
-use model::Request;
 use model::Session;
 use model::Time;
-use queries::bookings::bookings;
 use queries::dates::first_without_session;
-use queries::dates::members;
-use queries::entries::meeting_of;
-use queries::rooms::lowest_free;
 use queries::rooms::reserved;
 use questions::cells::first_not_member;
 use questions::cells::first_row_with;
 use questions::cells::first_row_without;
 use questions::cells::first_with;
 use questions::cells::first_without;
-use questions::slots::first_booked;
 use questions::slots::first_held;
 use questions::slots::first_over;
 use questions::slots::first_session_off_leave;
@@ -36,12 +30,11 @@ ghost use Rattle.model.specs.State.{reserved as reservedIn};
 ghost use Rattle.book.specs.Good.{Good};
 ghost use Rattle.book.specs.Grids.{Sited};
 ghost use Rattle.book.specs.Lent.{reading, Lies};
-ghost use Rattle.kinds.specs.Rows.{Ready, lastKind, rowAt};
-ghost use Rattle.judge.specs.Chains.{asked, foundOr, answerAt};
+ghost use Rattle.judge.specs.Chains.{asked, foundOr};
 ghost use Rattle.judge.specs.Chains.{addStay, attendAdds, confAdds, lunchAdds, lunchFits, standingEnds, eraseAll, erasePair};
 
 // Done with 0 where the last question found no slot, or refused with its number at the slot found.
-fn settled(number: u32, f: Found) -> Answer
+pub fn settled(number: u32, f: Found) -> Answer
     ensures { λ a. ⌜ a ≡ asked number f (Answer.Done 0) ⌝ }
 {
     match f {
@@ -50,14 +43,14 @@ fn settled(number: u32, f: Found) -> Answer
     }
 }
 
-fn refused(number: u32, place: u32) -> Answer
+pub fn refused(number: u32, place: u32) -> Answer
     ensures { λ a. ⌜ a ≡ Answer.Refused number place ⌝ }
 {
     Answer::Refused { number, place }
 }
 
 // Kind 4. After question 11 the room's cell does not hold the visitor, so that 13 may ask the whole row.
-fn add_hotel(book: &[u32], site: Site, a: u32, b: u32, first: Date, last: Date) -> Answer
+pub fn add_hotel(book: &[u32], site: Site, a: u32, b: u32, first: Date, last: Date) -> Answer
     requires { ⌜ Good (site .settings) (reading (now book)) ⌝ }
     requires { ⌜ Sited site ⌝ }
     requires { ⌜ last .0 < site .settings .dates ⌝ }
@@ -80,7 +73,7 @@ fn add_hotel(book: &[u32], site: Site, a: u32, b: u32, first: Date, last: Date) 
 }
 
 // Kind 6: the same of a transport, where leave is asked of the date of a time.
-fn add_ride(book: &[u32], site: Site, a: u32, b: u32, first: Time, last: Time) -> Answer
+pub fn add_ride(book: &[u32], site: Site, a: u32, b: u32, first: Time, last: Time) -> Answer
     requires { ⌜ Good (site .settings) (reading (now book)) ⌝ }
     requires { ⌜ Sited site ⌝ }
     requires { ⌜ last .0 < allTimes (site .settings) ⌝ }
@@ -103,7 +96,7 @@ fn add_ride(book: &[u32], site: Site, a: u32, b: u32, first: Time, last: Time) -
 }
 
 // Kind 10. After question 11 the visitor's cell does not hold the meeting, so that 13 asks whether it is empty.
-fn add_attend(book: &[u32], site: Site, a: u32, b: u32, first: Session, last: Session) -> Answer
+pub fn add_attend(book: &[u32], site: Site, a: u32, b: u32, first: Session, last: Session) -> Answer
     requires { ⌜ Good (site .settings) (reading (now book)) ⌝ }
     requires { ⌜ Sited site ⌝ }
     requires { ⌜ last .0 < allSessions (site .settings) ⌝ }
@@ -127,7 +120,7 @@ fn add_attend(book: &[u32], site: Site, a: u32, b: u32, first: Session, last: Se
 }
 
 // Kind 12.
-fn add_conf(book: &[u32], site: Site, a: u32, b: u32, first: Session, last: Session) -> Answer
+pub fn add_conf(book: &[u32], site: Site, a: u32, b: u32, first: Session, last: Session) -> Answer
     requires { ⌜ Good (site .settings) (reading (now book)) ⌝ }
     requires { ⌜ Sited site ⌝ }
     requires { ⌜ last .0 < allSessions (site .settings) ⌝ }
@@ -171,7 +164,15 @@ fn add_lunch(book: &[u32], site: Site, a: u32, b: u32, n: u32, first: Date, last
 }
 
 // Kind 14.
-fn lunch_fits(book: &[u32], site: Site, a: u32, b: u32, n: u32, first: Date, last: Date) -> Answer
+pub fn lunch_fits(
+    book: &[u32],
+    site: Site,
+    a: u32,
+    b: u32,
+    n: u32,
+    first: Date,
+    last: Date,
+) -> Answer
     requires { ⌜ Good (site .settings) (reading (now book)) ⌝ }
     requires { ⌜ Sited site ⌝ }
     requires { ⌜ last .0 < site .settings .dates ⌝ }
@@ -190,7 +191,7 @@ fn lunch_fits(book: &[u32], site: Site, a: u32, b: u32, n: u32, first: Date, las
 }
 
 // Kind 9.
-fn end_standing(book: &[u32], site: Site, a: u32, first: Session, last: Session) -> Answer
+pub fn end_standing(book: &[u32], site: Site, a: u32, first: Session, last: Session) -> Answer
     requires { ⌜ Good (site .settings) (reading (now book)) ⌝ }
     requires { ⌜ Sited site ⌝ }
     requires { ⌜ last .0 < allSessions (site .settings) ⌝ }
@@ -205,7 +206,7 @@ fn end_standing(book: &[u32], site: Site, a: u32, first: Session, last: Session)
 }
 
 // Kind 16: a conference room in each session, and a lunch on each date from first's to last's.
-fn erase_all(book: &[u32], site: Site, b: u32, first: Session, last: Session) -> Answer
+pub fn erase_all(book: &[u32], site: Site, b: u32, first: Session, last: Session) -> Answer
     requires { ⌜ Good (site .settings) (reading (now book)) ⌝ }
     requires { ⌜ Sited site ⌝ }
     requires { ⌜ last .0 < allSessions (site .settings) ⌝ }
@@ -223,7 +224,7 @@ fn erase_all(book: &[u32], site: Site, b: u32, first: Session, last: Session) ->
 }
 
 // Kinds 5, 7, 11 and 15: the item's cell holds w in each slot.
-fn erase(book: &[u32], cells: Grid, item: u32, w: u32, first: u32, last: u32) -> Answer
+pub fn erase(book: &[u32], cells: Grid, item: u32, w: u32, first: u32, last: u32) -> Answer
     requires { ⌜ Lies cells (reading (now book)) ⌝ }
     requires { ⌜ last < cells .slots ⌝ }
     requires { ⌜ item < cells .items ⌝ }
@@ -233,7 +234,7 @@ fn erase(book: &[u32], cells: Grid, item: u32, w: u32, first: u32, last: u32) ->
 }
 
 // Kinds 17 and 20: done with what was found, or refused where there is nothing.
-fn found_or(number: u32, place: u32, f: Found) -> Answer
+pub fn found_or(number: u32, place: u32, f: Found) -> Answer
     ensures { λ a. ⌜ a ≡ foundOr number place f ⌝ }
 {
     match f {
@@ -243,7 +244,7 @@ fn found_or(number: u32, place: u32, f: Found) -> Answer
 }
 
 // Kind 19.
-fn seats_left(book: &[u32], site: Site, date: Date, room: u32) -> u32
+pub fn seats_left(book: &[u32], site: Site, date: Date, room: u32) -> u32
     requires { ⌜ Good (site .settings) (reading (now book)) ⌝ }
     requires { ⌜ Sited site ⌝ }
     requires { ⌜ date .0 < site .settings .dates ⌝ }
@@ -251,77 +252,4 @@ fn seats_left(book: &[u32], site: Site, date: Date, room: u32) -> u32
     ensures { λ r. ⌜ r ≡ capacityOf (site .settings) room - reservedIn (stateOf (reading (now (book .entry)))) (date .0) room ⌝ }
 {
     capacity(site.settings, room) - reserved(book, site, date, room)
-}
-
-// Kinds 1 to 7: a visitor's leave, hotel rooms and rides.
-fn of_visitor(book: &[u32], site: Site, r: Request) -> Answer
-    requires { ⌜ Good (site .settings) (reading (now book)) ⌝ }
-    requires { ⌜ Sited site ⌝ }
-    requires { ⌜ 1 ≤ r .kind ⌝ }
-    requires { ⌜ r .kind ≤ 7 ⌝ }
-    requires { ⌜ Ready (site .settings) (rowAt (r .kind)) r ⌝ }
-    ensures { λ a. ⌜ a ≡ answerAt (reading (now (book .entry))) r ⌝ }
-{
-    let kind = r.kind;
-    match kind {
-        1 => Answer::Done(0),
-        2 => settled(
-            18,
-            first_booked(book, site, r.b, Date(r.first), Date(r.last)),
-        ),
-        3 => Answer::Done(bookings(book, site, r.b, Date(r.first), Date(r.last))),
-        4 => add_hotel(book, site, r.a, r.b, Date(r.first), Date(r.last)),
-        5 => {
-            let hotel = site.grids.hotel;
-            erase(book, hotel, r.a, r.b + 1, r.first, r.last)
-        }
-        6 => add_ride(book, site, r.a, r.b, Time(r.first), Time(r.last)),
-        _ => {
-            let ride = site.grids.ride;
-            erase(book, ride, r.a, r.b + 1, r.first, r.last)
-        }
-    }
-}
-
-// The answer of a request whose questions up to 7 are answered yes, so that first and last are slots of the kind's unit.
-pub fn answer(book: &[u32], site: Site, r: Request) -> Answer
-    requires { ⌜ Good (site .settings) (reading (now book)) ⌝ }
-    requires { ⌜ Sited site ⌝ }
-    requires { ⌜ 1 ≤ r .kind ⌝ }
-    requires { ⌜ r .kind ≤ lastKind ⌝ }
-    requires { ⌜ Ready (site .settings) (rowAt (r .kind)) r ⌝ }
-    ensures { λ a. ⌜ a ≡ answerAt (reading (now (book .entry))) r ⌝ }
-{
-    let kind = r.kind;
-    if kind < 8 {
-        return of_visitor(book, site, r);
-    }
-    match kind {
-        8 => Answer::Done(0),
-        9 => end_standing(book, site, r.a, Session(r.first), Session(r.last)),
-        10 => add_attend(book, site, r.a, r.b, Session(r.first), Session(r.last)),
-        11 => {
-            let cells = site.grids.attend;
-            erase(book, cells, r.b, r.a + 1, r.first, r.last)
-        }
-        12 => add_conf(book, site, r.a, r.b, Session(r.first), Session(r.last)),
-        13 => {
-            let pairs = site.grids.conf;
-            settled(16, first_row_without(book, pairs, r.b + 1, r.first, r.last))
-        }
-        14 => lunch_fits(book, site, r.a, r.b, r.n, Date(r.first), Date(r.last)),
-        15 => {
-            let triples = site.grids.lunch;
-            erase(book, triples, r.b, r.a + 1, r.first, r.last)
-        }
-        16 => erase_all(book, site, r.b, Session(r.first), Session(r.last)),
-        17 => found_or(21, r.first, meeting_of(book, site, Session(r.first), r.b)),
-        18 => Answer::Done(members(book, site, Date(r.first))),
-        19 => Answer::Done(seats_left(book, site, Date(r.first), r.a)),
-        _ => found_or(
-            22,
-            0,
-            lowest_free(book, site, Session(r.first), Session(r.last)),
-        ),
-    }
 }
