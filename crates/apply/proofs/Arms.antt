@@ -1,30 +1,24 @@
--- What an arm of the dispatch needs: the grids of its regions, the bounds that the questions give, and that its writes leave the
+-- What the writes of a kind need: the grids of its regions, the bounds that the questions give, and that they leave the
 -- words of the machine's state.
 -- Assumes nothing.
-use Prim.Native.Nat.{ℕ, zero, suc, _+_, _≤_, _<_}
+use Prim.Native.Nat.{ℕ, _+_, _≤_, _<_}
 use mathlib.Core.Path.{_≡_, refl, sym, _∙_, ap, subst}
 use mathlib.Core.Bool.{true, false≢true}
-use mathlib.Core.Option.{Option, none, some}
-use mathlib.Core.List.{List, [], _∷_, _++_}
+use mathlib.Core.Option.{Option, some}
+use mathlib.Core.List.{List, _++_}
 use native.Mathlib.Omega.{arith}
-use lib.ListN.{getD}
 use borrow.Author.Tests.{ltb-true}
 use Rattle.model.specs.declared.Settings.{Settings}
 use Rattle.model.specs.declared.Request.{Request}
 use Rattle.model.specs.declared.Answer.{Answer}
 use Rattle.model.specs.declared.Answer.the-variants.{Done, Refused}
 use Rattle.model.specs.State.{State}
-use Rattle.model.specs.Kinds.{Kind, kinds, kindOf, row, limit, slotsOf}
-use Rattle.model.specs.Kinds.{Kind.addLeave, Kind.endLeave, Kind.removeVisitor, Kind.addHotel, Kind.eraseHotel, Kind.addRide, Kind.eraseRide}
-use Rattle.model.specs.Kinds.{Kind.addStanding, Kind.endStanding, Kind.addAttend, Kind.eraseAttend, Kind.addConf, Kind.eraseConf}
-use Rattle.model.specs.Kinds.{Kind.addLunch, Kind.eraseLunch, Kind.eraseConfAndLunch, Kind.whichMeeting, Kind.countLeave, Kind.seatsLeft}
-use Rattle.model.specs.Kinds.{Kind.freeRoom}
-use Rattle.model.specs.Questions.{Refusal, judge, test, below, always, further, Question.aBelow, Question.bBelow}
-use Rattle.model.specs.Machine.{Outcome, change, finish, stepKind, step}
+use Rattle.model.specs.Kinds.{Kind, kindOf, row, limit, slotsOf}
+use Rattle.model.specs.Questions.{test, below, always, further, Question.aBelow, Question.bBelow}
+use Rattle.model.specs.Machine.{Outcome, change, step}
 use Rattle.model.specs.Words.{Region, slots, items, width, words}
 use Rattle.model.specs.Reading.{settingsOf, readState, stateOf}
 use Rattle.model.proofs.Laws.{Sound}
-use Rattle.model.proofs.Shown.{words-stateOf}
 use Rattle.model.proofs.Sound.{book-sound}
 use Rattle.model.proofs.Keeps.{Yes, said, judged, yes, slots-fit}
 use Rattle.model.proofs.Frame.{settings-change}
@@ -56,7 +50,7 @@ module _ (S : Settings) (b : List ℕ) (l : Laid S b) (g : Region) (h : Grid) (i
 pub item-of : (S : Settings) (g : Region) (h : Grid) → h ≡ gridOf S g → (j : ℕ) → j < items S g → j < h .items
 item-of S g h e j q = subst (λ (h : Grid). j < h .items) (sym e) q
 
--- what is known in the arm of kind k: a good book, its grids, an accepted request, and its kind
+-- what is known of an accepted request of kind k: a good book, its grids, an accepted request, and its kind
 pub record Known (S : Settings) (b : List ℕ) (G : Grids) (r : Request) (k : Kind) : Type 0 where
   pub good : Good S b
   pub grids : G ≡ gridsOf S
@@ -78,7 +72,7 @@ module _ {S : Settings} {b : List ℕ} {G : Grids} {r : Request} {k : Kind} (w :
   laid = good-laid (w .good)
 
   -- the bounds of its fields and slots
-  pub slots-ok : r .last < slotsOf S (row k .unit)
+  slots-ok : r .last < slotsOf S (row k .unit)
   unfolding stateOf readState
   slots-ok =
       subst (λ (S : Settings). r .last < slotsOf S (row k .unit)) (sym (w .good .read))
@@ -112,7 +106,7 @@ module _ {S : Settings} {b : List ℕ} {G : Grids} {r : Request} {k : Kind} (w :
     item j h = item-of S g (f G) (ap f (w .grids) ∙ is) j h
 
   -- the words of the changed state are those of the machine's
-  pub done-words : words (change (stateOf b) r k) ≡ words (step (stateOf b) r .state)
+  done-words : words (change (stateOf b) r k) ≡ words (step (stateOf b) r .state)
   done-words = ap words (sym (ap (λ (o : Outcome). o .state) (accepted-step (stateOf b) r k whole)))
 
   -- writes that leave the words of the changed state
@@ -130,105 +124,3 @@ module _ {S : Settings} {b : List ℕ} {G : Grids} {r : Request} {k : Kind} (w :
       (write (stateOf b) (sym (w .good .read)) (book-sound b (w .good .laid) (w .good .lawful))
       (carries-shown b (w .good .laid) (w .good .lawful)) answers))
       ∙ done-words
-
--- the kinds by their numbers
-abbrev numberOf : Kind → ℕ
-numberOf addLeave = 1
-numberOf endLeave = 2
-numberOf removeVisitor = 3
-numberOf addHotel = 4
-numberOf eraseHotel = 5
-numberOf addRide = 6
-numberOf eraseRide = 7
-numberOf addStanding = 8
-numberOf endStanding = 9
-numberOf addAttend = 10
-numberOf eraseAttend = 11
-numberOf addConf = 12
-numberOf eraseConf = 13
-numberOf addLunch = 14
-numberOf eraseLunch = 15
-numberOf eraseConfAndLunch = 16
-numberOf whichMeeting = 17
-numberOf countLeave = 18
-numberOf seatsLeft = 19
-numberOf freeRoom = 20
-
-abbrev Numbered : ℕ → List (Option Kind) → Type 0
-Numbered i [] = Unit {0}
-Numbered i (none ∷ l) = Numbered (suc i) l
-Numbered i (some k ∷ l) = (numberOf k ≡ i) × Numbered (suc i) l
-
-number-at : (i : ℕ) (l : List (Option Kind)) → Numbered i l → (n : ℕ) (k : Kind) → getD l n none ≡ some k → i + n ≡ numberOf k
-number-at i [] h n k e = absurd (let z : _≡_ {A = ℕ} 0 1 = cc in omega arith)
-number-at i (none ∷ l) h zero k e = absurd (let z : _≡_ {A = ℕ} 0 1 = cc in omega arith)
-number-at i (some j ∷ l) h zero k e = let q : j ≡ k = cc in omega (arith, ap numberOf q, h .0)
-number-at i (none ∷ l) h (suc n) k e = omega (arith, number-at (suc i) l h n k e)
-number-at i (some j ∷ l) h (suc n) k e = omega (arith, number-at (suc i) l (h .1) n k e)
-
-number-of : (n : ℕ) (k : Kind) → kindOf n ≡ some k → n ≡ numberOf k
-unfolding kindOf
-number-of n k e = omega (arith, number-at 0 kinds numbered n k e)
-  where
-    numbered : Numbered 0 kinds
-    numbered = (
-      refl,
-      (
-        refl,
-        (
-          refl,
-          (
-            refl,
-            (
-              refl,
-              (refl, (refl, (refl, (refl, (refl, (refl, (refl, (refl, (refl, (refl, (refl, (refl, (refl, (refl, (refl, tt))))))))))))))),
-            ),
-          ),
-        ),
-      ),
-    )
-
--- kinds other than 1 to 16 change nothing
-module _ (x : State) (r : Request) where
-  quiet : (k : Kind) → r .kind ≡ numberOf k → (r .kind ≡ 1 → ⊥) → (r .kind ≡ 2 → ⊥) → (r .kind ≡ 3 → ⊥) → (r .kind ≡ 4 → ⊥) → (r .kind ≡ 5 → ⊥)
-      → (r .kind ≡ 6 → ⊥)
-      → (r .kind ≡ 7 → ⊥) → (r .kind ≡ 8 → ⊥) → (r .kind ≡ 9 → ⊥) → (r .kind ≡ 10 → ⊥) → (r .kind ≡ 11 → ⊥) → (r .kind ≡ 12 → ⊥)
-      → (r .kind ≡ 13 → ⊥) → (r .kind ≡ 14 → ⊥) → (r .kind ≡ 15 → ⊥) → (r .kind ≡ 16 → ⊥) → change x r k ≡ x
-  unfolding change
-  quiet addLeave e n1 n2 n3 n4 n5 n6 n7 n8 n9 n10 n11 n12 n13 n14 n15 n16 = absurd (n1 e)
-  quiet endLeave e n1 n2 n3 n4 n5 n6 n7 n8 n9 n10 n11 n12 n13 n14 n15 n16 = absurd (n2 e)
-  quiet removeVisitor e n1 n2 n3 n4 n5 n6 n7 n8 n9 n10 n11 n12 n13 n14 n15 n16 = absurd (n3 e)
-  quiet addHotel e n1 n2 n3 n4 n5 n6 n7 n8 n9 n10 n11 n12 n13 n14 n15 n16 = absurd (n4 e)
-  quiet eraseHotel e n1 n2 n3 n4 n5 n6 n7 n8 n9 n10 n11 n12 n13 n14 n15 n16 = absurd (n5 e)
-  quiet addRide e n1 n2 n3 n4 n5 n6 n7 n8 n9 n10 n11 n12 n13 n14 n15 n16 = absurd (n6 e)
-  quiet eraseRide e n1 n2 n3 n4 n5 n6 n7 n8 n9 n10 n11 n12 n13 n14 n15 n16 = absurd (n7 e)
-  quiet addStanding e n1 n2 n3 n4 n5 n6 n7 n8 n9 n10 n11 n12 n13 n14 n15 n16 = absurd (n8 e)
-  quiet endStanding e n1 n2 n3 n4 n5 n6 n7 n8 n9 n10 n11 n12 n13 n14 n15 n16 = absurd (n9 e)
-  quiet addAttend e n1 n2 n3 n4 n5 n6 n7 n8 n9 n10 n11 n12 n13 n14 n15 n16 = absurd (n10 e)
-  quiet eraseAttend e n1 n2 n3 n4 n5 n6 n7 n8 n9 n10 n11 n12 n13 n14 n15 n16 = absurd (n11 e)
-  quiet addConf e n1 n2 n3 n4 n5 n6 n7 n8 n9 n10 n11 n12 n13 n14 n15 n16 = absurd (n12 e)
-  quiet eraseConf e n1 n2 n3 n4 n5 n6 n7 n8 n9 n10 n11 n12 n13 n14 n15 n16 = absurd (n13 e)
-  quiet addLunch e n1 n2 n3 n4 n5 n6 n7 n8 n9 n10 n11 n12 n13 n14 n15 n16 = absurd (n14 e)
-  quiet eraseLunch e n1 n2 n3 n4 n5 n6 n7 n8 n9 n10 n11 n12 n13 n14 n15 n16 = absurd (n15 e)
-  quiet eraseConfAndLunch e n1 n2 n3 n4 n5 n6 n7 n8 n9 n10 n11 n12 n13 n14 n15 n16 = absurd (n16 e)
-  quiet whichMeeting e n1 n2 n3 n4 n5 n6 n7 n8 n9 n10 n11 n12 n13 n14 n15 n16 = refl
-  quiet countLeave e n1 n2 n3 n4 n5 n6 n7 n8 n9 n10 n11 n12 n13 n14 n15 n16 = refl
-  quiet seatsLeft e n1 n2 n3 n4 n5 n6 n7 n8 n9 n10 n11 n12 n13 n14 n15 n16 = refl
-  quiet freeRoom e n1 n2 n3 n4 n5 n6 n7 n8 n9 n10 n11 n12 n13 n14 n15 n16 = refl
-
-pub unchanged : (S : Settings) (b : List ℕ) → Good S b → (r : Request) → (r .kind ≡ 1 → ⊥) → (r .kind ≡ 2 → ⊥) → (r .kind ≡ 3 → ⊥) → (r .kind ≡ 4 → ⊥)
-    → (r .kind ≡ 5 → ⊥)
-    → (r .kind ≡ 6 → ⊥) → (r .kind ≡ 7 → ⊥) → (r .kind ≡ 8 → ⊥) → (r .kind ≡ 9 → ⊥) → (r .kind ≡ 10 → ⊥) → (r .kind ≡ 11 → ⊥)
-    → (r .kind ≡ 12 → ⊥) → (r .kind ≡ 13 → ⊥) → (r .kind ≡ 14 → ⊥) → (r .kind ≡ 15 → ⊥) → (r .kind ≡ 16 → ⊥)
-    → b ≡ words (step (stateOf b) r .state)
-unfolding step
-unchanged S b good r n1 n2 n3 n4 n5 n6 n7 n8 n9 n10 n11 n12 n13 n14 n15 n16 = sym (words-stateOf b (good .laid) (good .lawful))
-    ∙ ap words (sym (kind (kindOf (r .kind)) refl))
-  where
-    done : (k : Kind) → kindOf (r .kind) ≡ some k → (o : Option Refusal) → finish (stateOf b) r k o .state ≡ stateOf b
-    done k e none = quiet (stateOf b) r k (number-of (r .kind) k e) n1 n2 n3 n4 n5 n6 n7 n8 n9 n10 n11 n12 n13 n14 n15 n16
-    done k e (some f) = refl
-
-    kind : (o : Option Kind) → kindOf (r .kind) ≡ o → stepKind (stateOf b) r o .state ≡ stateOf b
-    kind none e = refl
-    kind (some k) e = done k e (judge (stateOf b) r k (always ++ further k))
