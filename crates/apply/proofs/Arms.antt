@@ -50,7 +50,7 @@ module _ (S : Settings) (b : List ℕ) (l : Laid S b) (g : Region) (h : Grid) (i
 pub item-of : (S : Settings) (g : Region) (h : Grid) → h ≡ gridOf S g → (j : ℕ) → j < items S g → j < h .items
 item-of S g h e j q = subst (λ (h : Grid). j < h .items) (sym e) q
 
--- what is known of an accepted request of kind k: a good book, its grids, an accepted request, and its kind
+-- what is known of an accepted request of kind k: a good book, its grids, that it is accepted, and its kind
 pub record Known (S : Settings) (b : List ℕ) (G : Grids) (r : Request) (k : Kind) : Type 0 where
   pub good : Good S b
   pub grids : G ≡ gridsOf S

@@ -1,17 +1,22 @@
--- Kinds by number: the last one is what is left when the others are excluded.
+-- Kinds by number: what is none of the twenty numbers has no kind.
 -- Assumes nothing.
-use Prim.Native.Nat.{ℕ, zero, suc, _+_, _≤_, _<_}
-use mathlib.Core.Path.{_≡_}
+use Prim.Native.Nat.{ℕ, zero, suc, _+_, _<_}
+use mathlib.Core.Path.{_≡_, refl}
+use mathlib.Core.Option.{none}
 use native.Mathlib.Omega.{arith}
+use lib.ListN.{List·getD-eq-default}
+use Rattle.model.specs.Kinds.{kinds, kindOf}
 
--- k is none of the n numbers after m
-abbrev pub Others : ℕ → ℕ → ℕ → Type 0
-Others k m zero = Unit {0}
-Others k m (suc n) = Others k m n × (k ≡ suc (m + n) → ⊥)
+-- k is none of the n numbers after 0
+abbrev pub Others : ℕ → ℕ → Type 0
+Others k zero = Unit {0}
+Others k (suc n) = Others k n × (k ≡ suc n → ⊥)
 
-past : (k m n : ℕ) → m < k → Others k m n → m + n < k
-past k m zero l h = omega (arith, l)
-past k m (suc n) l h = let p : m + n < k = past k m n l (h .0) in let q : k ≡ suc (m + n) → ⊥ = h .1 in omega arith
+past : (k n : ℕ) → 0 < k → Others k n → n < k
+past k zero l h = l
+past k (suc n) l h = let p : n < k = past k n l (h .0) in let q : k ≡ suc n → ⊥ = h .1 in omega arith
 
-pub last-kind : (k m n : ℕ) → m < k → k ≤ suc (m + n) → Others k m n → k ≡ suc (m + n)
-last-kind k m n l h o = omega (arith, past k m n l o)
+pub no-kind : (k : ℕ) → Others k 20 → kindOf k ≡ none
+unfolding kindOf
+no-kind zero h = refl
+no-kind (suc k) h = List·getD-eq-default kinds none (past (suc k) 20 (omega arith) h)

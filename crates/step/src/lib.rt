@@ -1,12 +1,9 @@
 // One request on a good diary, where every question is answered before the first word is written, and on a good book.
-use apply::apply;
-use apply::removal::remove_visitor;
-use book::grid::site_of;
-use judge::judge;
-use kinds::fields::first_no;
-use kinds::table::row_of;
+pub mod asking;
+pub mod meetings;
+pub mod visitors;
+
 use model::Answer;
-use model::Date;
 use model::Request;
 use model::Settings;
 ghost use mathlib.Core.Path.{_≡_};
@@ -19,42 +16,38 @@ ghost use Rattle.model.specs.Calls.{called};
 ghost use Rattle.book.specs.Good.{Good, GoodBook, answered, inWords};
 ghost use Rattle.book.specs.Lent.{reading};
 
-// The number of the kind that removes a visitor.
-const REMOVAL: u32 = 3;
-
-// Kind 3 has no question past 7, and its value is the number of bookings that go: they are counted where they are erased, in one pass.
-fn removed(book: &mut [u32], s: Settings, r: Request) -> Answer
-    requires { ⌜ Good s (reading (now book)) ⌝ }
-    requires { ⌜ r .kind ≡ 3 ⌝ }
-    ensures { λ a. ⌜ answered a (reading (now (book .exit))) ≡ inWords (Machine.step (stateOf (reading (now (book .entry)))) r) ⌝ }
-{
-    let no = first_no(row_of(s, REMOVAL), r);
-    if no != 0 {
-        return Answer::Refused {
-            number: no,
-            place: 0,
-        };
-    }
-    let site = site_of(s);
-    Answer::Done(remove_visitor(book, site, r.b, Date(r.first), Date(r.last)))
-}
-
-// The site is made in the step because its grids are a few products, and a struct of that size passed by value is copied at every call.
+// Question 3, and the one choice by kind: what it leads to judges with the kind's own row and questions, and makes the kind's own writes.
 pub fn step(book: &mut [u32], s: Settings, r: Request) -> Answer
     requires { ⌜ Good s (reading (now book)) ⌝ }
     ensures { λ a. ⌜ answered a (reading (now (book .exit))) ≡ inWords (Machine.step (stateOf (reading (now (book .entry)))) r) ⌝ }
 {
     let kind = r.kind;
-    if kind == REMOVAL {
-        return removed(book, s, r);
+    match kind {
+        1 => visitors::add_leave(book, s, r),
+        2 => visitors::end_leave(book, s, r),
+        3 => visitors::remove_visitor(book, s, r),
+        4 => visitors::add_hotel(book, s, r),
+        5 => visitors::erase_hotel(book, s, r),
+        6 => visitors::add_ride(book, s, r),
+        7 => visitors::erase_ride(book, s, r),
+        8 => meetings::add_standing(book, s, r),
+        9 => meetings::end_standing(book, s, r),
+        10 => meetings::add_attend(book, s, r),
+        11 => meetings::erase_attend(book, s, r),
+        12 => meetings::add_conf(book, s, r),
+        13 => meetings::erase_conf(book, s, r),
+        14 => meetings::add_lunch(book, s, r),
+        15 => meetings::erase_lunch(book, s, r),
+        16 => meetings::erase_conf_and_lunch(book, s, r),
+        17 => asking::which_meeting(book, s, r),
+        18 => asking::count_leave(book, s, r),
+        19 => asking::seats_left(book, s, r),
+        20 => asking::free_room(book, s, r),
+        _ => Answer::Refused {
+            number: 3,
+            place: 0,
+        },
     }
-    let site = site_of(s);
-    let answer = judge(book, site, r);
-    if let Answer::Refused { number, place } = answer {
-        return Answer::Refused { number, place };
-    }
-    apply(book, site, r);
-    answer
 }
 
 // The same on a whole book: its first `diary` words are the diary, and what stands behind them stays.
