@@ -1,14 +1,14 @@
 -- A whole book and its two parts: what questions 1 and 2 say of the book they say of its diary and of its tail, and the book's words
 -- and the ledger that it shows are read from each other.
 -- Assumes nothing.
-use Prim.Native.Nat.{ℕ, _+_, _≤_, _<_}
+use Prim.Native.Nat.{ℕ, _+_, _-_, _≤_, _<_}
 use mathlib.Core.Path.{_≡_, refl, sym, _∙_, ap, ap₂}
 use mathlib.Core.Bool.{Bool, true, false, _&&_, cond}
 use mathlib.Core.List.{List, _++_}
 use native.Mathlib.Omega.{arith}
 use lib.Dec.{leb, ltb, eqb}
 use lib.ListN.{length, getD, take, drop, length-append, length-take, length-drop, take-append-drop, List·getD-append}
-use lib.Seq.{getD-take, take-at, drop-at}
+use lib.Seq.{getD-take, take-all, take-at, drop-at}
 use borrow.Author.Tests.{ltb-true, le-leb, eqb-true, eq-eqb}
 use Rattle.model.specs.declared.Settings.{Settings}
 use Rattle.model.specs.Bounded.{list}
@@ -25,7 +25,7 @@ use Rattle.model.proofs.ReadBack.{Valid, valid-is, seated, settings-bac
 use Rattle.model.proofs.Shown.{words-stateOf}
 use Rattle.model.proofs.Sound.{book-sound}
 use Rattle.model.proofs.Passes.{diary-lawful}
-use Rattle.model.proofs.Tail.{TailSound, tail-shown, tail-read}
+use Rattle.model.proofs.Tail.{TailSound, tail-shown, tail-read, tail-long, tail-kept, tail-back}
 
 -- a ledger that a book can show
 pub record LedgerSound (l : Ledger) : Type 0 where
@@ -84,6 +84,10 @@ module _ (b : List ℕ) {S : Settings} {n : ℕ} (is : S ≡ settingsOf b) (e : 
   pub part-behind : behindOf b ≡ drop n b
   unfolding behindOf
   part-behind = ap (λ (k : ℕ). drop k b) (ap diaryLength (sym is) ∙ sym e)
+
+  -- what is lent of a book from word n on
+  pub lent-behind : take (length b - n) (drop n b) ≡ behindOf b
+  lent-behind = take-all (length b - n) (drop n b) (omega (arith, length-drop n b)) ∙ sym part-behind
 
 -- question 1 of the book
 module _ (b : List ℕ) (one : wellLaid b ≡ true) where
@@ -172,7 +176,7 @@ module _ (l : Ledger) (s : LedgerSound l) where
 
   pub book-long : length (bookWords l) ≡ bookLength (l .diary .settings)
   unfolding bookWords bookLength
-  book-long = length-append (words (l .diary)) (tailWords (l .tail)) ∙ omega (arith, first-long, s .tail .long)
+  book-long = length-append (words (l .diary)) (tailWords (l .tail)) ∙ omega (arith, first-long, tail-long (l .tail) (s .tail))
 
   -- they pass questions 1 and 2, and show the ledger
   pub well-laid : wellLaid (bookWords l) ≡ true
@@ -185,12 +189,12 @@ module _ (l : Ledger) (s : LedgerSound l) where
 
   pub lawful-words : lawful (bookWords l) ≡ true
   unfolding lawful
-  lawful-words = rw (book-diary, book-behind) (and-true (diary-lawful (l .diary) (s .diary)) (s .tail .kept))
+  lawful-words = rw (book-diary, book-behind) (and-true (diary-lawful (l .diary) (s .diary)) (tail-kept (l .tail) (s .tail)))
 
   pub ledgerOf-words : ledgerOf (bookWords l) ≡ l
   unfolding ledgerOf
   ledgerOf-words =
       λ i. record {
         diary = (ap stateOf book-diary ∙ stateOf-words (l .diary) (s .diary)) i;
-        tail = (ap tailOf book-behind ∙ s .tail .back) i;
+        tail = (ap tailOf book-behind ∙ tail-back (l .tail) (s .tail)) i;
       }

@@ -1,5 +1,5 @@
--- Reachable = lawful: the books of 32-bit words that pass questions 1 and 2 are the books after a list of requests of 32-bit words on
--- a fresh one.
+-- Reachable = lawful: the books of 32-bit words that keep no order and pass questions 1 and 2 are the books after a list of requests of
+-- 32-bit words, without orders, on a fresh one.
 -- Assumes nothing.
 use Prim.Native.Nat.{ℕ, zero, suc, _/_, _%_, _<_}
 use mathlib.Core.Path.{_≡_, refl, sym, _∙_, ap}
@@ -19,13 +19,14 @@ use Rattle.model.specs.State.{State, Lunch, Pairs, hotels, rides, attend
 use Rattle.model.specs.Words.{diaryLength, address, confPairs, lunchTriples}
 use Rattle.model.specs.Machine.{Run, run}
 use Rattle.model.specs.Reading.{holds, readState, stateOf, settingsOf}
+use Rattle.model.specs.Tail.{emptyTail}
 use Rattle.model.specs.Ledger.{Ledger, emptyLedger, bookWords, diaryOf, ledgerOf}
 use Rattle.model.specs.Calls.{Calls, calls, freshBook}
 use Rattle.model.proofs.Search.{and-true, and-left, and-right}
 use Rattle.model.proofs.Laws.{Sound, Bounds}
 use Rattle.model.proofs.ReadBack.{Valid, valid-is}
 use Rattle.model.proofs.Lengths.{sessions-le, times-le}
-use Rattle.model.proofs.Tail.{no-other-tail}
+use Rattle.model.proofs.Ledger.{ledgerOf-words}
 use Rattle.model.proofs.Calls.{empty-ledger, from-fresh, run-sound}
 use Rattle.model.proofs.Runs.{sent, run-sent}
 use Rattle.model.proofs.Shows.{Shows, Passes, passes-shows, shows-passes}
@@ -208,19 +209,20 @@ pub record Reached (b : List ℕ) : Type 0 where
   pub small : every ofWords list ≡ true
   pub book : calls (freshBook settings) (sent list) .book ≡ b
 
--- "A book of 32-bit words passes questions 1 and 2 exactly when a list of requests leads to it from a fresh book."
-pub passes-iff-reached : (b : List ℕ) → every isWord b ≡ true → Passes b ↔ Reached b
+-- "A book of 32-bit words passes questions 1 and 2 and keeps no order exactly when a list of requests without orders leads to it from a
+-- fresh book." Of a ring the law asks less: it may have gaps, and answers that no request got.
+pub passes-iff-reached : (b : List ℕ) → every isWord b ≡ true → (Passes b × (ledgerOf b .tail ≡ emptyTail)) ↔ Reached b
 unfolding ledgerOf emptyLedger
-passes-iff-reached b w = (to, from)
+passes-iff-reached b w = (λ p. to (p .0) (p .1), λ h. (from h, unordered h))
   where
-    to : Passes b → Reached b
-    to q =
+    to : Passes b → ledgerOf b .tail ≡ emptyTail → Reached b
+    to q t =
         let l : Ledger = ledgerOf b in
         let x : State = l .diary in
         let h : Shows b l = passes-shows b q in
         let e : run (emptyLedger (x .settings)) (sent (entriesOf x)) .ledger ≡ l
         = ap (λ (u : Run). u .ledger) (run-sent (emptyLedger (x .settings)) (entriesOf x))
-        ∙ (λ i. record { diary = built x (h .sound .diary) .state i; tail = sym (no-other-tail (l .tail)) i }) in
+        ∙ (λ i. record { diary = built x (h .sound .diary) .state i; tail = sym t i }) in
         record {
           settings = x .settings;
           valid = h .sound .diary .valid;
@@ -238,3 +240,12 @@ passes-iff-reached b w = (to, from)
           sound = run-sound (emptyLedger (h .settings)) (empty-ledger (h .settings) (h .valid)) (sent (h .list));
           is = sym (h .book) ∙ ap (λ (c : Calls). c .book) (from-fresh (h .settings) (h .valid) (sent (h .list)));
         })
+
+    unordered : Reached b → ledgerOf b .tail ≡ emptyTail
+    unordered h =
+        let l : Ledger = emptyLedger (h .settings) in
+        let s : Ledger = run l (sent (h .list)) .ledger in
+        ap (λ (b : List ℕ). ledgerOf b .tail)
+        (sym (h .book) ∙ ap (λ (c : Calls). c .book) (from-fresh (h .settings) (h .valid) (sent (h .list))))
+        ∙ ap (λ (l : Ledger). l .tail) (ledgerOf-words s (run-sound l (empty-ledger (h .settings) (h .valid)) (sent (h .list))))
+        ∙ ap (λ (u : Run). u .ledger .tail) (run-sent l (h .list))

@@ -1,0 +1,320 @@
+-- Orders sent again: a kept order gets the answer that it got when it was sent, and changes nothing; and lists in which orders are sent
+-- again while they are kept, on ledgers, on books and as the words of a list.
+-- Assumes nothing.
+use Prim.Native.Nat.{ℕ, zero, suc, _≤_, _<_}
+use mathlib.Core.Path.{_≡_, refl, sym, _∙_, ap, ap₂, subst}
+use mathlib.Core.Logic.{_⊎_, inl, inr}
+use mathlib.Core.Bool.{Bool, true, false, cond, false≢true}
+use mathlib.Core.Option.{Option, none, some}
+use mathlib.Core.List.{List, [], _∷_, _++_}
+use native.Mathlib.Omega.{arith}
+use lib.Dec.{ltb, eqb}
+use lib.ListN.{length}
+use borrow.Author.Tests.{eq-eqb, ltb-true, ltb-false}
+use Rattle.model.specs.declared.Settings.{Settings}
+use Rattle.model.specs.declared.Request.{Request}
+use Rattle.model.specs.declared.Answer.{Answer}
+use Rattle.model.specs.declared.Answer.the-variants.{Refused}
+use Rattle.model.specs.Bounded.{isSome}
+use Rattle.model.specs.Site.{validSettings}
+use Rattle.model.specs.Messages.{orderLength, sameRequest}
+use Rattle.model.specs.Tail.{Entry, ringPlaces, entryAt, keptAt, keep, emptyTail}
+use Rattle.model.specs.Reading.{settingsOf}
+use Rattle.model.specs.Ledger.{Ledger, emptyLedger, bookLength, bookWords, ledgerOf}
+use Rattle.model.specs.Machine.{step, Call, ordered, party, Reply, told, Performed, stepped, answerOrder, perform, Run, run}
+use Rattle.model.specs.Calls.{Calls, calls, freshBook, settingsGood, callsOf, answerable, callList, servedList, serveList}
+use Rattle.model.specs.Resent.{IsKept, Kept, KeptThrough, Sending, once, again, allSent, onceSent, WhileKept, onceReplied}
+use Rattle.model.proofs.Search.{and-true}
+use Rattle.model.proofs.Tail.{empty-at, kept-there, kept-else, here-or-not, none-kept, kept-first, kept-place, kept-order, kept-by, not-kept}
+use Rattle.model.proofs.Ledger.{LedgerSound}
+use Rattle.model.proofs.Calls.{perform-sound, empty-ledger}
+use Rattle.model.proofs.Shows.{Shows, Passes, passes-shows, fresh-shows, shown-calls}
+
+below-or-not : {P : Type 0} (i n : ℕ) → (i < n → P) → (n ≤ i → P) → P
+below-or-not {P} i n below not-below = decide (ltb i n) refl
+  where
+    decide : (b : Bool) → ltb i n ≡ b → P
+    decide true q = below (ltb-true i n q)
+    decide false q = not-below (ltb-false i n q)
+
+-- ---- one order
+
+pub same-request : (r : Request) → sameRequest r r ≡ true
+unfolding sameRequest
+same-request r =
+    and-true
+    (and-true
+    (and-true
+    (and-true (and-true (and-true (eq-eqb (r .kind) _ refl) (eq-eqb (r .a) _ refl)) (eq-eqb (r .b) _ refl)) (eq-eqb (r .first) _ refl))
+    (eq-eqb (r .last) _ refl))
+    (eq-eqb (r .n) _ refl))
+    (eq-eqb (r .info) _ refl)
+
+-- whatever comes with the number of a kept order, the ledger stays
+pub kept-stays : (l : Ledger) (n : ℕ) (r : Request) → IsKept l n → perform l (ordered n r) .ledger ≡ l
+kept-stays l n r e = go (keptAt (l .tail) n) e
+  where
+    go : (o : Option ℕ) → isSome o ≡ true → answerOrder l n r o .ledger ≡ l
+    go none e = absurd (false≢true e)
+    go (some i) e = refl
+
+-- sent again, it gets the answer that is kept with it
+pub sent-again : (l : Ledger) (n : ℕ) (r : Request) (a : Answer) → Kept l n r a → perform l (ordered n r) ≡ record { reply = told a; ledger = l }
+sent-again l n r a k =
+    ap (answerOrder l n r) (k .at)
+    ∙ ap (λ (b : Answer). record { reply = told b; ledger = l })
+    (ap (λ (q : Request). cond (sameRequest q r) (entryAt (l .tail) (k .place) .answer) (Refused 28 0)) (k .request)
+    ∙ ap (λ (t : Bool). cond t (entryAt (l .tail) (k .place) .answer) (Refused 28 0)) (same-request r)
+    ∙ k .answer)
+
+-- with other words it is refused by 28
+pub sent-otherwise : (l : Ledger) (n : ℕ) (r q : Request) (a : Answer) → Kept l n r a → sameRequest r q ≡ false
+    → perform l (ordered n q) ≡ record { reply = told (Refused 28 0); ledger = l }
+sent-otherwise l n r q a k f =
+    ap (answerOrder l n q) (k .at)
+    ∙ ap (λ (b : Answer). record { reply = told b; ledger = l })
+    (ap (λ (p : Request). cond (sameRequest p q) (entryAt (l .tail) (k .place) .answer) (Refused 28 0)) (k .request)
+    ∙ ap (λ (t : Bool). cond t (entryAt (l .tail) (k .place) .answer) (Refused 28 0)) f)
+
+-- an order kept anew: its entry, and the places after it is kept
+module _ (l : Ledger) (s : LedgerSound l) (m : ℕ) (q : Request) (new : keptAt (l .tail) (suc m) ≡ none) where
+  abbrev entry : Entry
+  entry = record { order = suc m; request = q; answer = step (l .diary) q .answer }
+
+  there : entryAt (keep (l .tail) entry) (l .tail .next) ≡ entry
+  there = kept-there (l .tail) (s .tail) entry
+
+  else : (i : ℕ) → (i ≡ l .tail .next → ⊥) → entryAt (keep (l .tail) entry) i ≡ entryAt (l .tail) i
+  else i h = kept-else (l .tail) entry i h
+
+  first-at : keptAt (keep (l .tail) entry) (suc m) ≡ some (l .tail .next)
+  first-at =
+      kept-by (keep (l .tail) entry) (suc m) (l .tail .next) (λ z. omega (arith, z)) (s .tail .next) (ap (λ (e : Entry). e .order) there)
+      (λ j h e. none-kept (l .tail) m new j (omega (arith, h, s .tail .next)) (sym (ap (λ (e : Entry). e .order) (else j (λ z. omega (arith, h, z)))) ∙ e))
+
+  -- the new one
+  pub is-first : Kept (stepped (keep (l .tail) entry) (step (l .diary) q) .ledger) (suc m) q (step (l .diary) q .answer)
+  is-first =
+      record {
+        place = l .tail .next;
+        at = first-at;
+        request = ap (λ (e : Entry). e .request) there;
+        answer = ap (λ (e : Entry). e .answer) there;
+      }
+
+  -- another one stays as it is, or its place was the next one
+  module _ (n : ℕ) (r : Request) (a : Answer) where
+    pub others-stay : Kept l n r a
+        → (keptAt (keep (l .tail) entry) n ≡ none) ⊎ Kept (stepped (keep (l .tail) entry) (step (l .diary) q) .ledger) n r a
+    others-stay k = here-or-not (k .place) (l .tail .next) (λ e. inl (gone e)) (λ h. inr (stays h))
+      where
+        some-n : n ≡ 0 → ⊥
+        some-n = kept-first (l .tail) n (k .at) .0
+
+        place : k .place < ringPlaces
+        place = kept-place (l .tail) n (k .at)
+
+        order : entryAt (l .tail) (k .place) .order ≡ n
+        order = kept-order (l .tail) n (k .at)
+
+        other : suc m ≡ n → ⊥
+        other e = none-kept (l .tail) m new (k .place) place (order ∙ sym e)
+
+        -- no other place has its number
+        alone : (j : ℕ) → j < ringPlaces → (j ≡ k .place → ⊥) → entryAt (l .tail) j .order ≡ n → ⊥
+        alone j h d e =
+            below-or-not j (k .place)
+            (λ b. s .tail .differ (k .place) j place b (λ z. some-n (sym order ∙ z)) (e ∙ sym order))
+            (λ b. s .tail .differ j (k .place) h (omega (arith, b, d)) (λ z. some-n (sym e ∙ z)) (order ∙ sym e))
+
+        gone : k .place ≡ l .tail .next → keptAt (keep (l .tail) entry) n ≡ none
+        gone e =
+            not-kept (keep (l .tail) entry) n
+            (λ j h p.
+            here-or-not j (l .tail .next) (λ z. other (sym (ap (λ (e : Entry). e .order) (ap (entryAt (keep (l .tail) entry)) z ∙ there)) ∙ p))
+            (λ z. alone j h (λ y. z (y ∙ e)) (sym (ap (λ (e : Entry). e .order) (else j z)) ∙ p)))
+
+        stays : (k .place ≡ l .tail .next → ⊥) → Kept (stepped (keep (l .tail) entry) (step (l .diary) q) .ledger) n r a
+        stays h =
+            record {
+              place = k .place;
+              at =
+                  kept-by (keep (l .tail) entry) n (k .place) some-n place (ap (λ (e : Entry). e .order) (else (k .place) h) ∙ order)
+                  (λ j g p.
+                  here-or-not j (l .tail .next) (λ z. other (sym (ap (λ (e : Entry). e .order) (ap (entryAt (keep (l .tail) entry)) z ∙ there)) ∙ p))
+                  (λ z. alone j (omega (arith, g, place)) (λ y. omega (arith, g, y)) (sym (ap (λ (e : Entry). e .order) (else j z)) ∙ p)));
+              request = ap (λ (e : Entry). e .request) (else (k .place) h) ∙ k .request;
+              answer = ap (λ (e : Entry). e .answer) (else (k .place) h) ∙ k .answer;
+            }
+
+    -- and what is kept then was kept before, or is the new one
+    pub kept-before : Kept (stepped (keep (l .tail) entry) (step (l .diary) q) .ledger) n r a
+        → Kept l n r a ⊎ ((suc m ≡ n) × (q ≡ r) × (step (l .diary) q .answer ≡ a))
+    kept-before k = here-or-not (k .place) (l .tail .next) (λ e. inr (this e)) (λ h. inl (before h))
+      where
+        this : k .place ≡ l .tail .next → (suc m ≡ n) × (q ≡ r) × (step (l .diary) q .answer ≡ a)
+        this e =
+            let w : entry ≡ entryAt (keep (l .tail) entry) (k .place) = sym there ∙ ap (entryAt (keep (l .tail) entry)) (sym e) in
+            (
+              ap (λ (e : Entry). e .order) w ∙ kept-order (keep (l .tail) entry) n (k .at),
+              ap (λ (e : Entry). e .request) w ∙ k .request,
+              ap (λ (e : Entry). e .answer) w ∙ k .answer,
+            )
+
+        before : (k .place ≡ l .tail .next → ⊥) → Kept l n r a
+        before h =
+            let w : entryAt (keep (l .tail) entry) (k .place) ≡ entryAt (l .tail) (k .place) = else (k .place) h in
+            let o : entryAt (l .tail) (k .place) .order ≡ n = sym (ap (λ (e : Entry). e .order) w) ∙ kept-order (keep (l .tail) entry) n (k .at) in
+            let place : k .place < ringPlaces = kept-place (keep (l .tail) entry) n (k .at) in
+            let some-n : n ≡ 0 → ⊥ = kept-first (keep (l .tail) entry) n (k .at) .0 in
+            record {
+              place = k .place;
+              at = kept-by (l .tail) n (k .place) some-n place o (λ j g e. s .tail .differ (k .place) j place g (λ z. some-n (sym o ∙ z)) (e ∙ sym o));
+              request = sym (ap (λ (e : Entry). e .request) w) ∙ k .request;
+              answer = sym (ap (λ (e : Entry). e .answer) w) ∙ k .answer;
+            }
+
+-- an order that is not kept gets the answer of its request, and is then kept with it
+pub first-kept : (l : Ledger) → LedgerSound l → (n : ℕ) (r : Request) → keptAt (l .tail) (suc n) ≡ none
+    → (perform l (ordered (suc n) r) .reply ≡ told (step (l .diary) r .answer)) × Kept (perform l (ordered (suc n) r) .ledger) (suc n) r (step (l .diary) r .answer)
+first-kept l s n r o =
+    subst (λ (p : Performed). (p .reply ≡ told (step (l .diary) r .answer)) × Kept (p .ledger) (suc n) r (step (l .diary) r .answer))
+    (sym (ap (answerOrder l (suc n) r) o))
+    (refl, is-first l s n r o)
+
+-- ---- an order through a list of calls
+
+-- an order that is kept after a call and was kept before it is kept as it was
+module _ (l : Ledger) (s : LedgerSound l) (n : ℕ) (r : Request) (a : Answer) (k : Kept l n r a) where
+  after-order : (m : ℕ) (q : Request) (o : Option ℕ) → keptAt (l .tail) m ≡ o → IsKept (answerOrder l m q o .ledger) n → Kept (answerOrder l m q o .ledger) n r a
+  after-order m q (some i) e h = k
+  after-order zero q none e h = record { place = k .place; at = k .at; request = k .request; answer = k .answer }
+  after-order (suc m) q none e h = go (others-stay l s m q e n r a k)
+    where
+      go : (keptAt (keep (l .tail) (record { order = suc m; request = q; answer = step (l .diary) q .answer })) n ≡ none)
+          ⊎ Kept (answerOrder l (suc m) q none .ledger) n r a
+          → Kept (answerOrder l (suc m) q none .ledger) n r a
+      go (inl z) = absurd (false≢true (sym (ap isSome z) ∙ h))
+      go (inr k) = k
+
+  pub kept-after : (c : Call) → IsKept (perform l c .ledger) n → Kept (perform l c .ledger) n r a
+  kept-after (ordered m q) h = after-order m q (keptAt (l .tail) m) refl h
+  kept-after (party m gs) h = record { place = k .place; at = k .at; request = k .request; answer = k .answer }
+
+-- so that an order kept through a list of calls gets at its end the answer that it got when it was sent
+pub kept-through : (l : Ledger) → LedgerSound l → (n : ℕ) (r : Request) (a : Answer) → Kept l n r a → (cs : List Call) → KeptThrough l n cs
+    → Kept (run l cs .ledger) n r a
+unfolding run
+kept-through l s n r a k [] h = k
+kept-through l s n r a k (c ∷ cs) h =
+    kept-through (perform l c .ledger) (perform-sound l s c) n r a (kept-after l s n r a k c (h .0)) cs (h .1)
+
+-- an order that is kept after a list of calls was kept before it, or was sent in it and got there the answer that is kept
+pub record Sent (l : Ledger) (cs : List Call) (n : ℕ) (r : Request) (a : Answer) : Type 0 where
+  pub before : List Call
+  pub after : List Call
+  pub list : cs ≡ before ++ ordered n r ∷ after
+  pub reply : perform (run l before .ledger) (ordered n r) .reply ≡ told a
+
+module _ (n : ℕ) (r : Request) (a : Answer) where
+  before-order : (l : Ledger) → LedgerSound l → (m : ℕ) (q : Request) (o : Option ℕ) → keptAt (l .tail) m ≡ o → Kept (answerOrder l m q o .ledger) n r a
+      → Kept l n r a ⊎ ((ordered m q ≡ ordered n r) × (answerOrder l m q o .reply ≡ told a))
+  before-order l s m q (some i) e k = inl k
+  before-order l s zero q none e k = inl (record { place = k .place; at = k .at; request = k .request; answer = k .answer })
+  before-order l s (suc m) q none e k = go (kept-before l s m q e n r a k)
+    where
+      go : Kept l n r a ⊎ ((suc m ≡ n) × (q ≡ r) × (step (l .diary) q .answer ≡ a))
+          → Kept l n r a ⊎ ((ordered (suc m) q ≡ ordered n r) × (answerOrder l (suc m) q none .reply ≡ told a))
+      go (inl k) = inl k
+      go (inr p) = inr (ap₂ ordered (p .0) (p .1), ap told (p .2))
+
+  before-call : (l : Ledger) → LedgerSound l → (c : Call) → Kept (perform l c .ledger) n r a
+      → Kept l n r a ⊎ ((c ≡ ordered n r) × (perform l c .reply ≡ told a))
+  before-call l s (ordered m q) k = before-order l s m q (keptAt (l .tail) m) refl k
+  before-call l s (party m gs) k = inl (record { place = k .place; at = k .at; request = k .request; answer = k .answer })
+
+  pub kept-was-sent : (l : Ledger) → LedgerSound l → (cs : List Call) → Kept (run l cs .ledger) n r a → Kept l n r a ⊎ Sent l cs n r a
+  unfolding run
+  kept-was-sent l s [] k = inl k
+  kept-was-sent l s (c ∷ cs) k = go (kept-was-sent (perform l c .ledger) (perform-sound l s c) cs k)
+    where
+      now : Kept l n r a ⊎ ((c ≡ ordered n r) × (perform l c .reply ≡ told a)) → Kept l n r a ⊎ Sent l (c ∷ cs) n r a
+      now (inl k) = inl k
+      now (inr p) =
+          inr
+          (record {
+            before = [];
+            after = cs;
+            list = ap (λ (d : Call). d ∷ cs) (p .0);
+            reply = sym (ap (λ (d : Call). perform l d .reply) (p .0)) ∙ p .1;
+          })
+
+      go : Kept (perform l c .ledger) n r a ⊎ Sent (perform l c .ledger) cs n r a → Kept l n r a ⊎ Sent l (c ∷ cs) n r a
+      go (inl k) = now (before-call l s c k)
+      go (inr h) =
+          inr (record { before = c ∷ h .before; after = h .after; list = ap (λ (ds : List Call). c ∷ ds) (h .list); reply = h .reply })
+
+  -- from a fresh book on it was sent
+  none-fresh : (S : Settings) → Kept (emptyLedger S) n r a → ⊥
+  unfolding emptyLedger
+  none-fresh S k =
+      let e : entryAt emptyTail (k .place) .order ≡ 0
+      = ap (λ (e : Entry). e .order) (empty-at (k .place) (kept-place emptyTail n (k .at))) in
+      kept-first emptyTail n (k .at) .0 (sym (kept-order emptyTail n (k .at)) ∙ e)
+
+  pub kept-was-sent-fresh : (S : Settings) → validSettings S ≡ true → (cs : List Call) → Kept (run (emptyLedger S) cs .ledger) n r a
+      → Sent (emptyLedger S) cs n r a
+  kept-was-sent-fresh S e cs k = go (kept-was-sent (emptyLedger S) (empty-ledger S e) cs k)
+    where
+      go : Kept (emptyLedger S) n r a ⊎ Sent (emptyLedger S) cs n r a → Sent (emptyLedger S) cs n r a
+      go (inl k) = absurd (none-fresh S k)
+      go (inr h) = h
+
+-- ---- orders sent again in a list
+
+-- repeats anywhere, each of an order that is kept there, leave the ledger and all other replies as without them
+pub resent : (l : Ledger) (ss : List Sending) → WhileKept l ss
+    → (run l (allSent ss) .ledger ≡ run l (onceSent ss) .ledger) × (onceReplied ss (run l (allSent ss) .replies) ≡ run l (onceSent ss) .replies)
+unfolding run
+resent l [] h = (refl, refl)
+resent l (once c ∷ ss) h =
+    let later = resent (perform l c .ledger) ss h in
+    (later .0, ap (λ (rs : List Reply). perform l c .reply ∷ rs) (later .1))
+resent l (again n r ∷ ss) h =
+    let later = resent l ss (h .1) in
+    let e : run (perform l (ordered n r) .ledger) (allSent ss) ≡ run l (allSent ss) = ap (λ (m : Ledger). run m (allSent ss)) (kept-stays l n r (h .0)) in
+    (ap (λ (u : Run). u .ledger) e ∙ later .0, ap (λ (u : Run). onceReplied ss (u .replies)) e ∙ later .1)
+
+-- the same of calls on a book that shows the ledger, and on a fresh book
+pub record Resent (ss : List Sending) (all-calls once-calls : Calls) : Type 0 where
+  pub book : all-calls .book ≡ once-calls .book
+  pub replies : onceReplied ss (all-calls .replies) ≡ once-calls .replies
+
+pub resent-book : (b : List ℕ) (l : Ledger) → Shows b l → (ss : List Sending) → WhileKept l ss → Resent ss (calls b (allSent ss)) (calls b (onceSent ss))
+resent-book b l h ss k =
+    let r = resent l ss k in
+    rw (shown-calls b l h (allSent ss), shown-calls b l h (onceSent ss)) (record { book = ap bookWords (r .0); replies = r .1 })
+
+pub resent-fresh : (S : Settings) → validSettings S ≡ true → (ss : List Sending) → WhileKept (emptyLedger S) ss
+    → Resent ss (calls (freshBook S) (allSent ss)) (calls (freshBook S) (onceSent ss))
+resent-fresh S e ss k = resent-book (freshBook S) (emptyLedger S) (fresh-shows S e) ss k
+
+-- and of lists of words, eight an order: the one list has the repeats, the other has not. On a book that passes questions 1 and 2 and on
+-- a book laid anew, the words of the book are the same after both.
+module _ (w v a c : List ℕ) (ss : List Sending) (all-words : callsOf orderLength (answerable orderLength w a) w ≡ allSent ss)
+    (once-words : callsOf orderLength (answerable orderLength v c) v ≡ onceSent ss) where
+  pub orders-resent : (b : List ℕ) → Passes b → WhileKept (ledgerOf b) ss → callList orderLength b w a .book ≡ callList orderLength b v c .book
+  unfolding callList
+  orders-resent b p k =
+      rw (p .one, p .two, all-words, once-words) (resent-book b (ledgerOf b) (passes-shows b p) ss k .book)
+
+  pub served-resent : (s b : List ℕ) → WhileKept (emptyLedger (settingsOf s)) ss → serveList orderLength s b w a .book ≡ serveList orderLength s b v c .book
+  unfolding serveList
+  served-resent s b k = go (settingsGood s) (eqb (length b) (bookLength (settingsOf s)))
+    where
+      go : (g f : Bool)
+          → servedList g f (settingsOf s) (answerable orderLength w a) b (callsOf orderLength (answerable orderLength w a) w) a .book
+          ≡ servedList g f (settingsOf s) (answerable orderLength v c) b (callsOf orderLength (answerable orderLength v c) v) c .book
+      go false f = refl
+      go true false = refl
+      go true true = rw (all-words, once-words) (ap bookWords (resent (emptyLedger (settingsOf s)) ss k .0))
