@@ -6,7 +6,8 @@ use mathlib.Core.List.{List, [], _∷_}
 use Rattle.capi.specs.declared.AnswerWords.{AnswerWords}
 use Rattle.capi.specs.declared.RequestWords.{RequestWords}
 use Rattle.model.specs.declared.Request.{Request}
-use Rattle.model.specs.Machine.{answerWords, replyWords, requestOf}
+use Rattle.model.specs.Messages.{answerWords, requestOf}
+use Rattle.model.specs.Machine.{replyWords}
 use Rattle.model.specs.Calls.{Called, Listed}
 use Rattle.model.specs.Page.{Paged}
 

@@ -9,7 +9,7 @@ use model::Request;
 use parties::party;
 ghost use mathlib.Core.Path.{_≡_};
 ghost use mathlib.Core.Bool.{cond};
-ghost use Rattle.model.specs.Machine.{answerWords};
+ghost use Rattle.model.specs.Messages.{answerWords, requestLength, orderLength};
 ghost use Rattle.model.specs.Reading.{settingsOf};
 ghost use Rattle.model.specs.Ledger.{bookLength};
 ghost use Rattle.model.specs.Calls;
@@ -100,6 +100,14 @@ pub extern "C" fn caviar_request(book: &mut [u32], request: RequestWords) -> Ans
     told(engine::request(book, asked(request)))
 }
 
+// A request with the number of its order, 0 for none: an order that is kept gets its first answer, and nothing changes.
+#[no_mangle]
+pub extern "C" fn caviar_order(book: &mut [u32], order: u32, request: RequestWords) -> AnswerWords
+    ensures { λ r. ⌜ Tells (Calls.callOrder (now (book .entry)) order (requestBy request)) r (now (book .exit)) ⌝ }
+{
+    told(engine::order(book, order, asked(request)))
+}
+
 // A list of requests on any words, seven a request; three words an answer.
 #[no_mangle]
 pub extern "C" fn caviar_requests(
@@ -108,11 +116,26 @@ pub extern "C" fn caviar_requests(
     answers: &mut [u32],
 ) -> AnswerWords
     ensures { λ r. ⌜
-        TellsList (Calls.callList (now (book .entry)) (now (requests .entry)) (now (answers .entry)))
+        TellsList (Calls.callList requestLength (now (book .entry)) (now (requests .entry)) (now (answers .entry)))
         r (now (book .exit)) (now (answers .exit))
         ⌝ }
 {
     told(list::requests(book, requests, answers))
+}
+
+// The same with orders: eight words each, the number of the order last.
+#[no_mangle]
+pub extern "C" fn caviar_orders(
+    book: &mut [u32],
+    orders: &[u32],
+    answers: &mut [u32],
+) -> AnswerWords
+    ensures { λ r. ⌜
+        TellsList (Calls.callList orderLength (now (book .entry)) (now (orders .entry)) (now (answers .entry)))
+        r (now (book .exit)) (now (answers .exit))
+        ⌝ }
+{
+    told(list::orders(book, orders, answers))
 }
 
 // Laying, and a list of requests from fresh.
@@ -124,11 +147,27 @@ pub extern "C" fn caviar_serve(
     answers: &mut [u32],
 ) -> AnswerWords
     ensures { λ r. ⌜
-        TellsList (Calls.serveList (now (settings .entry)) (now (book .entry)) (now (requests .entry)) (now (answers .entry)))
+        TellsList (Calls.serveList requestLength (now (settings .entry)) (now (book .entry)) (now (requests .entry)) (now (answers .entry)))
         r (now (book .exit)) (now (answers .exit))
         ⌝ }
 {
     told(list::serve(settings, book, requests, answers))
+}
+
+// The same with orders.
+#[no_mangle]
+pub extern "C" fn caviar_serve_orders(
+    settings: &[u32],
+    book: &mut [u32],
+    orders: &[u32],
+    answers: &mut [u32],
+) -> AnswerWords
+    ensures { λ r. ⌜
+        TellsList (Calls.serveList orderLength (now (settings .entry)) (now (book .entry)) (now (orders .entry)) (now (answers .entry)))
+        r (now (book .exit)) (now (answers .exit))
+        ⌝ }
+{
+    told(list::serve_orders(settings, book, orders, answers))
 }
 
 // The porter's page of a date, from any words as a book: its lines at the front of the lent page.

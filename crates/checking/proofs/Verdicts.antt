@@ -1,19 +1,18 @@
 -- The three answers of the model's check, what the answer done leaves to know, and question 2 by the two parts of a book.
 -- Assumes nothing.
 use Prim.Native.Nat.{ℕ, _-_}
-use mathlib.Core.Path.{_≡_, refl, ap, subst}
+use mathlib.Core.Path.{_≡_, refl, _∙_, ap, subst}
 use mathlib.Core.Bool.{Bool, true, false}
 use mathlib.Core.List.{List}
 use native.Mathlib.Omega.{arith}
-use lib.ListN.{length, take, drop, length-drop}
-use lib.Seq.{take-all}
+use lib.ListN.{length, take, drop}
 use Rattle.model.specs.declared.Settings.{Settings}
 use Rattle.model.specs.declared.Answer.the-variants.{Done, Refused}
 use Rattle.model.specs.Words.{diaryLength}
 use Rattle.model.specs.Reading.{settingsOf}
-use Rattle.model.specs.Tail.{tailKept}
+use Rattle.model.specs.Tail.{tailLength, tailKept}
 use Rattle.model.specs.Laws.{wellLaid, diaryLaid, lawful, diaryLawful}
-use Rattle.model.proofs.Ledger.{first-part, part-behind, laid-diary}
+use Rattle.model.proofs.Ledger.{first-part, lent-behind, behind-long, laid-diary}
 use Rattle.model.specs.Calls.{check}
 use Rattle.book.specs.Good.{GoodBook}
 
@@ -48,6 +47,9 @@ module _ (b : List ℕ) (one : wellLaid b ≡ true) (S : Settings) (is : S ≡ s
   unfolding lawful
   two-no e = rw (first-part b is here, e)
 
+  pub tail-long : length (take (length b - n) (drop n b)) ≡ tailLength
+  tail-long = ap length (lent-behind b is here) ∙ behind-long b one
+
   pub two-yes : diaryLawful (take n b) ≡ true → tailKept (take (length b - n) (drop n b)) ≡ lawful b
   unfolding lawful
-  two-yes e = rw (first-part b is here, e, part-behind b is here) (ap tailKept (take-all (length b - n) (drop n b) (omega (arith, length-drop n b))))
+  two-yes e = rw (first-part b is here, e) (ap tailKept (lent-behind b is here))

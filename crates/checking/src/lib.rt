@@ -1,14 +1,14 @@
-// Checking a book: questions 1 and 2 in one pass over its words, date by date.
+// Checking a book: questions 1 and 2 in one pass over its words, date by date, and then the ring.
 mod dates;
 mod rows;
 
 use book::grid::site_of;
 use header::settings;
 use model::Answer;
+use ring::law;
 use rules::tables;
 ghost use mathlib.Core.Path.{_≡_};
 ghost use mathlib.Core.Bool.{true};
-ghost use Rattle.model.specs.Tail.{tailKept};
 ghost use Rattle.model.specs.Laws.{wellLaid, diaryLaid, lawful, diaryLawful};
 ghost use Rattle.model.specs.Calls;
 
@@ -23,14 +23,7 @@ fn diary_lawful(book: &[u32]) -> bool
     dates::dates(book, site, &caps)
 }
 
-// Question 2 of what stands behind the diary: so far nothing, and nothing is asked.
-fn tail_kept(tail: &[u32]) -> bool
-    ensures { λ r. ⌜ r ≡ tailKept (now (tail .entry)) ⌝ }
-{
-    true
-}
-
-// Question 2 of a book that passes question 1: its diary, then what stands behind it.
+// Question 2 of a book that passes question 1: its diary, then the ring behind it.
 fn book_lawful(book: &[u32]) -> bool
     requires { ⌜ wellLaid (now book) ≡ true ⌝ }
     ensures { λ r. ⌜ r ≡ lawful (now (book .entry)) ⌝ }
@@ -39,7 +32,7 @@ fn book_lawful(book: &[u32]) -> bool
     if !diary_lawful(&book[..n]) {
         return false;
     }
-    tail_kept(&book[n..])
+    law::kept(&book[n..])
 }
 
 // Questions 1 and 2: done with 0 for a book that passes both.

@@ -1,17 +1,20 @@
--- Three words written into a list, and the requests of a list of words one after the other.
+-- Three words written into a list, and the requests of a list of words one after the other, k words each.
 -- Assumes nothing.
-use Prim.Native.Nat.{ℕ, suc, _+_, _*_, _-_, _≤_, _<_}
-use mathlib.Core.Path.{_≡_, refl, sym, _∙_, ap, ap₂}
+use Prim.Native.Nat.{ℕ, suc, _+_, _*_, _/_, _-_, _≤_, _<_, min}
+use mathlib.Core.Path.{_≡_, refl, sym, _∙_, ap, ap₂, subst}
+use mathlib.Core.Bool.{Bool, true, false}
 use mathlib.Core.List.{List, [], _∷_, _++_, append-assoc, append-nil}
 use native.Mathlib.Omega.{arith}
-use lib.ListN.{length, set, take, drop, length-append, length-take, length-drop, take-append-drop}
-use lib.Seq.{take-at, drop-at, drop-drop, sets-eq}
+use lib.Dec.{ltb}
+use lib.ListN.{length, getD, set, take, drop, length-append, length-take, length-drop, take-append-drop, List·getD-eq-default}
+use lib.Seq.{take-at, drop-at, drop-drop, getD-take, sets-eq}
+use borrow.Author.Tests.{ltb-true, ltb-false}
 use Rattle.model.specs.declared.Settings.{Settings}
-use Rattle.model.specs.declared.Request.{Request}
 use Rattle.model.specs.declared.Answer.the-variants.{Done, Refused}
-use Rattle.model.specs.Machine.{Call, request, Reply, told, replyWords, perform, requestOf}
+use Rattle.model.specs.Messages.{requestOf}
+use Rattle.model.specs.Machine.{Call, callOf, Reply, told, replyWords, perform}
 use Rattle.model.specs.Ledger.{ledgerOf}
-use Rattle.model.specs.Calls.{Calls, calls, requestsOf, repliesWords}
+use Rattle.model.specs.Calls.{Calls, calls, callsOf, repliesWords}
 use Rattle.book.specs.Good.{GoodBook}
 use Rattle.engine.specs.Lists.{spliced, One, All}
 use Rattle.step.proofs.Kept.{good-calls}
@@ -45,48 +48,93 @@ module _ (l : List ℕ) (i : ℕ) (h : i + 3 ≤ length l) (ws : List ℕ) (long
   unfolding spliced
   spliced-length = simp (length-append, length-take, length-drop) (omega (arith, long))
 
+-- ---- the words of a request: seven, or eight with its order
+
+abbrev pub Width : ℕ → Type 0
+Width k = (7 ≤ k) × (k ≤ 8)
+
+of-widths : (P : ℕ → Type 0) → P 7 → P 8 → (k : ℕ) → Width k → P k
+of-widths P seven eight k h = go (ltb k 8) refl
+  where
+    go : (t : Bool) → ltb k 8 ≡ t → P k
+    go true q = let e : 7 ≡ k = omega (arith, h, ltb-true k 8 q) in subst P e seven
+    go false q = let e : 8 ≡ k = omega (arith, h, ltb-false k 8 q) in subst P e eight
+
+-- where the next request begins, and where the last one ends
+pub place-next : {k : ℕ} → Width k → (i : ℕ) → i * k + k ≡ (i + 1) * k
+place-next {k} h i = of-widths (λ k. i * k + k ≡ (i + 1) * k) (omega arith) (omega arith) k h
+
+pub place-within : {k : ℕ} → Width k → {i n m : ℕ} → i < n → n * k ≤ m → i * k + k ≤ m
+place-within {k} h {i} {n} {m} l =
+    of-widths (λ k. n * k ≤ m → i * k + k ≤ m) (λ f. omega (arith, l, f)) (λ f. omega (arith, l, f)) k h
+
+pub list-fits : {k : ℕ} → Width k → {n m : ℕ} (o : ℕ) → n ≡ min (min (m / k) (o / 3)) 4294967295 → n * k ≤ m
+list-fits {k} h {n} {m} o =
+    of-widths (λ k. n ≡ min (min (m / k) (o / 3)) 4294967295 → n * k ≤ m) (λ e. omega (arith, e)) (λ e. omega (arith, e)) k h
+
+-- the words of the request, and the number of its order
+pub order-of : {k : ℕ} → Width k → (w : List ℕ) → (k ≡ 7 → ⊥) → getD w 7 0 ≡ getD (take k w) 7 0
+order-of {k} h w d = sym (getD-take k w 7 0 (omega (arith, h, d)))
+
+pub no-order : (w : List ℕ) {k : ℕ} → k ≡ 7 → 0 ≡ getD (take k w) 7 0
+no-order w {k} e = sym (List·getD-eq-default (take k w) 0 (omega (arith, length-take k w, e)))
+
+pub request-of : {k : ℕ} → Width k → (w : List ℕ) → requestOf w ≡ requestOf (take k w)
+request-of {k} h w =
+    λ i. record {
+      kind = sym (getD-take k w 0 0 (omega (arith, h))) i;
+      a = sym (getD-take k w 1 0 (omega (arith, h))) i;
+      b = sym (getD-take k w 2 0 (omega (arith, h))) i;
+      first = sym (getD-take k w 3 0 (omega (arith, h))) i;
+      last = sym (getD-take k w 4 0 (omega (arith, h))) i;
+      n = sym (getD-take k w 5 0 (omega (arith, h))) i;
+      info = sym (getD-take k w 6 0 (omega (arith, h))) i;
+    }
+
 -- after i of n requests: what is left of the list gives the rest of the answers, and the book
-pub record Left (w : List ℕ) (n : ℕ) (b₀ a₀ : List ℕ) (i : ℕ) (b a : List ℕ) : Type 0 where
+pub record Left (k : ℕ) (w : List ℕ) (n : ℕ) (b₀ a₀ : List ℕ) (i : ℕ) (b a : List ℕ) : Type 0 where
   pub most : i ≤ n
   pub long : length a ≡ length a₀
-  pub book : calls b (requestsOf (n - i) (drop (i * 7) w)) .book ≡ calls b₀ (requestsOf n w) .book
-  pub answers : take (i * 3) a ++ repliesWords (calls b (requestsOf (n - i) (drop (i * 7) w)) .replies)
-      ≡ repliesWords (calls b₀ (requestsOf n w) .replies)
+  pub book : calls b (callsOf k (n - i) (drop (i * k) w)) .book ≡ calls b₀ (callsOf k n w) .book
+  pub answers : take (i * 3) a ++ repliesWords (calls b (callsOf k (n - i) (drop (i * k) w)) .replies)
+      ≡ repliesWords (calls b₀ (callsOf k n w) .replies)
   pub behind : drop (i * 3) a ≡ drop (i * 3) a₀
 
-pub left-start : (w : List ℕ) (n : ℕ) (b a : List ℕ) → Left w n b a 0 b a
-left-start w n b a =
+pub left-start : (k : ℕ) (w : List ℕ) (n : ℕ) (b a : List ℕ) → Left k w n b a 0 b a
+left-start k w n b a =
     let e : n - 0 ≡ n = omega arith in
+    let z : 0 * k ≡ 0 = omega arith in
+    let first : callsOf k (n - 0) (drop (0 * k) w) ≡ callsOf k n w = ap₂ (λ (m j : ℕ). callsOf k m (drop j w)) e z in
     record {
       most = omega arith;
       long = refl;
-      book = ap (λ (k : ℕ). calls b (requestsOf k w) .book) e;
-      answers = ap (λ (k : ℕ). repliesWords (calls b (requestsOf k w) .replies)) e;
+      book = ap (λ (cs : List Call). calls b cs .book) first;
+      answers = ap (λ (cs : List Call). repliesWords (calls b cs .replies)) first;
       behind = refl;
     }
 
-module _ (S : Settings) (w : List ℕ) (n : ℕ) (b₀ a₀ : List ℕ) (i : ℕ) (b a b′ a′ : List ℕ) (good : GoodBook S b) (h : i < n)
-    (room : n * 3 ≤ length a₀) (l : Left w n b₀ a₀ i b a) (one : One w i b a b′ a′) where
-  r : Request
-  r = requestOf (drop (i * 7) w)
+module _ (S : Settings) (k : ℕ) (wide : Width k) (w : List ℕ) (n : ℕ) (b₀ a₀ : List ℕ) (i : ℕ) (b a b′ a′ : List ℕ) (good : GoodBook S b)
+    (h : i < n) (room : n * 3 ≤ length a₀) (l : Left k w n b₀ a₀ i b a) (one : One k w i b a b′ a′) where
+  c : Call
+  c = callOf (take k (drop (i * k) w))
 
   rest : List Call
-  rest = requestsOf (n - (i + 1)) (drop ((i + 1) * 7) w)
+  rest = callsOf k (n - (i + 1)) (drop ((i + 1) * k) w)
 
-  first : requestsOf (n - i) (drop (i * 7) w) ≡ request r ∷ rest
-  unfolding requestsOf r rest
+  first : callsOf k (n - i) (drop (i * k) w) ≡ c ∷ rest
+  unfolding callsOf c rest
   first =
       let e : n - i ≡ suc (n - (i + 1)) = omega arith in
-      let f : i * 7 + 7 ≡ (i + 1) * 7 = omega arith in
-      ap (λ (k : ℕ). requestsOf k (drop (i * 7) w)) e
-      ∙ ap (λ (v : List ℕ). request (requestOf (drop (i * 7) w)) ∷ requestsOf (n - (i + 1)) v) (drop-drop 7 (i * 7) w ∙ ap (λ (k : ℕ). drop k w) f)
+      ap (λ (m : ℕ). callsOf k m (drop (i * k) w)) e
+      ∙ ap (λ (v : List ℕ). callOf (take k (drop (i * k) w)) ∷ callsOf k (n - (i + 1)) v)
+      (drop-drop k (i * k) w ∙ ap (λ (m : ℕ). drop m w) (place-next wide i))
 
-  taken : calls b (requestsOf (n - i) (drop (i * 7) w))
-      ≡ record { replies = perform (ledgerOf b) (request r) .reply ∷ calls b′ rest .replies; book = calls b′ rest .book }
-  unfolding r
+  taken : calls b (callsOf k (n - i) (drop (i * k) w))
+      ≡ record { replies = perform (ledgerOf b) c .reply ∷ calls b′ rest .replies; book = calls b′ rest .book }
+  unfolding c
   taken =
-      ap (calls b) first ∙ good-calls good r rest
-      ∙ ap (λ (v : List ℕ). record { replies = perform (ledgerOf b) (request r) .reply ∷ calls v rest .replies; book = calls v rest .book })
+      ap (calls b) first ∙ good-calls good c rest
+      ∙ ap (λ (v : List ℕ). record { replies = perform (ledgerOf b) c .reply ∷ calls v rest .replies; book = calls v rest .book })
       (sym (one .book))
 
   fits : i * 3 + 3 ≤ length a
@@ -96,48 +144,48 @@ module _ (S : Settings) (w : List ℕ) (n : ℕ) (b₀ a₀ : List ℕ) (i : ℕ
   next = omega arith
 
   aw : List ℕ
-  aw = replyWords (perform (ledgerOf b) (request r) .reply)
+  aw = replyWords (perform (ledgerOf b) c .reply)
 
   written : take ((i + 1) * 3) a′ ≡ take (i * 3) a ++ aw
-  unfolding r aw
+  unfolding c aw
   written =
       ap (λ (k : ℕ). take k a′) (sym next) ∙ ap (take (i * 3 + 3)) (one .answers)
-      ∙ spliced-take a (i * 3) fits (replyWords (perform (ledgerOf b) (request r) .reply)) (three (perform (ledgerOf b) (request r) .reply))
+      ∙ spliced-take a (i * 3) fits (replyWords (perform (ledgerOf b) c .reply)) (three (perform (ledgerOf b) c .reply))
 
   kept : drop ((i + 1) * 3) a′ ≡ drop ((i + 1) * 3) a₀
-  unfolding r
+  unfolding c
   kept =
       ap (λ (k : ℕ). drop k a′) (sym next) ∙ ap (drop (i * 3 + 3)) (one .answers)
-      ∙ spliced-drop a (i * 3) fits (replyWords (perform (ledgerOf b) (request r) .reply)) (three (perform (ledgerOf b) (request r) .reply))
+      ∙ spliced-drop a (i * 3) fits (replyWords (perform (ledgerOf b) c .reply)) (three (perform (ledgerOf b) c .reply))
       ∙ sym (drop-drop 3 (i * 3) a) ∙ ap (drop 3) (l .behind) ∙ drop-drop 3 (i * 3) a₀ ∙ ap (λ (k : ℕ). drop k a₀) next
 
-  pub left-turn : Left w n b₀ a₀ (i + 1) b′ a′
-  unfolding repliesWords r rest aw
+  pub left-turn : Left k w n b₀ a₀ (i + 1) b′ a′
+  unfolding repliesWords c rest aw
   left-turn =
       record {
         most = omega arith;
         long = ap length (one .answers)
-            ∙ spliced-length a (i * 3) fits (replyWords (perform (ledgerOf b) (request r) .reply)) (three (perform (ledgerOf b) (request r) .reply))
+            ∙ spliced-length a (i * 3) fits (replyWords (perform (ledgerOf b) c .reply)) (three (perform (ledgerOf b) c .reply))
             ∙ l .long;
-        book = sym (ap (λ (c : Calls). c .book) taken) ∙ l .book;
+        book = sym (ap (λ (u : Calls). u .book) taken) ∙ l .book;
         answers =
             ap (λ (v : List ℕ). v ++ repliesWords (calls b′ rest .replies)) written
             ∙ append-assoc (take (i * 3) a) aw (repliesWords (calls b′ rest .replies))
-            ∙ sym (ap (λ (c : Calls). take (i * 3) a ++ repliesWords (c .replies)) taken)
+            ∙ sym (ap (λ (u : Calls). take (i * 3) a ++ repliesWords (u .replies)) taken)
             ∙ l .answers;
         behind = kept;
       }
 
-pub left-end : (w : List ℕ) (n : ℕ) (b₀ a₀ : List ℕ) (i : ℕ) (b a : List ℕ) → n ≤ i → Left w n b₀ a₀ i b a → All w n b₀ a₀ b a
-unfolding calls requestsOf repliesWords
-left-end w n b₀ a₀ i b a h l =
+pub left-end : (k : ℕ) (w : List ℕ) (n : ℕ) (b₀ a₀ : List ℕ) (i : ℕ) (b a : List ℕ) → n ≤ i → Left k w n b₀ a₀ i b a → All k w n b₀ a₀ b a
+unfolding calls callsOf repliesWords
+left-end k w n b₀ a₀ i b a h l =
     let e : n - i ≡ 0 = omega arith in
     let q : i * 3 ≡ 3 * n = omega (arith, l .most) in
     record {
-      book = sym (ap (λ (k : ℕ). calls b (requestsOf k (drop (i * 7) w)) .book) e) ∙ l .book;
+      book = sym (ap (λ (m : ℕ). calls b (callsOf k m (drop (i * k) w)) .book) e) ∙ l .book;
       answers =
           sym (take-append-drop (i * 3) a)
           ∙ ap₂ _++_ (sym (append-nil (take (i * 3) a))
-          ∙ sym (ap (λ (k : ℕ). take (i * 3) a ++ repliesWords (calls b (requestsOf k (drop (i * 7) w)) .replies)) e) ∙ l .answers)
+          ∙ sym (ap (λ (m : ℕ). take (i * 3) a ++ repliesWords (calls b (callsOf k m (drop (i * k) w)) .replies)) e) ∙ l .answers)
           (l .behind ∙ ap (λ (k : ℕ). drop k a₀) q);
     }

@@ -14,10 +14,10 @@ use Rattle.model.specs.Machine.{Call, told}
 use Rattle.model.specs.Reading.{settingsOf}
 use Rattle.model.specs.Ledger.{bookLength, ledgerOf}
 use Rattle.model.specs.Laws.{wellLaid, lawful}
-use Rattle.model.specs.Calls.{Called, callOn, call, calls, check, lay, freshBook, settingsGood, requestsOf, answerable, listed, callList, serveList}
+use Rattle.model.specs.Calls.{Called, callOn, callOrder, calls, check, lay, freshBook, settingsGood, callsOf, answerable, listed, callList, serveList}
 use Rattle.model.proofs.Calls.{from-fresh}
 use Rattle.model.proofs.Shows.{good-valid}
-use Rattle.model.specs.Removal.{Removed, RemovalKept}
+use Rattle.model.specs.Removal.{Removed, OrderedRemovalKept}
 use Rattle.model.proofs.Removal.{removal}
 use Rattle.book.specs.Good.{GoodBook, answered}
 use Rattle.engine.specs.Lists.{All, asListed}
@@ -44,44 +44,45 @@ call-refused b c {n} {p} e = go (wellLaid b) refl (lawful b) refl e
     go true q false s e = rw (q, s) (ap (λ (x : Answer). answered x b) (sym (rw (q, s) at e)))
     go false q t s e = rw q (ap (λ (x : Answer). answered x b) (sym (rw q at e)))
 
--- a call takes out what a removal promises
-call-removes : (b : List ℕ) (r : Request) (a : Answer) (c : List ℕ) → answered a c ≡ call b r → RemovalKept b r a c
-call-removes b r a c e one two k n q =
-    subst (λ (d : List ℕ). Removed (ledgerOf b .diary) (ledgerOf d .diary) (r .b) (r .first) (r .last) n) (sym (ap (λ (x : Called). x .book) e))
-    (removal b (record { one = one; two = two }) r k n (sym (ap (λ (x : Called). x .reply) e) ∙ ap told q))
+-- an order that is not kept takes out what a removal promises
+order-removes : (b : List ℕ) (n : ℕ) (r : Request) (a : Answer) (c : List ℕ) → answered a c ≡ callOrder b n r → OrderedRemovalKept b n r a c
+order-removes b n r a c e new one two k v q =
+    subst (λ (d : List ℕ). Removed (ledgerOf b .diary) (ledgerOf d .diary) (r .b) (r .first) (r .last) v) (sym (ap (λ (x : Called). x .book) e))
+    (removal b (record { one = one; two = two }) n new r k v (sym (ap (λ (x : Called). x .reply) e) ∙ ap told q))
 
-pub with-removal : (b : List ℕ) (r : Request) (a : Answer) (c : List ℕ) → answered a c ≡ call b r → (answered a c ≡ call b r) × RemovalKept b r a c
-with-removal b r a c e = (e, call-removes b r a c e)
+pub with-removal : (b : List ℕ) (n : ℕ) (r : Request) (a : Answer) (c : List ℕ) → answered a c ≡ callOrder b n r
+    → (answered a c ≡ callOrder b n r) × OrderedRemovalKept b n r a c
+with-removal b n r a c e = (e, order-removes b n r a c e)
 
 -- the list on a book that is refused, and on one that passes
-pub requests-refused : (b w a : List ℕ) {n p : ℕ} → check b ≡ Refused n p → asListed (Refused n p) b a ≡ callList b w a
+pub list-refused : (k : ℕ) (b w a : List ℕ) {n p : ℕ} → check b ≡ Refused n p → asListed (Refused n p) b a ≡ callList k b w a
 unfolding check callList
-requests-refused b w a {n} {p} e = go (wellLaid b) refl (lawful b) refl e
+list-refused k b w a {n} {p} e = go (wellLaid b) refl (lawful b) refl e
   where
-    go : (o : Bool) → wellLaid b ≡ o → (t : Bool) → lawful b ≡ t → check b ≡ Refused n p → asListed (Refused n p) b a ≡ callList b w a
+    go : (o : Bool) → wellLaid b ≡ o → (t : Bool) → lawful b ≡ t → check b ≡ Refused n p → asListed (Refused n p) b a ≡ callList k b w a
     go true q true s e = done-refused (rw (q, s) at e)
     go true q false s e = rw (q, s) (ap (λ (x : Answer). asListed x b a) (sym (rw (q, s) at e)))
     go false q t s e = rw q (ap (λ (x : Answer). asListed x b a) (sym (rw q at e)))
 
-module _ (w a : List ℕ) {n : ℕ} (e : n ≡ answerable w a) {b b′ a′ : List ℕ} (all : All w n b a b′ a′) where
-  all-listed : asListed (Done n) b′ a′ ≡ listed (answerable w a) a (calls b (requestsOf (answerable w a) w))
+module _ (k : ℕ) (w a : List ℕ) {n : ℕ} (e : n ≡ answerable k w a) {b b′ a′ : List ℕ} (all : All k w n b a b′ a′) where
+  all-listed : asListed (Done n) b′ a′ ≡ listed (answerable k w a) a (calls b (callsOf k (answerable k w a) w))
   all-listed =
       ap₂ (asListed (Done n)) (all .book) (all .answers)
-      ∙ ap (λ (k : ℕ). listed k a (calls b (requestsOf k w))) e
+      ∙ ap (λ (m : ℕ). listed m a (calls b (callsOf k m w))) e
 
-pub requests-done : (b w a : List ℕ) {v n : ℕ} {b′ a′ : List ℕ} → check b ≡ Done v → n ≡ answerable w a → All w n b a b′ a′
-    → asListed (Done n) b′ a′ ≡ callList b w a
+pub list-done : (k : ℕ) (b w a : List ℕ) {v n : ℕ} {b′ a′ : List ℕ} → check b ≡ Done v → n ≡ answerable k w a → All k w n b a b′ a′
+    → asListed (Done n) b′ a′ ≡ callList k b w a
 unfolding callList
-requests-done b w a {v} e q all = let g = done-good b v e in rw (g .laid, g .lawful) (all-listed w a q all)
+list-done k b w a {v} e q all = let g = done-good b v e in rw (g .laid, g .lawful) (all-listed k w a q all)
 
 -- laying: refused it keeps the book, and done it leaves a fresh one
 module _ (s b : List ℕ) where
-  pub serve-refused : (w a : List ℕ) {n p : ℕ} {b′ : List ℕ} → answered (Refused n p) b′ ≡ lay s b → asListed (Refused n p) b′ a ≡ serveList s b w a
+  pub serve-refused : (k : ℕ) (w a : List ℕ) {n p : ℕ} {b′ : List ℕ} → answered (Refused n p) b′ ≡ lay s b → asListed (Refused n p) b′ a ≡ serveList k s b w a
   unfolding lay serveList
-  serve-refused w a {n} {p} {b′} e = go (settingsGood s) refl (eqb (length b) (bookLength (settingsOf s))) refl e
+  serve-refused k w a {n} {p} {b′} e = go (settingsGood s) refl (eqb (length b) (bookLength (settingsOf s))) refl e
     where
       go : (o : Bool) → settingsGood s ≡ o → (t : Bool) → eqb (length b) (bookLength (settingsOf s)) ≡ t → answered (Refused n p) b′ ≡ lay s b
-          → asListed (Refused n p) b′ a ≡ serveList s b w a
+          → asListed (Refused n p) b′ a ≡ serveList k s b w a
       go true q true r e = done-refused (sym (answer-is (rw (q, r) at e)))
       go true q false r e = rw (q, r) (told-listed a (rw (q, r) at e))
       go false q t r e = rw q (told-listed a (rw q at e))
@@ -105,12 +106,12 @@ module _ (s b : List ℕ) where
   serve-laid v b′ e = let l = laying e in rw (l .fresh) (fresh-good (settingsOf s) (good-valid s (l .good)))
 
   -- demand 3: from a fresh book the answers are the machine's, and the book shows its state
-  pub serve-done : (w a : List ℕ) {v n : ℕ} {b′ b″ a′ : List ℕ} → answered (Done v) b′ ≡ lay s b → n ≡ answerable w a → All w n b′ a b″ a′
-      → asListed (Done n) b″ a′ ≡ serveList s b w a
+  pub serve-done : (k : ℕ) (w a : List ℕ) {v n : ℕ} {b′ b″ a′ : List ℕ} → answered (Done v) b′ ≡ lay s b → n ≡ answerable k w a
+      → All k w n b′ a b″ a′ → asListed (Done n) b″ a′ ≡ serveList k s b w a
   unfolding serveList
-  serve-done w a {v} {n} {b′} {b″} {a′} e q all =
+  serve-done k w a {v} {n} {b′} {b″} {a′} e q all =
       let l = laying e in
       rw (l .good, l .fits)
-      (all-listed w a q all
-      ∙ ap (λ (c : List ℕ). listed (answerable w a) a (calls c (requestsOf (answerable w a) w))) (l .fresh)
-      ∙ ap (listed (answerable w a) a) (from-fresh (settingsOf s) (good-valid s (l .good)) (requestsOf (answerable w a) w)))
+      (all-listed k w a q all
+      ∙ ap (λ (c : List ℕ). listed (answerable k w a) a (calls c (callsOf k (answerable k w a) w))) (l .fresh)
+      ∙ ap (listed (answerable k w a) a) (from-fresh (settingsOf s) (good-valid s (l .good)) (callsOf k (answerable k w a) w)))

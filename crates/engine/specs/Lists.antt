@@ -1,33 +1,27 @@
 -- Lists of requests as words: parts of the contracts by name.
 -- Assumes nothing.
-use Prim.Native.Nat.{ℕ, zero, suc, _+_, _*_}
+use Prim.Native.Nat.{ℕ, _+_, _*_}
 use mathlib.Core.Path.{_≡_}
 use mathlib.Core.List.{List, _++_}
 use lib.ListN.{take, drop}
 use Rattle.model.specs.declared.Answer.{Answer}
-use Rattle.model.specs.declared.Answer.the-variants.{Done, Refused}
-use Rattle.model.specs.Machine.{request, replyWords, perform, requestOf}
+use Rattle.model.specs.Machine.{callOf, replyWords, perform}
 use Rattle.model.specs.Ledger.{bookWords, ledgerOf}
-use Rattle.model.specs.Calls.{Listed, calls, requestsOf, repliesWords}
+use Rattle.model.specs.Calls.{Listed, calls, callsOf, repliesWords}
 
 -- l with the words ws in place of the three at i
 unfoldable pub spliced : List ℕ → ℕ → List ℕ → List ℕ
 spliced l i ws = take i l ++ (ws ++ drop (i + 3) l)
 
--- request i of the list w, from the book b and the answers a to b′ and a′
-pub record One (w : List ℕ) (i : ℕ) (b a b′ a′ : List ℕ) : Type 0 where
-  pub book : b′ ≡ bookWords (perform (ledgerOf b) (request (requestOf (drop (i * 7) w))) .ledger)
-  pub answers : a′ ≡ spliced a (i * 3) (replyWords (perform (ledgerOf b) (request (requestOf (drop (i * 7) w))) .reply))
+-- request i of the list w, k words each, from the book b and the answers a to b′ and a′
+pub record One (k : ℕ) (w : List ℕ) (i : ℕ) (b a b′ a′ : List ℕ) : Type 0 where
+  pub book : b′ ≡ bookWords (perform (ledgerOf b) (callOf (take k (drop (i * k) w))) .ledger)
+  pub answers : a′ ≡ spliced a (i * 3) (replyWords (perform (ledgerOf b) (callOf (take k (drop (i * k) w))) .reply))
 
 -- the first n requests of the list w
-pub record All (w : List ℕ) (n : ℕ) (b a b′ a′ : List ℕ) : Type 0 where
-  pub book : b′ ≡ calls b (requestsOf n w) .book
-  pub answers : a′ ≡ repliesWords (calls b (requestsOf n w) .replies) ++ drop (3 * n) a
+pub record All (k : ℕ) (w : List ℕ) (n : ℕ) (b a b′ a′ : List ℕ) : Type 0 where
+  pub book : b′ ≡ calls b (callsOf k n w) .book
+  pub answers : a′ ≡ repliesWords (calls b (callsOf k n w) .replies) ++ drop (3 * n) a
 
 abbrev pub asListed : Answer → List ℕ → List ℕ → Listed
 asListed r b a = record { answer = r; book = b; answers = a }
-
--- the answer that three words tell: refused has a number other than 0
-abbrev pub toldBy : ℕ → ℕ → ℕ → Answer
-toldBy zero p v = Done v
-toldBy (suc n) p v = Refused (suc n) p

@@ -1,30 +1,36 @@
-// Lists of requests: seven words a request, three words an answer. The book is checked or laid once; that each step keeps the laws is
-// what lets the next one go without a check.
+// Lists of requests: seven words a request, or eight with the number of its order, and three words an answer. The book is checked or
+// laid once; that each step keeps the laws is what lets the next one go without a check.
 use header::lay::lay;
 use header::settings::diary_len;
 use header::settings::settings;
 use model::Answer;
 use model::Request;
 use model::Settings;
+use ring::answer_of;
 use step::book_step;
 ghost use mathlib.Core.Path.{_≡_};
 ghost use mathlib.Core.List.{[], _∷_};
 ghost use Prim.Native.Nat.{_+_, _*_, _/_, _≤_, min};
-ghost use lib.ListN.{length, drop};
+ghost use lib.ListN.{length, getD, take, drop};
 ghost use Rattle.model.specs.Machine;
-ghost use Rattle.model.specs.Machine.{request, requestOf, answerWords};
+ghost use Rattle.model.specs.Messages.{requestLength, orderLength, requestOf, answerWords};
+ghost use Rattle.model.specs.Machine.{ordered};
 ghost use Rattle.model.specs.Words.{diaryLength};
 ghost use Rattle.model.specs.Ledger.{ledgerOf};
 ghost use Rattle.model.specs.Calls.{called, callList, serveList};
 ghost use Rattle.book.specs.Good.{GoodBook, answered};
-ghost use Rattle.engine.specs.Lists.{spliced, One, All, asListed, toldBy};
+ghost use Rattle.engine.specs.Lists.{spliced, One, All, asListed};
 
-// Request i of a list.
-fn request_at(list: &[u32], i: usize) -> Request
-    requires { ⌜ i * 7 + 7 ≤ length (now list) ⌝ }
-    ensures { λ r. ⌜ r ≡ requestOf (drop (i * 7) (now (list .entry))) ⌝ }
+// The words of a request, and those of a request with its order.
+const REQUEST_WORDS: usize = 7;
+
+const ORDER_WORDS: usize = 8;
+
+// The request at a place of a list.
+fn request_at(list: &[u32], at: usize) -> Request
+    requires { ⌜ at + 7 ≤ length (now list) ⌝ }
+    ensures { λ r. ⌜ r ≡ requestOf (drop at (now (list .entry))) ⌝ }
 {
-    let at = i * 7;
     Request {
         kind: list[at],
         a: list[at + 1],
@@ -34,6 +40,18 @@ fn request_at(list: &[u32], i: usize) -> Request
         n: list[at + 5],
         info: list[at + 6],
     }
+}
+
+// The number of its order: 0 where a request has seven words.
+fn order_at(list: &[u32], at: usize, width: usize) -> u32
+    requires { ⌜ (7 ≤ width) × (width ≤ 8) ⌝ }
+    requires { ⌜ at + width ≤ length (now list) ⌝ }
+    ensures { λ r. ⌜ r ≡ getD (take width (drop at (now (list .entry)))) 7 0 ⌝ }
+{
+    if width == REQUEST_WORDS {
+        return 0;
+    }
+    list[at + 7]
 }
 
 // Three words at answer i.
@@ -63,62 +81,65 @@ fn answer_at(
     s: Settings,
     diary: usize,
     list: &[u32],
+    width: usize,
     answers: &mut [u32],
     i: usize,
 )
     requires { ⌜ GoodBook s (now book) ⌝ }
     requires { ⌜ diary ≡ diaryLength s ⌝ }
-    requires { ⌜ i * 7 + 7 ≤ length (now list) ⌝ }
+    requires { ⌜ (7 ≤ width) × (width ≤ 8) ⌝ }
+    requires { ⌜ i * width + width ≤ length (now list) ⌝ }
     requires { ⌜ i * 3 + 3 ≤ length (now answers) ⌝ }
-    ensures { λ _. ⌜ One (now (list .entry)) i (now (book .entry)) (now (answers .entry)) (now (book .exit)) (now (answers .exit)) ⌝ }
+    ensures { λ _. ⌜ One width (now (list .entry)) i (now (book .entry)) (now (answers .entry)) (now (book .exit)) (now (answers .exit)) ⌝ }
 {
-    let r = request_at(list, i);
-    let a = book_step(book, s, diary, r);
+    let at = i * width;
+    let order = order_at(list, at, width);
+    let r = request_at(list, at);
+    let a = book_step(book, s, diary, order, r);
     put_answer(answers, i, a);
 }
 
 // The first n requests of the list, and their answers.
-fn answer_all(book: &mut [u32], s: Settings, list: &[u32], answers: &mut [u32], n: usize)
+fn answer_all(
+    book: &mut [u32],
+    s: Settings,
+    list: &[u32],
+    width: usize,
+    answers: &mut [u32],
+    n: usize,
+)
     requires { ⌜ GoodBook s (now book) ⌝ }
-    requires { ⌜ n * 7 ≤ length (now list) ⌝ }
+    requires { ⌜ (7 ≤ width) × (width ≤ 8) ⌝ }
+    requires { ⌜ n * width ≤ length (now list) ⌝ }
     requires { ⌜ n * 3 ≤ length (now answers) ⌝ }
-    ensures { λ _. ⌜ All (now (list .entry)) n (now (book .entry)) (now (answers .entry)) (now (book .exit)) (now (answers .exit)) ⌝ }
+    ensures { λ _. ⌜ All width (now (list .entry)) n (now (book .entry)) (now (answers .entry)) (now (book .exit)) (now (answers .exit)) ⌝ }
 {
     let diary = diary_len(s);
     let mut i: usize = 0;
     while i < n {
-        answer_at(book, s, diary, list, answers, i);
+        answer_at(book, s, diary, list, width, answers, i);
         i += 1;
     }
 }
 
-// The answer that three words tell.
-fn answer_of(number: u32, place: u32, value: u32) -> Answer
-    ensures { λ r. ⌜ r ≡ toldBy number place value ⌝ }
-{
-    if number == 0 {
-        return Answer::Done(value);
-    }
-    Answer::Refused { number, place }
-}
-
 // One request on a good book, as a list of one: whatever judges and writes goes through the loop above, which has the only call of
 // `book_step`, so that the compiler puts the step into it.
-pub fn answer_one(book: &mut [u32], s: Settings, r: Request) -> Answer
+pub fn answer_one(book: &mut [u32], s: Settings, order: u32, r: Request) -> Answer
     requires { ⌜ GoodBook s (now book) ⌝ }
-    ensures { λ a. ⌜ answered a (now (book .exit)) ≡ called (Machine.perform (ledgerOf (now (book .entry))) (request r)) ⌝ }
+    ensures { λ a. ⌜ answered a (now (book .exit)) ≡ called (Machine.perform (ledgerOf (now (book .entry))) (ordered order r)) ⌝ }
 {
-    let list = [r.kind, r.a, r.b, r.first, r.last, r.n, r.info];
+    let list = [r.kind, r.a, r.b, r.first, r.last, r.n, r.info, order];
     let mut words = [0u32; 3];
-    answer_all(book, s, &list, &mut words, 1);
+    answer_all(book, s, &list, ORDER_WORDS, &mut words, 1);
     answer_of(words[0], words[1], words[2])
 }
 
 // How many requests of a list of `words` words are answered in `room` words.
-fn answerable_in(words: usize, room: usize) -> usize
-    ensures { λ r. ⌜ r ≡ min (min (words / 7) (room / 3)) 4294967295 ⌝ }
+fn answerable_in(words: usize, width: usize, room: usize) -> usize
+    requires { ⌜ (7 ≤ width) × (width ≤ 8) ⌝ }
+    ensures { λ r. ⌜ r ≡ min (min (words / width) (room / 3)) 4294967295 ⌝ }
 {
-    let requests = words / 7;
+    let requests = words / width;
     let answers = room / 3;
     let both = if requests < answers {
         requests
@@ -128,25 +149,54 @@ fn answerable_in(words: usize, room: usize) -> usize
     if both < 4294967295 { both } else { 4294967295 }
 }
 
-// Each request of the list as `request` would answer it, after one check of the book. The answer is done with their number.
-pub fn requests(book: &mut [u32], list: &[u32], answers: &mut [u32]) -> Answer
-    ensures { λ r. ⌜ asListed r (now (book .exit)) (now (answers .exit)) ≡ callList (now (book .entry)) (now (list .entry)) (now (answers .entry)) ⌝ }
+// Each request of the list as it would be answered by itself, after one check of the book. The answer is done with their number.
+fn answer_list(book: &mut [u32], list: &[u32], width: usize, answers: &mut [u32]) -> Answer
+    requires { ⌜ (7 ≤ width) × (width ≤ 8) ⌝ }
+    ensures { λ r. ⌜
+        asListed r (now (book .exit)) (now (answers .exit)) ≡ callList width (now (book .entry)) (now (list .entry)) (now (answers .entry)) ⌝ }
 {
     let checked = checking::check(book);
     if let Answer::Refused { number, place } = checked {
         return Answer::Refused { number, place };
     }
     let s = settings(book);
-    let n = answerable_in(list.len(), answers.len());
-    answer_all(book, s, list, answers, n);
+    let n = answerable_in(list.len(), width, answers.len());
+    answer_all(book, s, list, width, answers, n);
     Answer::Done(n as u32)
 }
 
-// Lays the book and answers the list: the answers and every word of the book are the diary machine's.
-pub fn serve(words: &[u32], book: &mut [u32], list: &[u32], answers: &mut [u32]) -> Answer
+// Requests of seven words, each as `request` would answer it.
+pub fn requests(book: &mut [u32], list: &[u32], answers: &mut [u32]) -> Answer
     ensures { λ r. ⌜
         asListed r (now (book .exit)) (now (answers .exit))
-        ≡ serveList (now (words .entry)) (now (book .entry)) (now (list .entry)) (now (answers .entry))
+        ≡ callList requestLength (now (book .entry)) (now (list .entry)) (now (answers .entry))
+        ⌝ }
+{
+    answer_list(book, list, REQUEST_WORDS, answers)
+}
+
+// Requests of eight words, the last the number of its order, each as `order` would answer it.
+pub fn orders(book: &mut [u32], list: &[u32], answers: &mut [u32]) -> Answer
+    ensures { λ r. ⌜
+        asListed r (now (book .exit)) (now (answers .exit))
+        ≡ callList orderLength (now (book .entry)) (now (list .entry)) (now (answers .entry))
+        ⌝ }
+{
+    answer_list(book, list, ORDER_WORDS, answers)
+}
+
+// Lays the book and answers the list: the answers and every word of the book are the diary machine's.
+fn serve_list(
+    words: &[u32],
+    book: &mut [u32],
+    list: &[u32],
+    width: usize,
+    answers: &mut [u32],
+) -> Answer
+    requires { ⌜ (7 ≤ width) × (width ≤ 8) ⌝ }
+    ensures { λ r. ⌜
+        asListed r (now (book .exit)) (now (answers .exit))
+        ≡ serveList width (now (words .entry)) (now (book .entry)) (now (list .entry)) (now (answers .entry))
         ⌝ }
 {
     let laid = lay(words, book);
@@ -154,7 +204,31 @@ pub fn serve(words: &[u32], book: &mut [u32], list: &[u32], answers: &mut [u32])
         return Answer::Refused { number, place };
     }
     let s = settings(words);
-    let count = answerable_in(list.len(), answers.len());
-    answer_all(book, s, list, answers, count);
+    let count = answerable_in(list.len(), width, answers.len());
+    answer_all(book, s, list, width, answers, count);
     Answer::Done(count as u32)
+}
+
+// The same with requests of seven words, and with requests of eight.
+pub fn serve(words: &[u32], book: &mut [u32], list: &[u32], answers: &mut [u32]) -> Answer
+    ensures { λ r. ⌜
+        asListed r (now (book .exit)) (now (answers .exit))
+        ≡ serveList requestLength (now (words .entry)) (now (book .entry)) (now (list .entry)) (now (answers .entry))
+        ⌝ }
+{
+    serve_list(words, book, list, REQUEST_WORDS, answers)
+}
+
+pub fn serve_orders(
+    words: &[u32],
+    book: &mut [u32],
+    list: &[u32],
+    answers: &mut [u32],
+) -> Answer
+    ensures { λ r. ⌜
+        asListed r (now (book .exit)) (now (answers .exit))
+        ≡ serveList orderLength (now (words .entry)) (now (book .entry)) (now (list .entry)) (now (answers .entry))
+        ⌝ }
+{
+    serve_list(words, book, list, ORDER_WORDS, answers)
 }

@@ -16,8 +16,8 @@ ghost use Rattle.model.specs.Calls.{settingsGood};
 ghost use Rattle.units.specs.Ranges.{Ranges};
 ghost use Rattle.header.specs.Heads.{seatOf, seatGood, neededLength};
 
-// How many words a book keeps behind its diary.
-pub const TAIL_WORDS: usize = 0;
+// How many words a book keeps behind its diary: 64 orders of eleven words, and the next place.
+pub const TAIL_WORDS: usize = 705;
 
 // Word i, and 0 where there is none.
 fn word(words: &[u32], i: usize) -> u32

@@ -44,7 +44,7 @@ after {S} {b} {b′} good r {a} e =
           ap ledgerOf w
           ∙ ledgerOf-words (perform (ledgerOf b) (request r) .ledger)
           (perform-sound (ledgerOf b) (ledger-sound b (good .laid) (good .lawful)) (request r));
-      good = subst (GoodBook S) (sym w) (good-step good r);
+      good = subst (GoodBook S) (sym w) (good-step good 0 r);
     }
 
 -- the request that was made is the one that is meant

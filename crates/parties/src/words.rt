@@ -54,7 +54,7 @@ fn add_guests(book: &mut [u32], s: Settings, meeting: u32, records: &[u32], n: u
     let mut i: usize = 0;
     while i < n {
         let r = request_for(ADD_ATTEND, meeting, records, i);
-        let a = answer_one(book, s, r);
+        let a = answer_one(book, s, 0, r);
         if let Answer::Refused { number, place } = a {
             return Added {
                 guests: i,
@@ -79,7 +79,7 @@ fn take_back(book: &mut [u32], s: Settings, meeting: u32, records: &[u32], n: us
     while i > 0 {
         i -= 1;
         let r = request_for(ERASE_ATTEND, meeting, records, i);
-        answer_one(book, s, r);
+        answer_one(book, s, 0, r);
     }
 }
 

@@ -1,14 +1,18 @@
-// One request on a good diary, where every question is answered before the first word is written, and on a good book.
+// One request on a good diary, where every question is answered before the first word is written, and on a good book with its ring.
 pub mod asking;
 pub mod meetings;
 pub mod visitors;
 
+use book::found::Found;
 use model::Answer;
 use model::Request;
 use model::Settings;
+use ring::answer_to;
+use ring::find;
+use ring::note;
 ghost use mathlib.Core.Path.{_≡_};
 ghost use Rattle.model.specs.Machine;
-ghost use Rattle.model.specs.Machine.{request};
+ghost use Rattle.model.specs.Machine.{ordered};
 ghost use Rattle.model.specs.Words.{diaryLength};
 ghost use Rattle.model.specs.Reading.{stateOf};
 ghost use Rattle.model.specs.Ledger.{ledgerOf};
@@ -50,11 +54,18 @@ pub fn step(book: &mut [u32], s: Settings, r: Request) -> Answer
     }
 }
 
-// The same on a whole book: its first `diary` words are the diary, and what stands behind them stays.
-pub fn book_step(book: &mut [u32], s: Settings, diary: usize, r: Request) -> Answer
+// A request on a whole book, with the number of its order, 0 for none. The first `diary` words are the diary, the ring stands behind
+// them. An order that is kept is answered from the ring; else the request is carried out, and an order is kept with its answer. There
+// is one call of `step`, so that the compiler puts it into the loops above.
+pub fn book_step(book: &mut [u32], s: Settings, diary: usize, order: u32, r: Request) -> Answer
     requires { ⌜ GoodBook s (now book) ⌝ }
     requires { ⌜ diary ≡ diaryLength s ⌝ }
-    ensures { λ a. ⌜ answered a (now (book .exit)) ≡ called (Machine.perform (ledgerOf (now (book .entry))) (request r)) ⌝ }
+    ensures { λ a. ⌜ answered a (now (book .exit)) ≡ called (Machine.perform (ledgerOf (now (book .entry))) (ordered order r)) ⌝ }
 {
-    step(&mut book[..diary], s, r)
+    if let Found::At(place) = find(&book[diary..], order) {
+        return answer_to(&book[diary..], place, r);
+    }
+    let answer = step(&mut book[..diary], s, r);
+    note(&mut book[diary..], order, r, answer);
+    answer
 }

@@ -40,7 +40,8 @@ use denote.Triple.Clauses.{ensured, Lasts, lasts}
 use denote.Triple.Table.{entered, cited}
 use denote.Triple.Walked.{says, Stays, stay-none, stay-none-slice, gave-slice, walkOf, goes-none, goes-none-slice, goes-gave-slice, Walks, ends-at, walked, walk-meets}
 use denote.Exit.{yes}
-use Rattle.model.specs.Machine.{answerWords, replyWords}
+use Rattle.model.specs.Messages.{answerWords}
+use Rattle.model.specs.Machine.{replyWords}
 use Rattle.model.specs.Calls.{callParty}
 use Rattle.book.specs.Good.{answered}
 use Rattle.model.specs.declared.Guest.{Guest}

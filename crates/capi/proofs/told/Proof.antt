@@ -1,7 +1,7 @@
 -- `told`: by the answer's cases.
 -- Assumes nothing.
 use mathlib.Core.Path.{sym, ap}
-use Rattle.model.specs.Machine.{answerWords}
+use Rattle.model.specs.Messages.{answerWords}
 use borrow.Author.Needs.{needs}
 use Rattle.capi.proofs.told.Statement.{statement}
 use Rattle.capi.proofs.told.Tie as tie

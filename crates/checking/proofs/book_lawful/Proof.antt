@@ -7,7 +7,7 @@ use borrow.Author.Tests.{not-true, not-false}
 use Rattle.model.specs.Site.{validSettings}
 use Rattle.model.proofs.Ledger.{laid-valid, diary-fits}
 use Rattle.book.proofs.Goods.{ranges-by}
-use Rattle.checking.proofs.Verdicts.{first-laid, two-no, two-yes}
+use Rattle.checking.proofs.Verdicts.{first-laid, two-no, two-yes, tail-long}
 use borrow.Author.Needs.{needs}
 use Rattle.checking.proofs.book_lawful.Statement.{statement}
 use Rattle.checking.proofs.book_lawful.Tie as tie
@@ -34,31 +34,32 @@ returns c =
     sym (two-no _ (d .before .before .before .pre) _ (d .before .settings .ensures) _ (d .diary-len .ensures)
     (sym (c .before .diary-lawful .ensures) ∙ not-true _ (c .if1 .taken)))
 
-mul-tail-kept : tie.Need-mul-tail-kept
-mul-tail-kept c =
+mul-kept : tie.Need-mul-kept
+mul-kept c =
     let d = c .before .before .before in
     omega (arith, diary-fits _ (d .before .before .before .pre) (d .before .settings .ensures) (d .diary-len .ensures))
 
-sub-tail-kept : tie.Need-sub-tail-kept
-sub-tail-kept c =
+sub-kept : tie.Need-sub-kept
+sub-kept c =
     let d = c .before .before .before in
     diary-fits _ (d .before .before .before .pre) (d .before .settings .ensures) (d .diary-len .ensures)
 
-part-tail-kept-start : tie.Need-part-tail-kept-start
-part-tail-kept-start c =
+part-kept-start : tie.Need-part-kept-start
+part-kept-start c =
     let d = c .before .before .before in
     diary-fits _ (d .before .before .before .pre) (d .before .settings .ensures) (d .diary-len .ensures)
 
-part-tail-kept-end : tie.Need-part-tail-kept-end
-part-tail-kept-end c = search needs
+part-kept-end : tie.Need-part-kept-end
+part-kept-end c = search needs
 
-tail-kept-requires : tie.Need-tail-kept-requires
-tail-kept-requires c κs = search needs
+kept-requires : tie.Need-kept-requires
+kept-requires c κs = let d = c .before .before .before .before in
+    tail-long _ (d .before .before .before .pre) _ (d .before .settings .ensures) _ (d .diary-len .ensures)
 
 returns-2 : tie.Need-returns-2
 returns-2 c =
     let d = c .before .before .before .before .before in
-    c .tail-kept .ensures
+    c .kept .ensures
     ∙ two-yes _ (d .before .before .before .pre) _ (d .before .settings .ensures) _ (d .diary-len .ensures)
     (sym (c .before .before .before .diary-lawful .ensures) ∙ not-false _ (c .before .before .if1 .left))
 
@@ -71,9 +72,9 @@ book-lawful-spec =
     slice-aggregate-diary-lawful
     diary-lawful-requires
     returns
-    mul-tail-kept
-    sub-tail-kept
-    part-tail-kept-start
-    part-tail-kept-end
-    tail-kept-requires
+    mul-kept
+    sub-kept
+    part-kept-start
+    part-kept-end
+    kept-requires
     returns-2)

@@ -1,63 +1,18 @@
--- `request`: checked, then one step.
+-- `request`: an order without a number, which no ring keeps.
 -- Assumes nothing.
-use mathlib.Core.Path.{sym, _∙_}
+use mathlib.Core.Path.{refl}
 use borrow.Author.Needs.{needs}
-use Rattle.model.specs.Machine.{request}
-use Rattle.step.proofs.Kept.{good-call}
-use Rattle.checking.proofs.Verdicts.{done-good}
-use Rattle.engine.proofs.Whole.{call-refused, with-removal}
 use Rattle.engine.proofs.request.Statement.{statement}
 use Rattle.engine.proofs.request.Tie as tie
 
-check-requires : tie.Need-check-requires
-check-requires c κs = search needs
-
-enum-known-checked : tie.Need-enum-known-checked
-enum-known-checked c = search needs
+order-requires : tie.Need-order-requires
+order-requires c κs = search needs
 
 same-length : tie.Need-same-length
 same-length c = search needs
 
 returns : tie.Need-returns
-returns c =
-    let a = c .before .before .before .before .before .before .args in
-    with-removal (a .book .now) (a .r) _ _
-    (call-refused (a .book .now) (request (a .r)) (sym (c .before .before .before .check .ensures) ∙ c .before .checked .given .1))
-
-enum-told : tie.Need-enum-told
-enum-told c = search needs
-
-settings-requires : tie.Need-settings-requires
-settings-requires c κs = search needs
-
-answer-one-requires : tie.Need-answer-one-requires
-answer-one-requires c κs =
-    let a = c .before .before .before .before .before .before .before .before .args in
-    rw (c .before .settings .ensures)
-    (done-good (a .book .now) _ (sym (c .before .before .before .before .before .check .ensures) ∙ c .before .before .before .enum-told .given .1))
-
-same-length-2 : tie.Need-same-length-2
-same-length-2 c = search needs
-
-returns-2 : tie.Need-returns-2
-returns-2 c =
-    let a = c .before .before .before .before .before .before .before .before .before .before .before .args in
-    with-removal (a .book .now) (a .r) _ _
-    (c .before .before .answer-one .ensures
-    ∙ sym (good-call (done-good (a .book .now) _
-    (sym (c .before .before .before .before .before .before .before .before .check .ensures)
-    ∙ c .before .before .before .before .before .before .enum-told .given .1)) (request (a .r))))
+returns c = let e = c .before .before .order .ensures in (e .0, e .1 refl)
 
 pub request-spec : {M : Type 1} → statement M
-request-spec =
-    tie.close
-    (tie.spec
-    check-requires
-    enum-known-checked
-    same-length
-    returns
-    enum-told
-    settings-requires
-    answer-one-requires
-    same-length-2
-    returns-2)
+request-spec = tie.close (tie.spec order-requires same-length returns)

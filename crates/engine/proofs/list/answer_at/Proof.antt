@@ -1,15 +1,23 @@
 -- `list::answer_at`: one step, and its answer in its place.
 -- Assumes nothing.
-use Prim.Native.Nat.{_*_}
-use mathlib.Core.Path.{_∙_, ap}
-use borrow.Author.Needs.{needs}
+use Prim.Native.Nat.{ℕ, _*_}
+use mathlib.Core.Path.{_∙_, ap, ap₂}
+use lib.ListN.{drop}
 use Rattle.model.specs.declared.Request.{Request}
-use Rattle.model.specs.Machine.{request, replyWords, perform}
+use Rattle.model.specs.Machine.{ordered, replyWords, perform}
 use Rattle.model.specs.Ledger.{ledgerOf}
 use Rattle.model.specs.Calls.{Called, called}
 use Rattle.engine.specs.Lists.{spliced}
+use Rattle.engine.proofs.Splices.{request-of}
+use borrow.Author.Needs.{needs}
 use Rattle.engine.proofs.list.answer_at.Statement.{statement}
 use Rattle.engine.proofs.list.answer_at.Tie as tie
+
+mul-at : tie.Need-mul-at
+mul-at c = search needs
+
+order-at-requires : tie.Need-order-at-requires
+order-at-requires c κs = search needs
 
 request-at-requires : tie.Need-request-at-requires
 request-at-requires c κs = search needs
@@ -27,11 +35,12 @@ same-length-2 : tie.Need-same-length-2
 same-length-2 c = search needs
 
 returns : tie.Need-returns
-returns c =
-    let a = c .before .before .before .before .before .before .before .before .before .before .before .before .args in
+returns c = let s = c .before .before .before .before .before .before .before .before .before .before .before .before .before in
+    let a = s .args in
+    let r = c .before .before .before .before .before .before .before .before in
+    let q = r .request-at .ensures ∙ request-of (s .pre .1 .1 .0) (drop (a .i * a .width) (a .list .now)) in
     let e = c .before .before .before .before .before .before .book-step .ensures
-    ∙ ap (λ (r : Request). called (perform (ledgerOf (a .book .now)) (request r)))
-    (c .before .before .before .before .before .before .before .before .request-at .ensures) in
+    ∙ ap₂ (λ (n : ℕ) (r : Request). called (perform (ledgerOf (a .book .now)) (ordered n r))) (r .before .order-at .ensures) q in
     record {
       book = ap (λ (c : Called). c .book) e;
       answers = c .before .before .put-answer .ensures
@@ -42,6 +51,8 @@ pub answer-at-spec : {M : Type 1} → statement M
 answer-at-spec =
     tie.close
     (tie.spec
+    mul-at
+    order-at-requires
     request-at-requires
     book-step-requires
     put-answer-requires

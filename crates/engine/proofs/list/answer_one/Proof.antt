@@ -36,7 +36,7 @@ returns : tie.Need-returns
 returns c =
     let s = c .before .before .before .before .before .before .before .before .before in
     let all = c .before .before .before .before .answer-all in
-    ap (λ (a : Answer). answered a (all .last .0)) (c .answer-of .ensures) ∙ one-told (s .pre) (s .args .r) (all .ensures)
+    ap (λ (a : Answer). answered a (all .last .0)) (c .answer-of .ensures) ∙ one-told (s .pre) (s .args .order) (s .args .r) (all .ensures)
 
 pub answer-one-spec : {M : Type 1} → statement M
 answer-one-spec =

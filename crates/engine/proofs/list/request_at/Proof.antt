@@ -1,6 +1,6 @@
--- `list::request_at`: seven words from the request's place.
+-- `list::request_at`: seven words from a place on.
 -- Assumes nothing.
-use Prim.Native.Nat.{ℕ, _+_, _*_, _-_}
+use Prim.Native.Nat.{ℕ, _+_}
 use mathlib.Core.Path.{_≡_, sym, _∙_, ap}
 use native.Mathlib.Omega.{arith}
 use lib.ListN.{getD}
@@ -9,74 +9,70 @@ use borrow.Author.Needs.{needs}
 use Rattle.engine.proofs.list.request_at.Statement.{statement}
 use Rattle.engine.proofs.list.request_at.Tie as tie
 
-mul-at : tie.Need-mul-at
-mul-at c = search needs
+mul-t3 : tie.Need-mul-t3
+mul-t3 c = search needs
 
-mul-t4 : tie.Need-mul-t4
-mul-t4 c = search needs
+shared-slice-read-t5 : tie.Need-shared-slice-read-t5
+shared-slice-read-t5 c = search needs
 
-shared-slice-read-t6 : tie.Need-shared-slice-read-t6
-shared-slice-read-t6 c = search needs
+add-t6 : tie.Need-add-t6
+add-t6 c = search needs
 
-add-t7 : tie.Need-add-t7
-add-t7 c = search needs
+mul-t7 : tie.Need-mul-t7
+mul-t7 c = search needs
 
-mul-t8 : tie.Need-mul-t8
-mul-t8 c = search needs
+shared-slice-read-t9 : tie.Need-shared-slice-read-t9
+shared-slice-read-t9 c = search needs
 
-shared-slice-read-t10 : tie.Need-shared-slice-read-t10
-shared-slice-read-t10 c = search needs
+add-t10 : tie.Need-add-t10
+add-t10 c = search needs
 
-add-t11 : tie.Need-add-t11
-add-t11 c = search needs
+mul-t11 : tie.Need-mul-t11
+mul-t11 c = search needs
 
-mul-t12 : tie.Need-mul-t12
-mul-t12 c = search needs
+shared-slice-read-t13 : tie.Need-shared-slice-read-t13
+shared-slice-read-t13 c = search needs
 
-shared-slice-read-t14 : tie.Need-shared-slice-read-t14
-shared-slice-read-t14 c = search needs
+add-t14 : tie.Need-add-t14
+add-t14 c = search needs
 
-add-t15 : tie.Need-add-t15
-add-t15 c = search needs
+mul-t15 : tie.Need-mul-t15
+mul-t15 c = search needs
 
-mul-t16 : tie.Need-mul-t16
-mul-t16 c = search needs
+shared-slice-read-t17 : tie.Need-shared-slice-read-t17
+shared-slice-read-t17 c = search needs
 
-shared-slice-read-t18 : tie.Need-shared-slice-read-t18
-shared-slice-read-t18 c = search needs
+add-t18 : tie.Need-add-t18
+add-t18 c = search needs
 
-add-t19 : tie.Need-add-t19
-add-t19 c = search needs
+mul-t19 : tie.Need-mul-t19
+mul-t19 c = search needs
 
-mul-t20 : tie.Need-mul-t20
-mul-t20 c = search needs
+shared-slice-read-t21 : tie.Need-shared-slice-read-t21
+shared-slice-read-t21 c = search needs
 
-shared-slice-read-t22 : tie.Need-shared-slice-read-t22
-shared-slice-read-t22 c = search needs
+add-t22 : tie.Need-add-t22
+add-t22 c = search needs
 
-add-t23 : tie.Need-add-t23
-add-t23 c = search needs
+mul-t23 : tie.Need-mul-t23
+mul-t23 c = search needs
 
-mul-t24 : tie.Need-mul-t24
-mul-t24 c = search needs
+shared-slice-read-t25 : tie.Need-shared-slice-read-t25
+shared-slice-read-t25 c = search needs
 
-shared-slice-read-t26 : tie.Need-shared-slice-read-t26
-shared-slice-read-t26 c = search needs
+add-t26 : tie.Need-add-t26
+add-t26 c = search needs
 
-add-t27 : tie.Need-add-t27
-add-t27 c = search needs
+mul-t27 : tie.Need-mul-t27
+mul-t27 c = search needs
 
-mul-t28 : tie.Need-mul-t28
-mul-t28 c = search needs
-
-shared-slice-read-t30 : tie.Need-shared-slice-read-t30
-shared-slice-read-t30 c = search needs
+shared-slice-read-t29 : tie.Need-shared-slice-read-t29
+shared-slice-read-t29 c = search needs
 
 returns : tie.Need-returns
-returns c =
-    let a = c .before .before .before .before .before .before .before .args in
+returns c = let a = c .before .before .before .before .before .before .before .args in
     let l = a .list .now in
-    let n = a .i * 7 in
+    let n = a .at in
     let z : n ≡ n + 0 = omega arith in
     λ i. record {
       kind = (ap (λ (k : ℕ). getD l k 0) z ∙ sym (getD-drop n l 0 0)) i;
@@ -92,25 +88,24 @@ pub request-at-spec : {M : Type 1} → statement M
 request-at-spec =
     tie.close
     (tie.spec
-    mul-at
-    mul-t4
-    shared-slice-read-t6
-    add-t7
-    mul-t8
-    shared-slice-read-t10
-    add-t11
-    mul-t12
-    shared-slice-read-t14
-    add-t15
-    mul-t16
-    shared-slice-read-t18
-    add-t19
-    mul-t20
-    shared-slice-read-t22
-    add-t23
-    mul-t24
-    shared-slice-read-t26
-    add-t27
-    mul-t28
-    shared-slice-read-t30
+    mul-t3
+    shared-slice-read-t5
+    add-t6
+    mul-t7
+    shared-slice-read-t9
+    add-t10
+    mul-t11
+    shared-slice-read-t13
+    add-t14
+    mul-t15
+    shared-slice-read-t17
+    add-t18
+    mul-t19
+    shared-slice-read-t21
+    add-t22
+    mul-t23
+    shared-slice-read-t25
+    add-t26
+    mul-t27
+    shared-slice-read-t29
     returns)

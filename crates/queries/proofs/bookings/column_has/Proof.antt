@@ -11,7 +11,7 @@ use Rattle.model.specs.Bounded.{one}
 use Rattle.model.proofs.Sums.{sum-empty, sum-zero, one-zero}
 use Rattle.book.specs.Grids.{cellAt}
 use Rattle.queries.specs.Shown.{columnCount}
-use Rattle.queries.proofs.Loops.{passed-from}
+use Rattle.model.proofs.Search.{passed-from}
 use Rattle.queries.proofs.bookings.column_has.Statement.{statement}
 use Rattle.queries.proofs.bookings.column_has.Tie as tie
 

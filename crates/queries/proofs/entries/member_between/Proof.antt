@@ -8,7 +8,7 @@ use native.Mathlib.Omega.{arith}
 use Rattle.model.specs.Bounded.{bit}
 use Rattle.book.specs.Grids.{cellAt}
 use Rattle.queries.proofs.Free.{between-yes, between-no}
-use Rattle.queries.proofs.Loops.{passed-from}
+use Rattle.model.proofs.Search.{passed-from}
 use Rattle.queries.proofs.entries.member_between.Statement.{statement}
 use Rattle.queries.proofs.entries.member_between.Tie as tie
 

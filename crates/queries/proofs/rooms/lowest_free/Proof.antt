@@ -14,7 +14,7 @@ use Rattle.book.proofs.Goods.{good-state, good-lies}
 use Rattle.queries.specs.Shown.{roomTaken}
 use Rattle.queries.proofs.Free.{freeIn, free-yes, free-no, lowest-none, lowest-at}
 use Rattle.queries.proofs.Shows.{room-taken-is}
-use Rattle.queries.proofs.Loops.{passed-false, passed-from}
+use Rattle.model.proofs.Search.{passed-false, passed-from}
 use Rattle.queries.proofs.rooms.lowest_free.Statement.{statement}
 use Rattle.queries.proofs.rooms.lowest_free.Tie as tie
 

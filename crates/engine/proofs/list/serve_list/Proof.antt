@@ -1,12 +1,14 @@
--- `list::serve`: laid, then each request in turn.
+-- `list::serve_list`: laid, then each request in turn.
 -- Assumes nothing.
 use mathlib.Core.Path.{refl, sym, _∙_, ap₂}
 use native.Mathlib.Omega.{arith}
+use lib.ListN.{length}
 use borrow.Author.Needs.{needs}
 use Rattle.book.specs.Good.{answered}
+use Rattle.engine.proofs.Splices.{list-fits}
 use Rattle.engine.proofs.Whole.{serve-refused, serve-laid, serve-done}
-use Rattle.engine.proofs.list.serve.Statement.{statement}
-use Rattle.engine.proofs.list.serve.Tie as tie
+use Rattle.engine.proofs.list.serve_list.Statement.{statement}
+use Rattle.engine.proofs.list.serve_list.Tie as tie
 
 lay-requires : tie.Need-lay-requires
 lay-requires c κs = search needs
@@ -20,7 +22,7 @@ same-length c = search needs
 returns : tie.Need-returns
 returns c =
     let a = c .before .before .before .before .before .before .before .before .before .before .before .args in
-    serve-refused (a .words .now) (a .book .now) (a .list .now) (a .answers .now)
+    serve-refused (a .words .now) (a .book .now) (a .width) (a .list .now) (a .answers .now)
     (ap₂ answered (sym (c .before .laid .given .1)) refl ∙ c .before .before .before .before .before .lay .ensures)
 
 enum-told : tie.Need-enum-told
@@ -34,17 +36,18 @@ answerable-in-requires c κs = search needs
 
 answer-all-requires : tie.Need-answer-all-requires
 answer-all-requires c κs =
-    let a = c .before .before .before .before .before .before .before .before .before .before .before .before .before .before .args in
+    let s = c .before .before .before .before .before .before .before .before .before .before .before .before .before .before in
+    let a = s .args in
     let n = c .before .before .answerable-in .ensures in (
       rw (c .before .before .before .settings .ensures)
           (serve-laid (a .words .now) (a .book .now) _ _
           (ap₂ answered (sym (c .before .before .before .before .enum-told .given .1)) refl
           ∙ c .before .before .before .before .before .before .before .before .lay .ensures)),
-      (omega (arith, n), omega (arith, n)),
+      (s .pre, (list-fits (s .pre) (length (a .answers .now)) n, omega (arith, n))),
     )
 
-cast-t19 : tie.Need-cast-t19
-cast-t19 c = search needs
+cast-t20 : tie.Need-cast-t20
+cast-t20 c = search needs
 
 same-length-2 : tie.Need-same-length-2
 same-length-2 c = search needs
@@ -56,13 +59,13 @@ returns-2 : tie.Need-returns-2
 returns-2 c =
     let s = c .before .before .before .before .before .before .before .before .before .before in
     let a = s .before .before .before .before .before .before .before .before .before .args in
-    serve-done (a .words .now) (a .book .now) (a .list .now) (a .answers .now)
+    serve-done (a .words .now) (a .book .now) (a .width) (a .list .now) (a .answers .now)
     (ap₂ answered (sym (c .before .before .before .before .before .before .before .before .before .enum-told .given .1)) refl
     ∙ c .before .before .before .before .before .before .before .before .before .before .before .before .before .lay .ensures)
     (c .before .before .before .before .before .before .before .answerable-in .ensures) (c .before .before .before .before .answer-all .ensures)
 
-pub serve-spec : {M : Type 1} → statement M
-serve-spec =
+pub serve-list-spec : {M : Type 1} → statement M
+serve-list-spec =
     tie.close
     (tie.spec
     lay-requires
@@ -73,7 +76,7 @@ serve-spec =
     settings-requires
     answerable-in-requires
     answer-all-requires
-    cast-t19
+    cast-t20
     same-length-2
     same-length-3
     returns-2)
