@@ -1,3 +1,3 @@
-pub mod Values
 pub mod Framing
+pub mod Values
 pub mod Looking

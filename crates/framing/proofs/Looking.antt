@@ -3,6 +3,7 @@
 use Prim.Native.Nat.{ℕ, suc, _-_, _≤_, _<_}
 use native.Mathlib.Omega.{arith}
 use mathlib.Core.Path.{_≡_, refl, sym, _∙_, ap}
+use mathlib.Core.Logic.{_⊎_, inl, inr}
 use mathlib.Core.Bool.{true, false, _&&_}
 use mathlib.Core.List.{List, [], _∷_}
 use lib.Dec.{ltb, eqb}
@@ -12,9 +13,9 @@ use borrow.Author.Tests.{ltb-true, lt-ltb, le-ltb, eqb-true, eq-eqb, ne-eqb}
 use Rattle.model.specs.Lines.{isFrame}
 use Rattle.model.proofs.Search.{and-left, and-right, both}
 use Rattle.text.specs.Digits.{isDigit, digitsOnly}
-use Rattle.framing.specs.Frame.{requestDigits, LineEnd, digitsAhead}
+use Rattle.framing.specs.Frame.{requestDigits, orderDigits, LineEnd, digitsAhead}
 use Rattle.framing.specs.Front.{Free, Leads, FrameAhead}
-use Rattle.framing.proofs.Framing.{is-frame, no-frame, frame-length, frame-digits}
+use Rattle.framing.proofs.Framing.{FrameLength, is-frame, no-frame, frame-length, frame-digits}
 
 -- digits are not byte 10
 pub free-digits : (l : List ℕ) → digitsOnly l ≡ true → Free l
@@ -57,23 +58,36 @@ module _ (l : List ℕ) (n : ℕ) where
       )
 
 module _ (l : List ℕ) where
-  -- a frame of the length that frames have, and no frame
-  pub ahead-frame : digitsAhead l requestDigits ≡ true → FrameAhead l requestDigits
-  ahead-frame h =
-      let p = ahead-leads l requestDigits h in
-      let e = length-take-le requestDigits l (omega (arith, p .0 .inside)) in
-      record { some = λ z. (p .0, is-frame (take requestDigits l) (p .1) e); none = λ z. absurd (omega arith) }
-
-  pub ahead-none : digitsAhead l requestDigits ≡ false → FrameAhead l 0
-  ahead-none h = record { some = λ z. absurd (omega arith); none = λ z k e. no-frame (take k l) (bad k e) }
+  -- a frame of one of the two lengths that frames have, and no frame
+  ahead-length : (n : ℕ) → (n ≡ requestDigits) ⊎ (n ≡ orderDigits) → digitsAhead l n ≡ true → FrameAhead l n
+  ahead-length n q h =
+      let p = ahead-leads l n h in
+      let e = length-take-le n l (omega (arith, p .0 .inside)) in
+      record { some = λ z. (p .0, is-frame (take n l) (p .1) (rw e q)); none = λ z. absurd (above q z) }
     where
-      bad : (k : ℕ) → Leads l k → isFrame (take k l) ≡ true → ⊥
-      bad k e f =
-          let i = e .inside in
-          let m : k ≡ requestDigits = sym (length-take-le k l (omega arith)) ∙ frame-length (take k l) f in
-          let t : getD l requestDigits 0 ≡ 10 = ap (λ (j : ℕ). getD l j 0) (sym m) ∙ e .ends in
-          let d : digitsOnly (take requestDigits l) ≡ true = rw m at (frame-digits (take k l) f) in
-          both (ahead-by l requestDigits (omega arith) t ∙ d) h
+      above : (n ≡ requestDigits) ⊎ (n ≡ orderDigits) → n ≡ 0 → ⊥
+      above (inl a) z = omega arith
+      above (inr a) z = omega arith
+
+  pub ahead-request : digitsAhead l requestDigits ≡ true → FrameAhead l requestDigits
+  ahead-request h = ahead-length requestDigits (inl refl) h
+
+  pub ahead-order : digitsAhead l orderDigits ≡ true → FrameAhead l orderDigits
+  ahead-order h = ahead-length orderDigits (inr refl) h
+
+  no-length : (n k : ℕ) → digitsAhead l n ≡ false → Leads l k → isFrame (take k l) ≡ true → k ≡ n → ⊥
+  no-length n k h e f m =
+      let i = e .inside in
+      let t : getD l n 0 ≡ 10 = ap (λ (j : ℕ). getD l j 0) (sym m) ∙ e .ends in
+      let d : digitsOnly (take n l) ≡ true = rw m at (frame-digits (take k l) f) in
+      both (ahead-by l n (omega arith) t ∙ d) h
+
+  pub ahead-none : digitsAhead l requestDigits ≡ false → digitsAhead l orderDigits ≡ false → FrameAhead l 0
+  ahead-none h g = record { some = λ z. absurd (omega arith); none = λ z k e. no-frame (take k l) (λ f. bad k e f (frame-length (take k l) f)) }
+    where
+      bad : (k : ℕ) → Leads l k → isFrame (take k l) ≡ true → FrameLength (take k l) → ⊥
+      bad k e f (inl m) = no-length requestDigits k h e f (sym (length-take-le k l (omega (arith, e .inside))) ∙ m)
+      bad k e f (inr m) = no-length orderDigits k g e f (sym (length-take-le k l (omega (arith, e .inside))) ∙ m)
 
   -- a line that is found by its byte 10
   pub line-free : (n : ℕ) → LineEnd l n → Free (take n l)

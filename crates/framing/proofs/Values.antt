@@ -1,18 +1,22 @@
--- The digits of a frame taken together: the word of eight values is the one that the digits show.
+-- The digits of a frame taken together: the word of eight values is the one that the digits show, and a frame's values make its call.
 -- Assumes nothing.
-use Prim.Native.Nat.{ℕ, _+_, _-_, _*_, _%_, _≤_, _<_}
+use Prim.Native.Nat.{ℕ, _+_, _-_, _*_, _/_, _%_, _≤_, _<_}
 use native.Mathlib.Nat.{add-zero, mod-eq-of-lt, eq-or-lt-of-le}
 use native.Mathlib.Omega.{arith}
 use mathlib.Core.Path.{_≡_, refl, sym, _∙_, ap, ap₂}
 use mathlib.Core.Logic.{_⊎_, inl, inr}
 use mathlib.Core.Bool.{true}
 use mathlib.Core.List.{List}
-use lib.ListN.{length, take, drop, getD, set}
+use lib.ListN.{length, take, drop, getD, set, List·getD-eq-default}
 use lib.Seq.{getD-set-same, getD-set-other}
+use Rattle.model.specs.Messages.{requestLength, requestOf}
+use Rattle.model.specs.Machine.{ordered, callOf}
 use Rattle.model.specs.Text.{shownFrom, shown}
+use Rattle.model.specs.Lines.{isFrame, lineWords}
 use Rattle.text.specs.Digits.{valueOf, digitsOnly}
 use Rattle.text.proofs.Hexes.{value-is, digit-at, shown-more, shown-none}
-use Rattle.framing.specs.Frame.{Values, wordOf}
+use Rattle.framing.specs.Frame.{requestDigits, frameMost, Values, wordOf, requestIn}
+use Rattle.framing.proofs.Framing.{FrameLength, words-length, word-is, frame-length, frame-digits, frame-between}
 
 -- one value more
 pub values-more : (s d : List ℕ) (i v : ℕ) → i < length d → ((k : ℕ) → k < i → getD d k 0 ≡ valueOf (getD s k 0)) → v ≡ valueOf (getD s i 0)
@@ -22,6 +26,11 @@ values-more s d i v h f e k l = go (eq-or-lt-of-le {n = k} {m = i} (omega arith)
     go : (k ≡ i) ⊎ (k < i) → getD (set d i v) k 0 ≡ valueOf (getD s k 0)
     go (inl q) = rw q (getD-set-same d i v 0 h ∙ e)
     go (inr q) = getD-set-other d i k v 0 (λ r. omega arith) ∙ f k q
+
+-- the values behind it stay
+pub past-more : (d : List ℕ) (i v : ℕ) → ((k : ℕ) → i ≤ k → k < frameMost → getD d k 0 ≡ 0)
+    → (k : ℕ) → i + 1 ≤ k → k < frameMost → getD (set d i v) k 0 ≡ 0
+past-more d i v f k l h = getD-set-other d i k v 0 (λ r. omega arith) ∙ f k (omega arith) h
 
 -- four digits are below 2^16, and eight digits one by one are two such halves
 four-mod : (a b c d : ℕ) → a < 16 → b < 16 → c < 16 → d < 16 → (a * 4096 + b * 256 + c * 16 + d) % 65536 ≡ a * 4096 + b * 256 + c * 16 + d
@@ -74,3 +83,44 @@ module _ (s d : List ℕ) (g : digitsOnly s ≡ true) (v : Values s d) (at : ℕ
       (ap₂ (λ (x y : ℕ). x * 65536 + y) (four-mod _ _ _ _ (e0 .1) (e1 .1) (e2 .1) (e3 .1)) (four-mod _ _ _ _ (e4 .1) (e5 .1) (e6 .1) (e7 .1))
       ∙ eight-is _ _ _ _ _ _ _ _
       ∙ sym eight)
+
+-- the call of a frame, made of its values
+module _ (l d : List ℕ) (f : isFrame l ≡ true) (v : Values l d) where
+  word-line : (k : ℕ) → k < length l / 8 → wordOf d (8 * k) ≡ getD (lineWords l) k 0
+  word-line k h = word-values l d (frame-digits l f) v (8 * k) (omega arith) ∙ word-is l k h
+
+  request-is : requestIn d ≡ requestOf (lineWords l)
+  request-is =
+      let n = frame-between l f .0 in
+      λ j. record {
+        kind = word-line 0 (omega arith) j;
+        a = word-line 1 (omega arith) j;
+        b = word-line 2 (omega arith) j;
+        first = word-line 3 (omega arith) j;
+        last = word-line 4 (omega arith) j;
+        n = word-line 5 (omega arith) j;
+        info = word-line 6 (omega arith) j;
+      }
+
+  -- behind a request alone there are only zeros, and no eighth word
+  word-past : length l ≡ requestDigits → wordOf d requestDigits ≡ 0
+  unfolding wordOf
+  word-past e =
+      let z : (k : ℕ) → requestDigits ≤ k → k < frameMost → getD d k 0 ≡ 0 = λ k h g. v .past k (omega arith) g in
+      simp (
+        z 56 (omega arith) (omega arith),
+        z 57 (omega arith) (omega arith),
+        z 58 (omega arith) (omega arith),
+        z 59 (omega arith) (omega arith),
+        z 60 (omega arith) (omega arith),
+        z 61 (omega arith) (omega arith),
+        z 62 (omega arith) (omega arith),
+        z 63 (omega arith) (omega arith),
+      )
+
+  order-is : FrameLength l → wordOf d requestDigits ≡ getD (lineWords l) requestLength 0
+  order-is (inl e) = word-past e ∙ sym (List·getD-eq-default (lineWords l) 0 (omega (arith, words-length l)))
+  order-is (inr e) = word-line requestLength (omega arith)
+
+  pub call-is : ordered (wordOf d requestDigits) (requestIn d) ≡ callOf (lineWords l)
+  call-is = ap₂ ordered (order-is (frame-length l f)) request-is

@@ -5,7 +5,7 @@ use mathlib.Core.Bool.{true, false}
 use mathlib.Core.Path.{_≡_}
 use mathlib.Core.List.{List, [], _∷_}
 use lib.ListN.{length, take, getD}
-use Rattle.model.specs.Machine.{requestOf}
+use Rattle.model.specs.Machine.{ordered, callOf}
 use Rattle.model.specs.Lines.{isFrame, lineWords}
 use Rattle.framing.specs.declared.line.Next.{Next}
 use Rattle.framing.specs.declared.line.Next.the-variants.{Frame, Other, Partial}
@@ -26,8 +26,8 @@ pub record FrameAhead (l : List ℕ) (n : ℕ) : Type 0 where
   pub some : 0 < n → Leads l n × (isFrame (take n l) ≡ true)
   pub none : n ≡ 0 → (k : ℕ) → Leads l k → isFrame (take k l) ≡ false
 
--- what stands at the front of l
+-- what stands at the front of l; of a frame, the order and the request of its call
 abbrev pub NextOf : List ℕ → Next → Type 0
-NextOf l (Frame n r) = Leads l n × (isFrame (take n l) ≡ true) × (r ≡ requestOf (lineWords (take n l)))
+NextOf l (Frame n o r) = Leads l n × (isFrame (take n l) ≡ true) × (ordered o r ≡ callOf (lineWords (take n l)))
 NextOf l (Other n) = Leads l n × (isFrame (take n l) ≡ false)
 NextOf l Partial = Free l

@@ -1,3 +1,3 @@
-// One line: where it ends, the request of a frame, the words of a settings line, and the line of an answer.
+// One line: where it ends, the call of a frame, the words of a settings line, and the line of an answer.
 pub mod frame;
 pub mod line;

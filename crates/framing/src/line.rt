@@ -1,6 +1,6 @@
 // Lines: what stands at the front of the input, the words of a settings line, and the line of an answer.
+use crate::frame::call_of;
 use crate::frame::frame_ahead;
-use crate::frame::request;
 use model::Answer;
 use model::Request;
 use text::hex::digits_only;
@@ -11,7 +11,7 @@ ghost use mathlib.Core.Path.{_≡_};
 ghost use mathlib.Core.Bool.{true};
 ghost use Prim.Native.Nat.{_+_, _*_, _/_, _<_, _≤_};
 ghost use lib.ListN.{length, take};
-ghost use Rattle.model.specs.Machine.{answerWords};
+ghost use Rattle.model.specs.Messages.{answerWords};
 ghost use Rattle.model.specs.Text.{hexadecimal};
 ghost use Rattle.model.specs.Lines.{wholeWords, lineWords, answerLine, answerDigits, answerBytes};
 ghost use Rattle.text.specs.Digits.{digitsOnly};
@@ -38,9 +38,14 @@ pub fn line_end(s: &[u8]) -> usize
     i
 }
 
-// What stands at the front of the input: a frame line of some length, another line of some length, or a line that is not over.
+// What stands at the front of the input: a frame line of some length, with its call; another line of some length; or a line that is not
+// over.
 pub enum Next {
-    Frame { len: usize, request: Request },
+    Frame {
+        len: usize,
+        order: u32,
+        request: Request,
+    },
     Other(usize),
     Partial,
 }
@@ -51,9 +56,12 @@ pub fn look(s: &[u8]) -> Next
 {
     let len = frame_ahead(s);
     if len > 0 {
+        let call = call_of(&s[..len]);
+        let request = call.request;
         return Next::Frame {
             len,
-            request: request(&s[..len]),
+            order: call.order,
+            request,
         };
     }
     let n = line_end(s);

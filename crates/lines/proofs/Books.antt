@@ -4,19 +4,20 @@ use Prim.Native.Nat.{ℕ, _+_, _-_}
 use mathlib.Core.Path.{_≡_, refl, sym, _∙_, ap, subst}
 use mathlib.Core.Bool.{Bool, true, false}
 use mathlib.Core.List.{List}
-use lib.ListN.{take}
+use lib.ListN.{take, getD}
 use Rattle.model.specs.declared.Settings.{Settings}
 use Rattle.model.specs.declared.Request.{Request}
 use Rattle.model.specs.declared.Answer.{Answer}
 use Rattle.model.specs.declared.Answer.the-variants.{Refused}
 use Rattle.model.specs.Site.{validSettings}
-use Rattle.model.specs.Machine.{request, told, perform, requestOf}
+use Rattle.model.specs.Messages.{requestLength, requestOf}
+use Rattle.model.specs.Tail.{keptAt}
+use Rattle.model.specs.Machine.{Call, ordered, callOf, told, perform}
 use Rattle.model.specs.Reading.{settingsOf, stateOf, readState}
 use Rattle.model.specs.Ledger.{Ledger, emptyLedger, bookWords, ledgerOf}
 use Rattle.model.specs.Calls.{Called, called, freshBook}
 use Rattle.model.specs.Lines.{isFrame, lineWords, lineOutcome}
 use Rattle.model.proofs.Ledger.{LedgerSound, diary-settings, ledger-sound, words-ledgerOf, ledgerOf-words}
-use Rattle.model.proofs.Frame.{step-settings}
 use Rattle.model.proofs.Calls.{perform-sound, empty-ledger, fresh-words}
 use native.Mathlib.Omega.{arith}
 use Rattle.framing.specs.Front.{Free, NextOf}
@@ -25,9 +26,10 @@ use Rattle.framing.specs.declared.line.Next.{Next}
 use Rattle.framing.specs.declared.line.Next.the-variants.{Frame, Other}
 use Rattle.book.specs.Good.{GoodBook, answered}
 use Rattle.book.proofs.Goods.{book-words}
+use Rattle.step.proofs.Kept.{order-settings}
 
 -- what a line gives
-pub outcome-yes : (x : Ledger) (l : List ℕ) → isFrame l ≡ true → lineOutcome x l ≡ perform x (request (requestOf (lineWords l)))
+pub outcome-yes : (x : Ledger) (l : List ℕ) → isFrame l ≡ true → lineOutcome x l ≡ perform x (callOf (lineWords l))
 unfolding lineOutcome
 outcome-yes x l h = simp h
 
@@ -38,7 +40,9 @@ outcome-no x l h = simp h
 line-sound : (x : Ledger) (l : List ℕ) (t : Bool) → isFrame l ≡ t → LedgerSound x
     → LedgerSound (lineOutcome x l .ledger) × (lineOutcome x l .ledger .diary .settings ≡ x .diary .settings)
 line-sound x l true h s =
-    rw (outcome-yes x l h) (perform-sound x s (request (requestOf (lineWords l))), step-settings (x .diary) (requestOf (lineWords l)))
+    let w = lineWords l in
+    let n = getD w requestLength 0 in
+    rw (outcome-yes x l h) (perform-sound x s (callOf w), order-settings x n (requestOf w) (keptAt (x .tail) n))
 line-sound x l false h s = rw (outcome-no x l h) (s, refl)
 
 ledger-settings : (b : List ℕ) → ledgerOf b .diary .settings ≡ settingsOf b
@@ -69,17 +73,17 @@ pub next-is : (l : List ℕ) {m n : Next} → NextOf l m → m ≡ n → NextOf 
 next-is l q e = subst (λ (k : Next). NextOf l k) e q
 
 module _ {S : Settings} {b : List ℕ} (l : List ℕ) (h : GoodBook S b) where
-  pub taken-frame : {a : Answer} {b′ : List ℕ} {r : Request} (n : ℕ) → NextOf l (Frame n r)
-      → answered a b′ ≡ called (perform (ledgerOf b) (request r))
+  pub taken-frame : {a : Answer} {b′ : List ℕ} {o : ℕ} {r : Request} (n : ℕ) → NextOf l (Frame n o r)
+      → answered a b′ ≡ called (perform (ledgerOf b) (ordered o r))
       → TakenOf l b (record { used = n + 1; answer = a }) b′
-  taken-frame {a} {b′} {r} n q e =
+  taken-frame {a} {b′} {o} {r} n q e =
       let i : n + 1 - 1 ≡ n = omega arith in
       record {
         none = λ z. absurd (omega arith);
         some = λ z.
             rw i (
               q .0,
-              e ∙ ap called (sym (outcome-yes (ledgerOf b) (take n l) (q .1) ∙ ap (λ (p : Request). perform (ledgerOf b) (request p)) (sym (q .2)))),
+              e ∙ ap (λ (c : Call). called (perform (ledgerOf b) c)) (q .2) ∙ sym (ap called (outcome-yes (ledgerOf b) (take n l) (q .1))),
             );
       }
 

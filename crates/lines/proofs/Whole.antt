@@ -23,7 +23,7 @@ use Rattle.model.specs.Calls.{settingsGood}
 use Rattle.model.specs.declared.Answer.the-variants.{Refused}
 use Rattle.model.specs.Text.{digitValue}
 use Rattle.model.specs.Lines.{wholeWords, lineWords, linesOf, answerLine, replyLine, lineOutcome, answerLines, programWords, output, frames}
-use Rattle.framing.proofs.Framing.{words-length, not-so, frame-most, no-frame}
+use Rattle.framing.proofs.Framing.{words-length, not-so, frame-between, no-frame}
 use Rattle.lines.proofs.Keeping.{kept-append}
 use Rattle.framing.specs.Front.{Free}
 use Rattle.lines.specs.Stream.{heldMost, kept, Point, opening, later, over, Turn, silent, behind, opened, told}
@@ -76,7 +76,7 @@ module _ (l : List ℕ) where
   outcome-kept x =
       ⊎-elim (λ e. ap (lineOutcome x) e)
       (λ h.
-      simp (no-frame (kept l) (λ e. omega (arith, frame-most (kept l) e)), no-frame l (λ e. omega (arith, frame-most l e))))
+      simp (no-frame (kept l) (λ e. omega (arith, frame-between (kept l) e .1)), no-frame l (λ e. omega (arith, frame-between l e .1))))
       same-or-long
 
   pub opened-kept : opened (kept l) ≡ opened l

@@ -107,9 +107,13 @@ fn take_line(book: &mut [u32], s: Settings, diary: usize, chunk: &[u8]) -> Taken
     ensures { λ r. ⌜ TakenOf (now (chunk .entry)) (now (book .entry)) r (now (book .exit)) ⌝ }
 {
     match look(chunk) {
-        Next::Frame { len, request } => Taken {
+        Next::Frame {
+            len,
+            order,
+            request,
+        } => Taken {
             used: len + 1,
-            answer: book_step(book, s, diary, request),
+            answer: book_step(book, s, diary, order, request),
         },
         Next::Other(n) => Taken {
             used: n + 1,

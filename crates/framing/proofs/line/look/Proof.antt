@@ -15,19 +15,19 @@ use Rattle.framing.proofs.line.look.Tie as tie
 frame-ahead-requires : tie.Need-frame-ahead-requires
 frame-ahead-requires c κs = search needs
 
-ahead : (c : tie.After-request-arg)
+ahead : (c : tie.After-call-of-arg)
     → Leads (c .before .before .before .before .args .s .now) (c .before .before .frame-ahead .result)
     × (isFrame (take (c .before .before .frame-ahead .result) (c .before .before .before .before .args .s .now)) ≡ true)
 ahead c = c .before .before .frame-ahead .ensures .some (c .before .if1 .taken)
 
-slice-aggregate-request : tie.Need-slice-aggregate-request
-slice-aggregate-request c = sym (length-take-le _ _ (omega (arith, ahead c .0 .inside)))
+slice-aggregate-call-of : tie.Need-slice-aggregate-call-of
+slice-aggregate-call-of c = sym (length-take-le _ _ (omega (arith, ahead c .0 .inside)))
 
-request-requires : tie.Need-request-requires
-request-requires c κs = ahead c .1
+call-of-requires : tie.Need-call-of-requires
+call-of-requires c κs = ahead c .1
 
 returns : tie.Need-returns
-returns c = (ahead (c .before) .0, ahead (c .before) .1, c .request .ensures)
+returns c = let d = c .before .before in (ahead d .0, ahead d .1, c .before .call-of .ensures)
 
 line-end-requires : tie.Need-line-end-requires
 line-end-requires c κs = search needs
@@ -47,8 +47,8 @@ look-spec =
     tie.close
     (tie.spec
     frame-ahead-requires
-    slice-aggregate-request
-    request-requires
+    slice-aggregate-call-of
+    call-of-requires
     returns
     line-end-requires
     returns-2

@@ -15,11 +15,12 @@ enum-known-len : tie.Need-enum-known-len
 enum-known-len c = search needs
 
 next-frame : (c : tie.After-known-told)
-    → NextOf (c .before .before .before .before .before .before .args .chunk .now) (Frame (c .before .len .given .0 .0) (c .before .len .given .0 .1 .0))
+    → NextOf (c .before .before .before .before .before .before .args .chunk .now)
+    (Frame (c .before .len .given .0 .0) (c .before .len .given .0 .1 .0) (c .before .len .given .0 .1 .1 .0))
 next-frame c = next-is _ (c .before .before .before .look .ensures) (c .before .len .given .1)
 
-add-t10 : tie.Need-add-t10
-add-t10 c = let n = next-frame c .0 .inside in omega (arith, c .before .before .before .before .before .before .good)
+add-t11 : tie.Need-add-t11
+add-t11 c = let n = next-frame c .0 .inside in omega (arith, c .before .before .before .before .before .before .good)
 
 book-step-requires : tie.Need-book-step-requires
 book-step-requires c κs = search needs
@@ -31,8 +32,8 @@ next-other : (c : tie.After-known-told2)
     → NextOf (c .before .before .before .before .before .before .args .chunk .now) (Other (c .before .n .given .0 .0))
 next-other c = next-is _ (c .before .before .before .look .ensures) (c .before .n .given .1)
 
-add-t14 : tie.Need-add-t14
-add-t14 c = let n = next-other c .0 .inside in omega (arith, c .before .before .before .before .before .before .good)
+add-t15 : tie.Need-add-t15
+add-t15 c = let n = next-other c .0 .inside in omega (arith, c .before .before .before .before .before .before .good)
 
 enum-told : tie.Need-enum-told
 enum-told c = search needs
@@ -57,10 +58,10 @@ take-line-spec =
     (tie.spec
     look-requires
     enum-known-len
-    add-t10
+    add-t11
     book-step-requires
     enum-known-n
-    add-t14
+    add-t15
     enum-told
     same-length
     returns
