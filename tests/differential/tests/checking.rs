@@ -81,13 +81,14 @@ fn pool_edges() {
     rules.assert_each(Rule::breakable().filter(|rule| !is_unused_bits(*rule)), 25);
 }
 
-/// Every limit 1: every book whose words after the settings are 0, 1 or 2.
+/// Every limit 1: every book whose words between the settings and an empty ring are 0, 1 or 2.
 #[test]
 fn smallest_site() {
     let mut numbers = Counts::new();
     for which in 0..3_u32.pow(10) {
         let mut words = vec![1; 10];
         words.extend((0..10).map(|word| which / 3_u32.pow(word) % 3));
+        words.resize(words.len() + caviar::RING_WORDS, 0);
         numbers.add(checked(&words));
     }
     println!("all books of words 0 to 2 of the smallest site, by number {numbers}");

@@ -6,6 +6,7 @@ use caviar::{Guest, Request};
 use differential::guarded::{End, Guarded};
 use differential::{seed, times, Counts};
 use second::book;
+use second::gen::orders;
 use second::gen::pages::{lent, Lent};
 use second::gen::parties;
 use second::gen::{deep_state, junk_book, list, sites, Mix, Rng, Size};
@@ -72,6 +73,34 @@ fn party_call(rng: &mut Rng, end: End, answered: &mut Answered) {
     answered.add(("party", end, answer.number));
 }
 
+/// An order, and lists of them with a remainder of words, on a book and with a laying.
+fn order_calls(rng: &mut Rng, words: &Words, end: End, answered: &mut Answered) {
+    let orders::Lent { book, sent } = orders::lent(rng);
+    let (mut lent, mut theirs) = (Guarded::new(&book, end), book.clone());
+    let answer = caviar::order(lent.words_mut(), sent.order, Request::from_words(sent.request.words()));
+    assert_eq!(answer.words(), book::order(&mut theirs, sent.order, &sent.request).words());
+    assert!(lent.words() == theirs);
+    answered.add(("order", end, if answer.number == 28 { 28 } else { answer.number.min(3) }));
+
+    let mut list: Vec<u32> = words.requests.iter().flat_map(|request| request.words()).collect();
+    list.truncate(list.len() - rng.below(9) as usize);
+    list[7] = sent.order;
+    let list = Guarded::new(&list, end).read_only();
+    let mut answers = Guarded::new(&vec![9; words.answers], end);
+    let mut expected = vec![9; words.answers];
+    let done = caviar::orders_words(lent.words_mut(), list.words(), answers.words_mut());
+    assert_eq!(done.words(), book::orders(&mut theirs, list.words(), &mut expected).words());
+    assert!(lent.words() == theirs && answers.words() == expected);
+    answered.add(("orders", end, done.number));
+
+    let settings = Guarded::new(&words.settings, end).read_only();
+    let (mut lent, mut theirs) = (Guarded::new(&words.book, end), words.book.clone());
+    let done = caviar::serve_orders_words(settings.words(), lent.words_mut(), list.words(), answers.words_mut());
+    assert_eq!(done.words(), book::serve_orders(&words.settings, &mut theirs, list.words(), &mut expected).words());
+    assert!(lent.words() == theirs && answers.words() == expected);
+    answered.add(("serve_orders", end, done.number));
+}
+
 /// One request after the other: a later one finds the book that the earlier ones left.
 fn single_calls(words: &Words, end: End, answered: &mut Answered) {
     let (mut lent, mut theirs) = (Guarded::new(&words.book, end), words.book.clone());
@@ -117,6 +146,7 @@ fn inside_what_is_lent() {
             read_only_calls(&words, end, &mut answered);
             single_calls(&words, end, &mut answered);
             list_calls(&words, end, &mut answered);
+            (0..2).for_each(|_| order_calls(&mut rng, &words, end, &mut answered));
             (0..3).for_each(|_| page_call(&mut rng, end, &mut answered));
             (0..3).for_each(|_| party_call(&mut rng, end, &mut answered));
         }
@@ -129,6 +159,9 @@ fn inside_what_is_lent() {
         ("lay", vec![0, 24, 25]),
         ("requests", vec![0, 1, 2]),
         ("serve", vec![0, 24, 25]),
+        ("order", vec![0, 1, 2, 3, 28]),
+        ("orders", vec![0, 1, 2]),
+        ("serve_orders", vec![0, 24, 25]),
         ("page", vec![0, 1, 2, 7, 26]),
         ("party", vec![0, 1, 2, 27, 5, 6, 7, 9, 10, 11, 13]),
     ];

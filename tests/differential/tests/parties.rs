@@ -62,12 +62,15 @@ fn lists_of_calls_from_fresh() {
         for call in &list {
             let answer = match call {
                 Call::Request(request) => caviar::request(&mut words, Request::from_words(request.words())),
+                Call::Order { order, request } => {
+                    caviar::order(&mut words, *order, Request::from_words(request.words()))
+                }
                 Call::Party { meeting, guests } => caviar::party(&mut words, *meeting, &ours(guests)),
             };
             assert_eq!(answer.words(), perform(&mut machine, call).words(), "{call:?}");
             assert!(words == book::words(&machine), "{call:?}");
             match call {
-                Call::Request(_) => seen.add(("request", answer.number == 0)),
+                Call::Request(_) | Call::Order { .. } => seen.add(("request", answer.number == 0)),
                 Call::Party { .. } => numbers.add(answer.number),
             }
         }

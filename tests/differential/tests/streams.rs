@@ -3,7 +3,8 @@
 
 use differential::{seed, times, Counts};
 use second::frames::{frames, words_line};
-use second::gen::streams::{damage_line, stream_of, DAMAGES};
+use second::gen::orders::{self, Plan, Sent};
+use second::gen::streams::{damage_line, order_line, stream_of, DAMAGES};
 use second::gen::{clean_stream, damaged_stream, Rng};
 use second::machine::Settings;
 use std::io::{ErrorKind, Read, Write};
@@ -46,7 +47,7 @@ fn written(pieces: Vec<Vec<u8>>, pause: Option<Duration>) -> Vec<u8> {
 /// Random pieces: single bytes, pieces about a line long, large ones.
 fn cut(rng: &mut Rng, mut stream: &[u8]) -> Vec<Vec<u8>> {
     let mut pieces = Vec::new();
-    let sizes = rng.pick(&[[1, 2, 3], [7, 56, 57], [58, 100, 300], [4096, 65_536, 70_000]]);
+    let sizes = rng.pick(&[[1, 2, 3], [7, 56, 57], [64, 65, 8], [58, 100, 300], [4096, 65_536, 70_000]]);
     while !stream.is_empty() {
         let size = (rng.pick(&sizes) as usize).min(stream.len());
         pieces.push(stream[..size].to_vec());
@@ -69,7 +70,7 @@ fn streams_in_random_writes() {
         numbers_of(&expected).into_iter().for_each(|number| numbers.add(number));
     }
     println!("seed {}: {streams} streams, {} answer lines, by number {numbers}", seed(30), numbers.total());
-    numbers.assert_each((3..=23).chain([0]), 50);
+    numbers.assert_each((3..=23).chain([0, 28]), 50);
     numbers.assert_each([24, 25], 10);
 }
 
@@ -113,6 +114,26 @@ fn each_damage() {
     refused.assert_each((0..DAMAGES).flat_map(|sort| [(sort, 23), (sort, 24)]), 5);
 }
 
+/// Lines of every length from no digit to some more than 64: those of 56 and 64 are answered, all others refused by 23;
+/// so are those of 64 with a byte that is no digit, at every place.
+#[test]
+fn every_length_of_line() {
+    let mut stream = words_line(&[2, 2, 2, 3, 2, 2, 1, 2, 1, 4]);
+    let query = [&words_line(&[18, 0, 0, 0, 0, 0, 0])[..56], b"0000002a", b"0".repeat(80).as_slice()].concat();
+    for length in 0..=query.len() {
+        stream.extend([&query[..length], b"\n"].concat());
+    }
+    for at in 0..64 {
+        let mut line = query[..64].to_vec();
+        line[at] = b"gA :/`\r\0"[at % 8];
+        stream.extend([&line[..], b"\n"].concat());
+    }
+    let numbers = numbers_of(&written(vec![stream.clone()], None));
+    let expected = (0..=query.len()).map(|length| if length == 56 || length == 64 { 0 } else { 23 });
+    assert!(numbers.iter().copied().eq(expected.chain([23; 64])), "{numbers:?}");
+    assert_eq!(numbers, numbers_of(&frames(&stream)));
+}
+
 /// A long stream of one site, in large writes.
 #[test]
 fn long_stream() {
@@ -146,6 +167,49 @@ fn answers_at_once() {
     }
     drop(to);
     assert!(child.wait().expect("the program").success());
+}
+
+/// A client of the program that sends a line and waits for its answer. A line may get lost, or its answer; it is then sent
+/// again. The answers are those of a client that loses none, and so is what a later line finds.
+#[test]
+fn lost_lines() {
+    let mut rng = Rng::new(seed(34));
+    let mut lost = Counts::new();
+    for _ in 0..times(20) {
+        let settings = second::gen::sites::site_within(&mut rng, second::gen::Size::Small, 16_384);
+        let sent: Vec<Sent> = orders::list_from_fresh(&mut rng, settings.clone(), 150, Plan { first: 1, repeats: 0 })
+            .into_iter()
+            .enumerate()
+            .map(|(at, one)| Sent { order: 7 * at as u32 + 1, ..one })
+            .collect();
+        let first = words_line(&settings.words());
+        let lines: Vec<Vec<u8>> = sent.iter().map(|one| order_line(&mut rng, one)).collect();
+        let expected = frames(&[first.clone(), lines.concat()].concat());
+        let mut child = program();
+        let (mut to, mut from) = (child.stdin.take().expect("a pipe"), child.stdout.take().expect("a pipe"));
+        to.write_all(&first).expect("the settings line");
+        for (line, answer) in lines.iter().zip(expected.chunks(25)) {
+            loop {
+                if rng.percent(5) {
+                    lost.add("line");
+                    continue;
+                }
+                to.write_all(line).expect("a line");
+                let mut got = [0; 25];
+                from.read_exact(&mut got).expect("an answer");
+                if rng.percent(10) {
+                    lost.add("answer");
+                    continue;
+                }
+                assert_eq!(got, answer);
+                break;
+            }
+        }
+        drop(to);
+        assert!(child.wait().expect("the program").success());
+    }
+    println!("seed {}: lost and sent again {lost}", seed(34));
+    lost.assert_each(["line", "answer"], 100);
 }
 
 /// The example of the rules (13.4); no input; a refused settings line with more input behind it; a last line

@@ -3,6 +3,7 @@
 use crate::material::Bytes;
 use crate::reached;
 use second::book;
+use second::gen::orders::{list_words, Sent};
 use second::machine::{Request, Settings, State};
 use second::party::Guest;
 
@@ -14,6 +15,8 @@ const PAGE: usize = 3100;
 const MOST_PAGE: usize = 400;
 const PARTY: usize = 3950;
 const MOST_GUESTS: u8 = 70;
+const ORDER: usize = 2500;
+const AGAIN: usize = 2600;
 
 pub fn run(input: &[u8]) {
     let mut bytes = Bytes(input);
@@ -30,12 +33,16 @@ fn ours(request: &Request) -> caviar::Request {
     caviar::Request::from_words(request.words())
 }
 
-fn requests(bytes: &mut Bytes) -> Vec<Request> {
-    let mut requests = Vec::new();
-    while !bytes.is_empty() && requests.len() < MOST_REQUESTS {
-        requests.push(bytes.request());
+/// Requests, some with orders; one of them may be sent again.
+fn requests(bytes: &mut Bytes) -> Vec<Sent> {
+    let mut sent: Vec<Sent> = Vec::new();
+    while !bytes.is_empty() && sent.len() < MOST_REQUESTS {
+        let order = bytes.order();
+        let again = sent.iter().rfind(|before| before.order == order && order != 0).copied();
+        let again = again.filter(|_| bytes.byte() % 2 == 0);
+        sent.push(again.unwrap_or_else(|| Sent { order, request: bytes.request() }));
     }
-    requests
+    sent
 }
 
 /// Raw words as settings and as a book.
@@ -50,7 +57,7 @@ fn raw(bytes: Bytes) {
     let mut list = words.clone();
     list.truncate(7);
     if let Ok(seven) = list.try_into() {
-        call(&words, &Request::from_words(seven));
+        call(&words, &Sent { order: words[0], request: Request::from_words(seven) });
     }
 }
 
@@ -59,18 +66,29 @@ fn damaged(mut bytes: Bytes) {
     let settings = bytes.settings();
     let changes = 1 + bytes.byte() % 3;
     let changes: Vec<(u32, u32)> = (0..changes).map(|_| (bytes.word(), bytes.word())).collect();
-    let last = bytes.request();
+    let last = Sent { order: bytes.order(), request: bytes.request() };
     let (date, length) = (bytes.word(), bytes.word() as usize % MOST_PAGE);
     let (meeting, guests) = guests(&mut bytes);
     let mut words = run_list(&settings, &requests(&mut bytes));
     for (at, value) in changes {
-        let at = at as usize % words.len();
+        let at = place(&words, at);
         words[at] = value;
     }
     check(&words);
     call(&words, &last);
     page(&words, date, length);
     party(&words, meeting, &guests);
+}
+
+/// A word to change: of the ring for an odd number, else of what stands before it.
+fn place(words: &[u32], number: u32) -> usize {
+    let before = words.len() - book::RING_WORDS;
+    let half = number as usize / 2;
+    if number % 2 == 1 {
+        before + half % book::RING_WORDS
+    } else {
+        half % before
+    }
 }
 
 fn check(words: &[u32]) {
@@ -84,13 +102,18 @@ fn check(words: &[u32]) {
     }
 }
 
-/// One request on any words: answer and book, and a refusal keeps the book.
-fn call(before: &[u32], request: &Request) {
+/// One request on any words, without and with its order: answer and book, and a refusal of the one keeps the book.
+fn call(before: &[u32], sent: &Sent) {
     let (mut words, mut theirs) = (before.to_vec(), before.to_vec());
-    let answer = caviar::request(&mut words, ours(request));
-    assert_eq!(answer.words(), book::request(&mut theirs, request).words());
+    let answer = caviar::request(&mut words, ours(&sent.request));
+    assert_eq!(answer.words(), book::request(&mut theirs, &sent.request).words());
     assert_eq!(words, theirs);
     assert!(answer.number == 0 || words == before);
+    let (mut words, mut theirs) = (before.to_vec(), before.to_vec());
+    let answer = caviar::order(&mut words, sent.order, ours(&sent.request));
+    assert_eq!(answer.words(), book::order(&mut theirs, sent.order, &sent.request).words());
+    assert_eq!(words, theirs);
+    reached(ORDER + answer.number.min(30) as usize);
 }
 
 /// The porter's page of a date on any words, over so many bytes of junk.
@@ -139,22 +162,43 @@ fn list(mut bytes: Bytes) {
 }
 
 /// The book after the list from fresh; served and step by step, beside the machine.
-fn run_list(settings: &Settings, requests: &[Request]) -> Vec<u32> {
+fn run_list(settings: &Settings, sent: &[Sent]) -> Vec<u32> {
     let words = settings.words();
     let mut state = State::empty(settings.clone());
     let mut book = vec![0x5555_5555; caviar::book_len(&words)];
     assert_eq!(caviar::lay(&words, &mut book).words(), [0, 0, 0]);
     let mut served = vec![0xaaaa_aaaa; book.len()];
-    let mut answers = vec![caviar::Answer::default(); requests.len()];
-    let list: Vec<caviar::Request> = requests.iter().map(ours).collect();
-    assert_eq!(caviar::serve(&words, &mut served, &list, &mut answers).words(), [0, 0, list.len() as u32]);
-    for (request, answer) in requests.iter().zip(&answers) {
-        let expected = second::machine::step(&mut state, request);
-        assert_eq!(answer.words(), expected.words(), "{request:?}");
-        assert_eq!(caviar::request(&mut book, ours(request)).words(), expected.words(), "{request:?}");
-        reached(ANSWER + 32 * request.kind.min(21) as usize + answer.number as usize);
+    let mut answers = vec![0; 3 * sent.len()];
+    let done = caviar::serve_orders_words(&words, &mut served, &list_words(sent), &mut answers);
+    assert_eq!(done.words(), [0, 0, sent.len() as u32]);
+    for (one, answer) in sent.iter().zip(answers.chunks_exact(3)) {
+        let again = state.ring.kept(one.order).is_some();
+        let expected = one.perform(&mut state).words();
+        assert_eq!(answer, expected, "{one:?}");
+        assert_eq!(caviar::order(&mut book, one.order, ours(&one.request)).words(), expected, "{one:?}");
+        reached(ANSWER + 32 * one.request.kind.min(21) as usize + answer[0] as usize);
+        reached(AGAIN + 32 * usize::from(again) + answer[0] as usize);
     }
+    assert_eq!(without_orders(settings, sent), book::words(&machine_without_orders(settings, sent)));
     assert_eq!(book, served);
     assert_eq!(book, book::words(&state));
     book
+}
+
+/// The book after the requests alone, through `serve`.
+fn without_orders(settings: &Settings, sent: &[Sent]) -> Vec<u32> {
+    let list: Vec<caviar::Request> = sent.iter().map(|one| ours(&one.request)).collect();
+    let mut book = vec![0x3333_3333; caviar::book_len(&settings.words())];
+    let mut answers = vec![caviar::Answer::default(); list.len()];
+    let done = caviar::serve(&settings.words(), &mut book, &list, &mut answers);
+    assert_eq!(done.words(), [0, 0, list.len() as u32]);
+    book
+}
+
+fn machine_without_orders(settings: &Settings, sent: &[Sent]) -> State {
+    let mut state = State::empty(settings.clone());
+    for one in sent {
+        second::machine::step(&mut state, &one.request);
+    }
+    state
 }

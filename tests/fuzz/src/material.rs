@@ -64,6 +64,15 @@ impl Bytes<'_> {
         Request { kind, a, b, first, last, n, info }
     }
 
+    /// The number of an order: none, one of a few, or any.
+    pub fn order(&mut self) -> u32 {
+        match self.byte() {
+            byte if byte < 80 => 0,
+            byte if byte < 220 => u32::from(byte % 8) + 1,
+            _ => self.word(),
+        }
+    }
+
     pub fn guest(&mut self) -> Guest {
         let [visitor, first, reach] = [(); 3].map(|()| self.word());
         Guest { visitor, first, last: first.wrapping_add(reach) }

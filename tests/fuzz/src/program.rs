@@ -4,6 +4,7 @@
 use crate::material::Bytes;
 use crate::reached;
 use second::frames::{frames, words_line};
+use second::gen::orders::Sent;
 use std::io::{ErrorKind, Read, Write};
 use std::process::{Command, Stdio};
 
@@ -22,13 +23,15 @@ pub fn run(path: &str, input: &[u8]) {
     reached(2100 + expected.len() / 25 % 64);
 }
 
-/// A settings line and frame lines, then some bytes changed.
+/// A settings line and frame lines of both lengths, then some bytes changed.
 fn lines(mut bytes: Bytes) -> Vec<u8> {
     let changes = bytes.byte() % 4;
     let changes: Vec<(u32, u8)> = (0..changes).map(|_| (bytes.word(), bytes.byte())).collect();
     let mut stream = words_line(&bytes.settings().words());
     while !bytes.is_empty() {
-        stream.extend(words_line(&bytes.request().words()));
+        let sent = Sent { order: bytes.order(), request: bytes.request() };
+        let words = sent.words();
+        stream.extend(words_line(if bytes.byte() % 2 == 0 { &words[..7] } else { &words }));
     }
     for (at, byte) in changes {
         let at = at as usize % stream.len();

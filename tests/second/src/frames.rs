@@ -1,7 +1,7 @@
 //! Lines and the program (docs/RULES.md, sections 11 and 12), from input bytes to output bytes.
 
 use crate::book::{length, words};
-use crate::machine::{step, Answer, Request, Settings, State};
+use crate::machine::{order, Answer, Request, Settings, State};
 
 /// The program keeps a book of at most so many words.
 pub const MOST_WORDS: u64 = 16_384;
@@ -61,12 +61,14 @@ impl Desk {
         Ok(Desk { state: State::empty(settings) })
     }
 
-    /// A later line (rule 12.3).
+    /// A later line (rule 12.3): seven words, or eight with the number of an order.
     pub fn answer(&mut self, line: &[u8]) -> Answer {
-        let words = line_words(line).and_then(|words| <[u32; 7]>::try_from(words).ok());
-        match words {
-            Some(words) => step(&mut self.state, &Request::from_words(words)),
-            None => Answer::Refused { number: 23, place: 0 },
+        match line_words(line) {
+            Some(words) if words.len() == 7 || words.len() == 8 => {
+                let (request, number) = Request::with_order(&words);
+                order(&mut self.state, number, &request)
+            }
+            _ => Answer::Refused { number: 23, place: 0 },
         }
     }
 }

@@ -1,9 +1,9 @@
 //! The party (docs/RULES.md, section 17): many guests for one meeting, all of them or none. And calls of
-//! both sorts, requests and parties, as a list has them.
+//! every sort, requests, orders and parties, as a list has them.
 
 use crate::book::calls::open;
 use crate::book::words;
-use crate::machine::{step, Answer, Request, State};
+use crate::machine::{order, step, Answer, Request, State};
 
 /// A party has at most so many guests (rule 5.27).
 pub const MOST_GUESTS: usize = 64;
@@ -65,13 +65,15 @@ pub fn party(book: &mut [u32], meeting: u32, guests: &[Guest]) -> Answer {
 #[derive(Clone, Debug, PartialEq, Eq)]
 pub enum Call {
     Request(Request),
+    Order { order: u32, request: Request },
     Party { meeting: u32, guests: Vec<Guest> },
 }
 
-/// The machine's answer to a call of either sort.
+/// The machine's answer to a call of any sort.
 pub fn perform(state: &mut State, call: &Call) -> Answer {
     match call {
         Call::Request(request) => step(state, request),
+        Call::Order { order: number, request } => order(state, *number, request),
         Call::Party { meeting, guests } => admit(state, *meeting, guests),
     }
 }

@@ -139,6 +139,7 @@ fn a_list_of_calls_on_words() {
         for call in calls(&mut rng, &mut state, 25) {
             let on_words = match &call {
                 Call::Request(request) => book::request(&mut book, request),
+                Call::Order { order, request } => book::order(&mut book, *order, request),
                 Call::Party { meeting, guests } => party(&mut book, *meeting, guests),
             };
             assert_eq!(on_words, perform(&mut replayed, &call), "{call:?}");

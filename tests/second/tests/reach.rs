@@ -6,6 +6,7 @@ use second::frames::{frames, lines};
 use second::gen::cases::{self, Case};
 use second::gen::conflicts::{conflicts_of, edges, CONFLICTS};
 use second::gen::endings::Ending;
+use second::gen::orders::{self, Sent};
 use second::gen::pages::{Lent, Sort};
 use second::gen::parties;
 use second::gen::requests::opening;
@@ -178,11 +179,11 @@ fn streams_reach_23_to_25() {
 }
 
 /// The single cases for the specification check: 0 to 2, 24 and 25 occur, each question of a page, parties of
-/// 64 and 65, and every input is short.
+/// 64 and 65, orders and lists of both lengths, and every input is short.
 #[test]
 fn cases_hold_every_sort() {
     let (mut numbers, mut rules, mut pages) = (BTreeMap::new(), BTreeMap::new(), BTreeMap::new());
-    let mut admitted = BTreeMap::new();
+    let (mut admitted, mut ordered, mut listed) = (BTreeMap::new(), BTreeMap::new(), BTreeMap::new());
     let all = cases::cases(SEED + 5);
     for case in &all {
         match case {
@@ -197,6 +198,8 @@ fn cases_hold_every_sort() {
                 let lent = parties::Lent { book: before.clone(), meeting: *meeting, guests: guests.clone() };
                 parties::Sort::of(&lent, answer.words()).into_iter().for_each(|sort| count(&mut admitted, sort))
             }
+            Case::Order { answer, .. } => count(&mut ordered, answer.number().min(29)),
+            Case::List(case) => count(&mut listed, (case.words_each, case.settings.is_some(), case.answer.number())),
             Case::Input { input, output } => assert_eq!(frames(input), *output),
         }
         let Case::Check { book, .. } = case else { continue };
@@ -210,6 +213,9 @@ fn cases_hold_every_sort() {
     want(&pages, [Sort::OneByteShort, Sort::Exact, Sort::Longer, Sort::Unattended, Sort::SeveralSessions], 2);
     println!("seed {}: parties {admitted:?}", SEED + 5);
     want(&admitted, [parties::Sort::Done(2), parties::Sort::Done(64), parties::Sort::OneTooMany], 1);
+    println!("seed {}: orders by number {ordered:?}, lists {listed:?}", SEED + 5);
+    want(&ordered, [0, 2, 28], 1);
+    want(&listed, [(7, false, 0), (8, false, 0), (7, true, 0), (8, true, 0)], 1);
     want(&rules, Rule::breakable(), 2);
 }
 
@@ -217,7 +223,7 @@ fn cases_hold_every_sort() {
 fn tables_have_enough_steps_of_every_sort() {
     for seed in [1, 2, 3, 20_261_115] {
         let (mut done, mut refused, mut conflicts) = (BTreeMap::new(), BTreeMap::new(), BTreeMap::new());
-        let (mut endings, mut admitted) = (BTreeMap::new(), BTreeMap::new());
+        let (mut endings, mut admitted, mut ordered) = (BTreeMap::new(), BTreeMap::new(), BTreeMap::new());
         let all = tables::tables(seed);
         for table in &all {
             let mut state = State::empty(table.settings.clone());
@@ -232,6 +238,10 @@ fn tables_have_enough_steps_of_every_sort() {
                             Answer::Done(_) => count(&mut done, request.kind),
                             Answer::Refused { number, .. } => count(&mut refused, *number),
                         }
+                    }
+                    Call::Order { order, request } => {
+                        let sorts = orders::Sort::of(&before, &Sent { order: *order, request: *request });
+                        sorts.into_iter().for_each(|sort| count(&mut ordered, sort));
                     }
                     Call::Party { meeting, guests } => {
                         let sorts = parties::Sort::of_party(&before, *meeting, guests, answer.words());
@@ -248,5 +258,6 @@ fn tables_have_enough_steps_of_every_sort() {
         want(&conflicts, CONFLICTS, 1);
         want(&endings, Ending::ALL, 1);
         want(&admitted, tables::parties_wanted(), 1);
+        want(&ordered, tables::orders_wanted(), 1);
     }
 }

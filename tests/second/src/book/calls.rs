@@ -1,9 +1,14 @@
 //! Calls on a raw book, which may hold any words: questions 1 and 2, checking, laying (24, 25),
-//! one request, a list of requests, and laying with a list.
+//! one request, a list of requests, laying with a list, and the same with orders.
 
 use super::laws::broken;
 use super::{length, read, words};
-use crate::machine::{step, Answer, Request, Settings, State};
+use crate::machine::ring::NO_ORDER;
+use crate::machine::{self, Answer, Request, Settings, State};
+
+/// How many words a request takes in a list, and how many with the number of its order.
+pub const REQUEST_WORDS: usize = 7;
+pub const ORDER_WORDS: usize = 8;
 
 fn refused(number: u32) -> Answer {
     Answer::Refused { number, place: 0 }
@@ -50,10 +55,15 @@ pub fn lay(settings_words: &[u32], book: &mut [u32]) -> Answer {
 
 /// One request on a raw book (rule 10.3): questions 1 and 2, then a step from the state shown.
 pub fn request(book: &mut [u32], request: &Request) -> Answer {
+    order(book, NO_ORDER, request)
+}
+
+/// One request with the number of an order on a raw book (rule 10.6).
+pub fn order(book: &mut [u32], order: u32, request: &Request) -> Answer {
     match open(book) {
         Err(refusal) => refusal,
         Ok(mut state) => {
-            let answer = step(&mut state, request);
+            let answer = machine::order(&mut state, order, request);
             book.copy_from_slice(&words(&state));
             answer
         }
@@ -62,10 +72,19 @@ pub fn request(book: &mut [u32], request: &Request) -> Answer {
 
 /// A list of requests in words on a raw book (rule 10.4).
 pub fn requests(book: &mut [u32], list: &[u32], answers: &mut [u32]) -> Answer {
+    answer_all(REQUEST_WORDS, book, list, answers)
+}
+
+/// A list of requests with orders in words on a raw book (rule 10.7).
+pub fn orders(book: &mut [u32], list: &[u32], answers: &mut [u32]) -> Answer {
+    answer_all(ORDER_WORDS, book, list, answers)
+}
+
+fn answer_all(words_each: usize, book: &mut [u32], list: &[u32], answers: &mut [u32]) -> Answer {
     match open(book) {
         Err(refusal) => refusal,
         Ok(mut state) => {
-            let done = answer_list(&mut state, list, answers);
+            let done = answer_list(words_each, &mut state, list, answers);
             book.copy_from_slice(&words(&state));
             Answer::Done(done)
         }
@@ -80,12 +99,20 @@ pub fn serve(settings: &[u32], book: &mut [u32], list: &[u32], answers: &mut [u3
     }
 }
 
-fn answer_list(state: &mut State, list: &[u32], answers: &mut [u32]) -> u32 {
+/// The same with a list of orders (rule 10.8).
+pub fn serve_orders(settings: &[u32], book: &mut [u32], list: &[u32], answers: &mut [u32]) -> Answer {
+    match lay(settings, book) {
+        Answer::Done(_) => orders(book, list, answers),
+        refusal => refusal,
+    }
+}
+
+/// Seven words a request, or eight with the number of its order behind them (rule 18.1).
+fn answer_list(words_each: usize, state: &mut State, list: &[u32], answers: &mut [u32]) -> u32 {
     let mut count = 0;
-    for (asked, answer) in list.chunks_exact(7).zip(answers.chunks_exact_mut(3)) {
-        let mut seven = [0; 7];
-        seven.copy_from_slice(asked);
-        answer.copy_from_slice(&step(state, &Request::from_words(seven)).words());
+    for (asked, answer) in list.chunks_exact(words_each).zip(answers.chunks_exact_mut(3)) {
+        let (request, order) = Request::with_order(asked);
+        answer.copy_from_slice(&machine::order(state, order, &request).words());
         count += 1;
     }
     count

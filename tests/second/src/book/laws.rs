@@ -1,10 +1,10 @@
-//! The laws (docs/RULES.md, section 7), and the names of everything that question 2 asks.
+//! The laws of the sets (docs/RULES.md, section 7), and the names of everything that question 2 asks.
 
 use super::reading::read;
 use crate::machine::{Date, Settings, State};
 use std::collections::BTreeSet;
 
-/// Each cell rule and each law by its own name, so that a test can say which one a book breaks.
+/// Each cell rule, each law of the sets and each clause of the ring's law by its own name, so that a test can say which one a book breaks.
 #[derive(Clone, Copy, Debug, PartialEq, Eq, PartialOrd, Ord)]
 pub enum Rule {
     // Rules 8.8 to 8.12, of single cells.
@@ -35,6 +35,12 @@ pub enum Rule {
     RideGuestHasLeave,
     AttendGuestHasLeave,
     ReservedWithinCapacity,
+    // The law of the ring (rule 18.5): its clauses, the third in two halves.
+    OrdersDiffer,
+    EmptyPlaceZeros,
+    DoneAnswerPlace,
+    RefusedAnswerValue,
+    NextPlaceWithin,
 }
 
 impl Rule {
@@ -70,6 +76,14 @@ impl Rule {
         Rule::ReservedWithinCapacity,
     ];
 
+    pub const OF_RING: [Rule; 5] = [
+        Rule::OrdersDiffer,
+        Rule::EmptyPlaceZeros,
+        Rule::DoneAnswerPlace,
+        Rule::RefusedAnswerValue,
+        Rule::NextPlaceWithin,
+    ];
+
     /// The laws that the layout keeps by itself (rule 8.14): a state of sets can break them, and a
     /// book cannot.
     pub fn kept_by_layout(self) -> bool {
@@ -85,7 +99,7 @@ impl Rule {
 
     /// Every rule that a book can break.
     pub fn breakable() -> impl Iterator<Item = Rule> {
-        let all = Rule::CELL_RULES.into_iter().chain(Rule::LAWS);
+        let all = Rule::CELL_RULES.into_iter().chain(Rule::LAWS).chain(Rule::OF_RING);
         all.filter(|rule| !rule.kept_by_layout())
     }
 }

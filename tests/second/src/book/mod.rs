@@ -1,14 +1,15 @@
-//! The words of the book (docs/RULES.md, section 8): those of a state, and how many a site needs.
+//! The words of the book (docs/RULES.md, section 8 and rule 18.4): those of a state, and how many a site needs.
 
 pub mod calls;
 pub mod laws;
 pub mod reading;
 pub mod regions;
 
-use crate::machine::{Date, Session, Settings, State};
+use crate::machine::ring::PLACES;
+use crate::machine::{Date, Kept, Session, Settings, State};
 use std::collections::BTreeMap;
 
-pub use calls::{book_len, check, lay, request, requests, serve};
+pub use calls::{book_len, check, lay, order, orders, request, requests, serve, serve_orders};
 pub use laws::{broken, laws_broken, Rule};
 pub use reading::{read, shown};
 
@@ -17,9 +18,18 @@ pub fn pool_words(members: u32) -> u32 {
     members.div_ceil(32)
 }
 
-/// The length of a site's book (rule 8.5), region by region.
-pub fn length(settings: &Settings) -> u64 {
+/// How many words a kept order takes, and all of them with the next place (rule 18.4).
+pub const ENTRY_WORDS: usize = 11;
+pub const RING_WORDS: usize = PLACES * ENTRY_WORDS + 1;
+
+/// Where the ring begins: behind the settings and the seven regions.
+pub fn ring_base(settings: &Settings) -> u64 {
     regions::regions(settings).iter().fold(settings.word_count() as u64, |sum, region| sum + region.length())
+}
+
+/// The length of a site's book (rule 8.5).
+pub fn length(settings: &Settings) -> u64 {
+    ring_base(settings) + RING_WORDS as u64
 }
 
 /// The words that show the state (rule 8.13).
@@ -47,6 +57,10 @@ pub fn words(state: &State) -> Vec<u32> {
     for time in 0..s.times() {
         out.extend((0..s.transports).map(|transport| ride_cell(state, time, transport)));
     }
+    for place in &state.ring.places {
+        out.extend(entry_words(place));
+    }
+    out.push(state.ring.next as u32);
     out
 }
 
@@ -85,6 +99,17 @@ fn attend_cells(state: &State, session: Session) -> Vec<u32> {
     let meeting_of: BTreeMap<u32, u32> = entries.map(|(_, meeting, visitor)| (*visitor, *meeting)).collect();
     let cell = |visitor| meeting_of.get(&visitor).map_or(0, |meeting| meeting + 1);
     (0..state.settings.visitors).map(cell).collect()
+}
+
+/// A place of the ring (rule 18.4): order number, request, answer; zeros where no order is kept.
+fn entry_words(place: &Option<Kept>) -> [u32; ENTRY_WORDS] {
+    let mut words = [0; ENTRY_WORDS];
+    if let Some(kept) = place {
+        words[0] = kept.order;
+        words[1..8].copy_from_slice(&kept.request.words());
+        words[8..].copy_from_slice(&kept.answer.words());
+    }
+    words
 }
 
 /// A conf cell (rules 8.6 and 8.7): one more than the meeting, information.

@@ -1,12 +1,13 @@
-//! The state that a book shows, read word by word in the book's order, and the cell rules.
+//! The state that a book shows, read word by word in the book's order, the cell rules, and the law of the ring.
 
 use super::laws::Rule;
-use super::{pool_words, words};
-use crate::machine::{Date, Session, Settings, State, Time};
+use super::{pool_words, words, ENTRY_WORDS};
+use crate::machine::ring::PLACES;
+use crate::machine::{Answer, Date, Kept, Request, Session, Settings, State, Time};
 use std::collections::BTreeSet;
 
-/// The sets that the well-formed cells of a book give, and the cell rules that other cells break.
-/// A cell that breaks a rule gives no entry.
+/// The sets that the well-formed cells of a book give, with the orders of the well-formed places of its ring, and
+/// the rules that other cells and places break. These give no entry and no order.
 pub struct Reading {
     pub state: State,
     pub broken: BTreeSet<Rule>,
@@ -37,6 +38,7 @@ pub fn read(settings: Settings, book: &[u32]) -> Reading {
     reader.conf(&settings);
     reader.lunch(&settings);
     reader.ride(&settings);
+    reader.ring();
     reader.reading
 }
 
@@ -166,5 +168,39 @@ impl Reader<'_> {
                 self.reading.state.ride.extend(cell.map(|visitor| (time, transport, visitor)));
             }
         }
+    }
+
+    /// The four clauses of rule 18.5.
+    fn ring(&mut self) {
+        for place in 0..PLACES {
+            let words: [u32; ENTRY_WORDS] = std::array::from_fn(|_| self.next());
+            self.reading.state.ring.places[place] = self.kept(words);
+        }
+        match self.next() as usize {
+            next if next < PLACES => self.reading.state.ring.next = next,
+            _ => self.breaks(Rule::NextPlaceWithin),
+        }
+    }
+
+    fn kept(&mut self, words: [u32; ENTRY_WORDS]) -> Option<Kept> {
+        let [order, kind, a, b, first, last, n, info, number, place, value] = words;
+        if order == 0 && words != [0; ENTRY_WORDS] {
+            self.breaks(Rule::EmptyPlaceZeros);
+        }
+        if number == 0 && place != 0 {
+            self.breaks(Rule::DoneAnswerPlace);
+        }
+        if number != 0 && value != 0 {
+            self.breaks(Rule::RefusedAnswerValue);
+        }
+        if order == 0 {
+            return None;
+        }
+        if self.reading.state.ring.kept(order).is_some() {
+            self.breaks(Rule::OrdersDiffer);
+            return None;
+        }
+        let request = Request { kind, a, b, first, last, n, info };
+        Answer::from_words([number, place, value]).map(|answer| Kept { order, request, answer })
     }
 }

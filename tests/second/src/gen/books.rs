@@ -4,7 +4,8 @@ use super::requests::deep_state;
 use super::rng::Rng;
 use super::sites::{bad_settings, site, Size};
 use crate::book::regions::{address, Name};
-use crate::book::{length, pool_words, words, Rule};
+use crate::book::{length, pool_words, ring_base, words, Rule, ENTRY_WORDS, RING_WORDS};
+use crate::machine::ring::PLACES;
 use crate::machine::site::{GREATEST, LIMITS};
 use crate::machine::{Date, Session, Settings, State, Time};
 
@@ -13,6 +14,8 @@ use crate::machine::{Date, Session, Settings, State, Time};
 pub fn damaged(rng: &mut Rng, state: &State, rule: Rule) -> Option<Vec<u32>> {
     if Rule::CELL_RULES.contains(&rule) {
         break_cell(rng, state, rule)
+    } else if Rule::OF_RING.contains(&rule) {
+        Some(break_ring(rng, state, rule))
     } else {
         let mut state = state.clone();
         break_law(rng, &mut state, rule)?;
@@ -90,6 +93,48 @@ fn break_beside(rng: &mut Rng, state: &State, book: &mut [u32], rule: Rule) {
             book[lunch..lunch + 2].copy_from_slice(&[room + 1, seats]);
         }
     }
+}
+
+/// The law of the ring is broken in the words of one place, of two, or of the next place.
+fn break_ring(rng: &mut Rng, state: &State, rule: Rule) -> Vec<u32> {
+    let mut book = words(state);
+    let base = ring_base(&state.settings) as usize;
+    let place = rng.below(PLACES as u32) as usize;
+    let other = (place + rng.between(1, PLACES as u32 - 1) as usize) % PLACES;
+    let ring = &mut book[base..];
+    let entry = place * ENTRY_WORDS;
+    match rule {
+        Rule::OrdersDiffer => {
+            number_anew(rng, ring, place);
+            let order = ring[entry];
+            ring[other * ENTRY_WORDS] = order;
+        }
+        Rule::EmptyPlaceZeros => {
+            ring[entry..entry + ENTRY_WORDS].fill(0);
+            // Of the answer the number or the value alone: a place without a number would break another clause too.
+            let at = rng.pick(&[1, 2, 3, 4, 5, 6, 7, 8, 10]);
+            ring[entry + at] = not_zero(rng);
+        }
+        Rule::DoneAnswerPlace => {
+            number_anew(rng, ring, place);
+            (ring[entry + 8], ring[entry + 9]) = (0, not_zero(rng));
+        }
+        Rule::RefusedAnswerValue => {
+            number_anew(rng, ring, place);
+            (ring[entry + 8], ring[entry + 10]) = (not_zero(rng), not_zero(rng));
+        }
+        _ => ring[RING_WORDS - 1] = past(rng, PLACES as u32 - 1),
+    }
+    book
+}
+
+/// Gives an entry a number that no other has.
+fn number_anew(rng: &mut Rng, ring: &mut [u32], place: usize) {
+    let taken: Vec<u32> = (0..PLACES).map(|at| ring[at * ENTRY_WORDS]).collect();
+    let numbers = [1, 2, 64, 705, 0x8000_0000, u32::MAX, rng.word(), rng.word()];
+    let start = rng.below(8) as usize;
+    let free = (0..8).map(|at| numbers[(start + at) % 8]).find(|number| *number != 0 && !taken.contains(number));
+    ring[place * ENTRY_WORDS] = free.expect("a number that no order has");
 }
 
 /// Laws are broken in the sets: what is in the way is taken out first, then the entry that breaks
@@ -239,10 +284,12 @@ pub fn junk_book(rng: &mut Rng) -> Vec<u32> {
     book
 }
 
-/// Changes a few words after the limits, each to a near or a junk value.
+/// Changes a few words after the limits, each to a near or a junk value; fewer of them in the ring than it is long.
 pub fn flip_words(rng: &mut Rng, book: &mut [u32]) {
+    let behind = (book.len() - RING_WORDS) as u32;
     for _ in 0..rng.between(1, 3) {
-        let at = rng.between(LIMITS as u32, book.len() as u32 - 1) as usize;
+        let last = if rng.percent(75) { behind } else { book.len() as u32 };
+        let at = rng.between(LIMITS as u32, last - 1) as usize;
         book[at] = match rng.below(4) {
             0 => book[at] ^ (1 << rng.below(32)),
             1 => book[at].wrapping_add(1),

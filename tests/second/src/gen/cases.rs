@@ -1,8 +1,9 @@
 //! Single cases for the specification check, beside the tables of steps: checked books (each rule
-//! broken alone, lawful, junk), calls on raw books, layings, pages of dates, parties, and whole inputs
-//! of the line program.
+//! broken alone, lawful, junk), calls on raw books, layings, pages of dates, parties, orders, lists of
+//! requests and of orders, and whole inputs of the line program.
 
 use super::books::{damaged, junk_book};
+use super::orders::{self, list_words, Plan, Sent};
 use super::pages::busy_state;
 use super::parties::{open_state, party};
 use super::requests::{deep_state, one, Mix};
@@ -10,25 +11,27 @@ use super::sites::{bad_settings, large_settings, site, Size};
 use super::streams::{damage, damage_line, stream_of, DAMAGES};
 use super::tables::{join, party_text};
 use super::Rng;
-use crate::book::{self, length, words, Rule};
+use crate::book::{self, length, words, Rule, RING_WORDS};
 use crate::frames::{frames, words_line};
-use crate::machine::{run, Answer, Date, Request, Settings, State};
+use crate::machine::{run, Answer, Date, Request, Ring, Settings, State};
 use crate::page::{self, LINE_BYTES};
 use crate::party::{self, Guest, MOST_GUESTS};
 use std::collections::BTreeMap;
 
 /// How many of each sort there are: books for each rule that a book can break, then the others.
 const BOOKS_A_RULE: usize = 2;
-const JUNK: usize = 20;
-const CALLS: usize = 30;
+const JUNK: usize = 16;
+const CALLS: usize = 20;
 const LAYINGS: usize = 12;
 const PAGES: usize = 18;
 const PARTIES: usize = 18;
+const ORDERS: usize = 20;
+const LISTS: usize = 12;
 const STREAMS: usize = 8;
 
 /// A prover computes these, so books and inputs stay short.
-const MOST_WORDS: usize = 150;
-const MOST_BYTES: usize = 600;
+const MOST_WORDS: usize = 150 + RING_WORDS;
+const MOST_BYTES: usize = 650;
 const MOST_LINES: usize = 4;
 const FEW_GUESTS: usize = 12;
 
@@ -38,7 +41,21 @@ pub enum Case {
     Lay { settings: Vec<u32>, before: Vec<u32>, answer: Answer, after: Vec<u32> },
     Page { book: Vec<u32>, date: u32, before: Vec<u8>, answer: Answer, after: Vec<u8> },
     Party { before: Vec<u32>, meeting: u32, guests: Vec<Guest>, answer: Answer, after: Vec<u32> },
+    Order { before: Vec<u32>, sent: Sent, answer: Answer, after: Vec<u32> },
+    List(Listed),
     Input { input: Vec<u8>, output: Vec<u8> },
+}
+
+/// A list of calls in words, on a book or with a laying where there are settings; and what it leaves.
+pub struct Listed {
+    pub words_each: usize,
+    pub settings: Option<Vec<u32>>,
+    pub before: Vec<u32>,
+    pub list: Vec<u32>,
+    pub lent: Vec<u32>,
+    pub answer: Answer,
+    pub after: Vec<u32>,
+    pub answers: Vec<u32>,
 }
 
 pub fn cases(seed: u64) -> Vec<Case> {
@@ -50,15 +67,19 @@ pub fn cases(seed: u64) -> Vec<Case> {
     all.extend((0..PAGES).map(|turn| paged(&mut rng, turn % 6)));
     all.extend((0..PARTIES).map(|turn| some_party(&mut rng, turn % 3 == 0)));
     all.extend([MOST_GUESTS, MOST_GUESTS + 1].map(large_party));
+    all.extend((0..ORDERS).map(|_| ordered(&mut rng)));
+    all.extend((0..LISTS).map(|turn| Case::List(listed(&mut rng, turn))));
     all.extend(inputs(&mut rng).into_iter().map(|input| Case::Input { output: frames(&input), input }));
     all
 }
 
+/// A state whose book is short. Most rings are empty: a prover takes its time over a full one.
 fn small_state(rng: &mut Rng) -> State {
     loop {
         let settings = site(rng, Size::Table);
         if length(&settings) <= MOST_WORDS as u64 {
-            return deep_state(rng, settings, 20);
+            let state = deep_state(rng, settings, 20);
+            return if rng.percent(60) { State { ring: Ring::empty(), ..state } } else { state };
         }
     }
 }
@@ -178,6 +199,50 @@ fn large_party(guests: usize) -> Case {
     admitted(words(&state), 0, (0..guests as u32).map(guest).collect())
 }
 
+/// An order of any sort, on a lawful or a damaged book.
+fn ordered(rng: &mut Rng) -> Case {
+    loop {
+        let orders::Lent { book: before, sent } = orders::lent(rng);
+        if before.len() <= MOST_WORDS {
+            let mut after = before.clone();
+            let answer = book::order(&mut after, sent.order, &sent.request);
+            return Case::Order { before, sent, answer, after };
+        }
+    }
+}
+
+/// Lists of seven and of eight words, with a remainder and too little room in turn; on a book, on one that is damaged,
+/// and with a laying, good or refused.
+fn listed(rng: &mut Rng, turn: usize) -> Listed {
+    let state = small_state(rng);
+    let sent = orders::list(rng, &mut state.clone(), 4, Plan { first: 1, repeats: 50 });
+    let (words_each, mut list) = match turn % 2 {
+        0 => (8, list_words(&sent)),
+        _ => (7, sent.iter().flat_map(|sent| sent.request.words()).collect()),
+    };
+    list.extend((0..rng.below(words_each as u32)).map(|_| rng.word()));
+    let lent: Vec<u32> = (0..rng.between(8, 14)).map(|_| rng.word()).collect();
+    let laying = turn % 4 >= 2;
+    let settings = match turn % 6 {
+        3 => Some(bad_settings(rng)),
+        _ => Some(state.settings.words()),
+    };
+    let settings = settings.filter(|_| laying);
+    let rule = rng.pick(&Rule::OF_RING);
+    let before = match (laying, turn % 3) {
+        (false, 1) => damaged(rng, &state, rule).expect("a ring can break each clause"),
+        _ => words(&state),
+    };
+    let (mut after, mut answers) = (before.clone(), lent.clone());
+    let answer = match (&settings, words_each) {
+        (None, 8) => book::orders(&mut after, &list, &mut answers),
+        (None, _) => book::requests(&mut after, &list, &mut answers),
+        (Some(settings), 8) => book::serve_orders(settings, &mut after, &list, &mut answers),
+        (Some(settings), _) => book::serve(settings, &mut after, &list, &mut answers),
+    };
+    Listed { words_each, settings, before, list, lent, answer, after, answers }
+}
+
 /// No input, an empty line, settings of both refusals, each sort of damage to a line, and streams.
 fn inputs(rng: &mut Rng) -> Vec<Vec<u8>> {
     let mut all = vec![Vec::new(), vec![10]];
@@ -215,6 +280,14 @@ fn short_stream(rng: &mut Rng) -> Vec<u8> {
     }
 }
 
+fn list_text(case: &Listed) -> String {
+    let settings = case.settings.as_ref().map_or(String::new(), |words| format!("{} : ", join(words)));
+    let asked = format!("{} : {settings}{} : {}", case.words_each, join(&case.before), join(&case.list));
+    let given = format!("{} : {} : {}", join(&case.answer.words()), join(&case.after), join(&case.answers));
+    let sort = if case.settings.is_some() { "serve" } else { "list" };
+    format!("{sort} {asked} : {} -> {given}\n", join(&case.lent))
+}
+
 /// The cases as plain text, one line each; `->` comes before what is answered, `:` between lists.
 pub fn text(cases: &[Case]) -> String {
     let mut out = String::new();
@@ -237,6 +310,11 @@ pub fn text(cases: &[Case]) -> String {
                 let asked = format!("{} : {}", join(before), party_text(*meeting, guests));
                 format!("party {asked} -> {} : {}\n", join(&answer.words()), join(after))
             }
+            Case::Order { before, sent, answer, after } => {
+                let asked = format!("{} : {}", join(before), join(&sent.words()));
+                format!("order {asked} -> {} : {}\n", join(&answer.words()), join(after))
+            }
+            Case::List(case) => list_text(case),
             Case::Input { input, output } => format!("input {} -> {}\n", join(input), join(output)),
         };
     }

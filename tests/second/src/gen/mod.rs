@@ -1,10 +1,11 @@
 //! Seeded test material: settings, request lists, damaged books, damaged byte streams, calls for a
-//! page, parties. The same seed gives the same material on every machine.
+//! page, parties, orders. The same seed gives the same material on every machine.
 
 pub mod books;
 pub mod cases;
 pub mod conflicts;
 pub mod endings;
+pub mod orders;
 pub mod pages;
 pub mod parties;
 pub mod requests;

@@ -4,6 +4,7 @@
 
 use super::conflicts::{conflict, CONFLICTS};
 use super::endings::{ending, Ending};
+use super::orders::some_ring;
 use super::Rng;
 use crate::machine::kinds::{uses, Unit, Uses, LAST_KIND};
 use crate::machine::questions::first_no;
@@ -58,12 +59,15 @@ pub fn list_from_fresh(rng: &mut Rng, settings: Settings, length: usize, mix: Mi
     requests
 }
 
-/// A state that a filling list reached, from fresh.
+/// A state that a filling list reached, from fresh; half of the states have orders in their ring.
 pub fn deep_state(rng: &mut Rng, settings: Settings, length: usize) -> State {
     let mut state = State::empty(settings);
     let opening = opening(rng, &state.settings);
     run(&mut state, &opening);
     list(rng, &mut state, length, Mix::FILLING);
+    if rng.percent(50) {
+        state.ring = some_ring(rng, &state);
+    }
     state
 }
 

@@ -1,5 +1,6 @@
 //! Seeded inputs of the line program: a settings line and frame lines, clean or damaged.
 
+use super::orders::{self, Plan, Sent};
 use super::requests::{list_from_fresh, Mix};
 use super::sites::{bad_settings, large_settings, site_within, Size};
 use super::Rng;
@@ -12,14 +13,26 @@ pub fn clean_stream(rng: &mut Rng, length: usize) -> Vec<u8> {
     stream_of(rng, settings, length)
 }
 
-/// The same for a given site.
+/// The same for a given site. Most streams have orders, some sent again.
 pub fn stream_of(rng: &mut Rng, settings: Settings, length: usize) -> Vec<u8> {
     let mut out = words_line(&settings.words());
-    let requests = list_from_fresh(rng, settings, length, Mix::USUAL);
-    for request in requests {
-        out.extend(words_line(&request.words()));
+    if rng.percent(30) {
+        let requests = list_from_fresh(rng, settings, length, Mix::USUAL);
+        requests.iter().for_each(|request| out.extend(words_line(&request.words())));
+        return out;
     }
+    let plan = Plan::any(rng);
+    let sent = orders::list_from_fresh(rng, settings, length, plan);
+    sent.iter().for_each(|order| out.extend(order_line(rng, order)));
     out
+}
+
+/// The line of an order: 64 digits; without a number mostly 56.
+pub fn order_line(rng: &mut Rng, order: &Sent) -> Vec<u8> {
+    if order.order == 0 && rng.percent(80) {
+        return words_line(&order.request.words());
+    }
+    words_line(&order.words())
 }
 
 /// A stream with damage: some lines, the settings line, or the end of input.

@@ -1,8 +1,9 @@
-//! Random tables for the specification check: small sites, the calls of a list from fresh, requests
-//! and parties, with their answers, and the whole book at the end.
+//! Random tables for the specification check: small sites, the calls of a list from fresh, requests,
+//! orders and parties, with their answers, and the whole book at the end.
 
 use super::conflicts::{conflict, conflicts_of, edges, Conflict, CONFLICTS};
 use super::endings::{ending, Ending};
+use super::orders::{self, Plan, Sent};
 use super::parties::{a_party, Sort, Where, OF_GUESTS};
 use super::requests::{aim, one, opening, Mix};
 use super::sites::{site, Size};
@@ -14,7 +15,7 @@ use std::collections::BTreeSet;
 
 /// How many sites and steps the tables have at least.
 const SITES: usize = 8;
-const STEPS: usize = 60;
+const STEPS: usize = 80;
 
 pub struct Table {
     pub settings: Settings,
@@ -30,6 +31,7 @@ struct Seen {
     conflicts: BTreeSet<Conflict>,
     endings: BTreeSet<Ending>,
     parties: BTreeSet<Sort>,
+    orders: BTreeSet<orders::Sort>,
 }
 
 impl Seen {
@@ -37,7 +39,8 @@ impl Seen {
         let numbers = (3..=22).all(|number| self.numbers.contains(&number));
         let sorts = self.conflicts.len() == CONFLICTS.len() && self.endings.len() == Ending::ALL.len();
         let parties = parties_wanted().iter().all(|sort| self.parties.contains(sort));
-        self.kinds_done.len() == 20 && numbers && sorts && parties
+        let orders = orders_wanted().iter().all(|sort| self.orders.contains(sort));
+        self.kinds_done.len() == 20 && numbers && sorts && parties && orders
     }
 }
 
@@ -53,15 +56,22 @@ pub fn parties_wanted() -> Vec<Sort> {
     wanted
 }
 
+/// The sorts of orders that occur in tables, whatever their kinds and numbers.
+pub fn orders_wanted() -> Vec<orders::Sort> {
+    let of_kinds = |sort: &orders::Sort| matches!(sort, orders::Sort::Done(_) | orders::Sort::Refused(_));
+    orders::Sort::of_lists().into_iter().filter(|sort| !of_kinds(sort)).collect()
+}
+
 /// Tables of the seed: among them every kind is done, every number 3 to 22 is reached, every
-/// conflict of two questions, every sort of kind 9 and every sort of a small party occurs, and every
-/// kind has every fault of its form.
+/// conflict of two questions, every sort of kind 9, every sort of a small party and of an order occurs,
+/// and every kind has every fault of its form.
 pub fn tables(seed: u64) -> Vec<Table> {
     let mut rng = Rng::new(seed);
     let mut seen = Seen::default();
-    let mut all = vec![edge_table(&mut rng, &mut seen)];
+    let mut all = vec![edge_table(&mut rng, &mut seen), ring_table(&mut rng, &mut seen)];
     while all.len() < SITES || !seen.everything() {
-        all.push(table(&mut rng, &mut seen));
+        let round = all.len() % SITES == 0;
+        all.push(if round { ring_table(&mut rng, &mut seen) } else { table(&mut rng, &mut seen) });
     }
     all
 }
@@ -80,6 +90,7 @@ fn table(rng: &mut Rng, seen: &mut Seen) -> Table {
         let call = match requests.pop() {
             Some(request) => Call::Request(request),
             None if turn % 5 == 4 => small_party(rng, &state, seen),
+            None if turn % 5 == 1 => some_order(rng, &state, turn),
             None => Call::Request(next(rng, &state, seen, turn)),
         };
         add_step(&mut table, &mut state, seen, call);
@@ -98,6 +109,26 @@ fn edge_table(rng: &mut Rng, seen: &mut Seen) -> Table {
     table
 }
 
+/// How many orders a table has that fills the ring and goes round it.
+const ROUND: usize = 150;
+
+/// A site whose calls are orders, more than the ring keeps, some of them sent again.
+fn ring_table(rng: &mut Rng, seen: &mut Seen) -> Table {
+    let (mut state, mut table) = opened(rng);
+    let sent = orders::list(rng, &mut state.clone(), ROUND, Plan { first: u32::MAX - 9, repeats: 40 });
+    for Sent { order, request } in sent {
+        add_step(&mut table, &mut state, seen, Call::Order { order, request });
+    }
+    table.book = words(&state);
+    table
+}
+
+/// An order of a number that is its turn's, or one that is sent again.
+fn some_order(rng: &mut Rng, state: &State, turn: usize) -> Call {
+    let Sent { order, request } = orders::next(rng, state, &[], Plan { first: turn as u32, repeats: 60 });
+    Call::Order { order, request }
+}
+
 fn add_step(table: &mut Table, state: &mut State, seen: &mut Seen, call: Call) {
     let before = state.clone();
     let answer = perform(state, &call);
@@ -109,6 +140,9 @@ fn add_step(table: &mut Table, state: &mut State, seen: &mut Seen, call: Call) {
                 Answer::Done(_) => seen.kinds_done.insert(request.kind),
                 Answer::Refused { number, .. } => seen.numbers.insert(number),
             };
+        }
+        Call::Order { order, request } => {
+            seen.orders.extend(orders::Sort::of(&before, &Sent { order: *order, request: *request }));
         }
         Call::Party { meeting, guests } => {
             seen.parties.extend(Sort::of_party(&before, *meeting, guests, answer.words()));
@@ -129,7 +163,7 @@ fn small_party(rng: &mut Rng, state: &State, seen: &Seen) -> Call {
             let sorts = Sort::of_party(state, *meeting, guests, answer);
             parties_wanted().iter().any(|sort| sorts.contains(sort) && !seen.parties.contains(sort))
         }
-        Call::Request(_) => false,
+        Call::Request(_) | Call::Order { .. } => false,
     };
     let drawn: Vec<Call> = (0..TRIES).map(|_| few_guests(rng, state)).collect();
     drawn.iter().find(|call| missing(call)).unwrap_or(&drawn[0]).clone()
@@ -175,7 +209,7 @@ pub fn party_text(meeting: u32, guests: &[Guest]) -> String {
     format!("{meeting} : {}", join(&guests.iter().flat_map(Guest::words).collect::<Vec<u32>>()))
 }
 
-/// The tables as plain text, one line an item: site, step (a request or a party), book.
+/// The tables as plain text, one line an item: site, step (a request, an order or a party), book.
 pub fn text(tables: &[Table]) -> String {
     let mut out = String::new();
     for table in tables {
@@ -183,6 +217,7 @@ pub fn text(tables: &[Table]) -> String {
         for (call, answer) in &table.steps {
             let asked = match call {
                 Call::Request(request) => join(&request.words()),
+                Call::Order { order, request } => join(&Sent { order: *order, request: *request }.words()),
                 Call::Party { meeting, guests } => party_text(*meeting, guests),
             };
             out += &format!("step {asked} -> {}\n", join(&answer.words()));

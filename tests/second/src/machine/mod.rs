@@ -1,16 +1,18 @@
-//! The diary machine: `State` holds settings and sets (docs/RULES.md, section 3), `step` answers one
-//! request (section 6).
+//! The diary machine: `State` holds settings, sets (docs/RULES.md, section 3) and the ring of kept orders
+//! (section 18), `step` answers one request (section 6), `order` one that carries the number of an order.
 
 pub mod changes;
 pub mod kinds;
 pub mod questions;
+pub mod ring;
 pub mod site;
 
 use std::collections::{BTreeMap, BTreeSet};
 
+pub use ring::{order, Kept, Ring};
 pub use site::{Date, Session, Settings, Time};
 
-/// The settings and the seven sets, with the tuples of rules 3.1 to 3.7.
+/// The settings, the seven sets with the tuples of rules 3.1 to 3.7, and the kept orders.
 #[derive(Clone, Debug, PartialEq, Eq)]
 pub struct State {
     pub settings: Settings,
@@ -28,6 +30,8 @@ pub struct State {
     pub conf: BTreeMap<(Session, u32, u32), u32>,
     /// (date, dining room, meeting): seats, information
     pub lunch: BTreeMap<(Date, u32, u32), (u32, u32)>,
+    /// The last orders; no request without an order changes it.
+    pub ring: Ring,
 }
 
 impl State {
@@ -42,6 +46,7 @@ impl State {
             attend: BTreeSet::new(),
             conf: BTreeMap::new(),
             lunch: BTreeMap::new(),
+            ring: Ring::empty(),
         }
     }
 
@@ -76,6 +81,12 @@ impl Request {
         Request { kind, a, b, first, last, n, info }
     }
 
+    /// The request of seven words, or of eight, the last of which is the number of its order; 0 is the number of none.
+    pub fn with_order(words: &[u32]) -> (Request, u32) {
+        let request = Request::from_words(std::array::from_fn(|at| words[at]));
+        (request, words.get(7).copied().unwrap_or(ring::NO_ORDER))
+    }
+
     pub fn words(&self) -> [u32; 7] {
         [self.kind, self.a, self.b, self.first, self.last, self.n, self.info]
     }
@@ -101,6 +112,15 @@ pub enum Answer {
 }
 
 impl Answer {
+    /// The answer that three words tell; None for words of no answer.
+    pub fn from_words(words: [u32; 3]) -> Option<Answer> {
+        match words {
+            [0, 0, value] => Some(Answer::Done(value)),
+            [number, place, 0] if number != 0 => Some(Answer::Refused { number, place }),
+            _ => None,
+        }
+    }
+
     /// The three words of an answer (rule 6.2).
     pub fn words(&self) -> [u32; 3] {
         match *self {

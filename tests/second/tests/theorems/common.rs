@@ -4,7 +4,7 @@ use second::gen::requests::aim;
 use second::gen::{deep_state, list, sites, Mix, Rng, Size};
 use second::machine::kinds::{uses, Unit};
 use second::machine::questions::first_no;
-use second::machine::{step, Answer, Date, Request, Session, Settings, State, Time};
+use second::machine::{step, Answer, Date, Request, Ring, Session, Settings, State, Time};
 use std::collections::BTreeMap;
 use std::fmt::Debug;
 
@@ -43,10 +43,10 @@ pub fn some_state(rng: &mut Rng) -> State {
     state_of(rng, &settings)
 }
 
-/// The same for a given site.
+/// The same for a given site. No orders are kept: these theorems are about the sets.
 pub fn state_of(rng: &mut Rng, settings: &Settings) -> State {
     let length = rng.between(10, 90) as usize;
-    deep_state(rng, settings.clone(), length)
+    State { ring: Ring::empty(), ..deep_state(rng, settings.clone(), length) }
 }
 
 /// Walks lists of requests from so many deep states, and shows each request with the state that it

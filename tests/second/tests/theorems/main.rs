@@ -5,6 +5,7 @@
 mod common;
 mod frames;
 mod locality;
+mod orders;
 mod pages;
 mod parties;
 mod queries;
