@@ -5,8 +5,8 @@
  *
  * BOOK AND CALLER
  *
- * A book is an array of 32-bit words that the caller owns: settings first, then seven regions of leave, bookings and meetings. The
- * functions below keep nothing between calls and allocate nothing.
+ * A book is an array of 32-bit words that the caller owns: settings first, then seven regions of leave, bookings and meetings, then the
+ * last 64 orders. The functions below keep nothing between calls and allocate nothing.
  *
  * Every function takes any words in the arrays that it is lent, of any length, and says so where they are not a book: none has a
  * condition on contents. What each one promises below is proved, for all words. What the caller owes is what C owes any function that
@@ -36,7 +36,7 @@
  *
  * The book of these settings has, with W(n) = (n + 31) / 32 rounded down, so many words (caviar_book_len computes it):
  *
- *     9 + G  +  D * (W(V) + H + 3 * M)  +  D * P * (W(M) + V + 2 * C)  +  D * Q * K
+ *     9 + G  +  D * (W(V) + H + 3 * M)  +  D * P * (W(M) + V + 2 * C)  +  D * Q * K  +  CAVIAR_RING_WORDS
  *
  * UNITS (rules 2.1 and 2.2)
  *
@@ -75,15 +75,38 @@
  * its sessions; kind 16 does the same and erases the meeting's lunches on every date from that of `first` to that of `last`. Kinds 17
  * to 20 change nothing. Values that are not said are 0. `info` is kept beside the entry and never looked into.
  *
+ * ORDERS (section 18)
+ *
+ * A line that drops leaves a caller without an answer, and a request that is sent again may be refused because it was done before. So a
+ * request may carry an order, a number from 1 to 4294967295 that the caller chooses; 0 means none. caviar_order and caviar_orders take
+ * requests with orders; caviar_request and caviar_requests take them without, and keep nothing.
+ *
+ * The book keeps the last 64 orders: the number, the seven words of the request and the three words of its answer, done or refused. While
+ * an order is kept, sending it again with the same seven words gets the answer that it got first, whatever the book holds by then, and
+ * changes nothing; with other words it is refused by 28. Else it is answered as the request alone would be, and kept, in the place of the
+ * oldest. Only 1, 2 and 28 are not kept. So a caller that
+ *
+ *     - gives each request that changes something a number of its own, counting up,
+ *     - sends it again with the same number when no answer came,
+ *     - and sends at most 63 others behind one that has no answer yet,
+ *
+ * gets for each the one answer that it would have had without a lost line, and each was done at most once. Callers that share a book
+ * share its numbers and its 64 places. A refused order writes the ring too; no other refusal writes anything.
+ *
+ * The ring is the last CAVIAR_RING_WORDS words of a book: 64 entries of 11 words (number, request, answer), then the place where the next
+ * order goes, 0 to 63. An entry whose number is 0 is empty, and zeros. Question 2 asks that the numbers other than 0 differ, that empty
+ * entries are zeros, that a kept answer has place 0 if its number is 0 and value 0 if not, and that the next place is below 64.
+ *
  * ANSWERS (section 6)
  *
  * An answer is the three words of struct caviar_answer. Done: number and place are 0. Refused: `number` says which question was the
  * first with the answer no, `value` is 0, and nothing has changed: not a word of the book, nor of a lent list of answers, nor a byte
- * of a lent page. A party (caviar_party) is refused so as a whole: where one of its guests is, none has been added.
+ * of a lent page. A party (caviar_party) is refused so as a whole: where one of its guests is, none has been added. A refused order, by
+ * whatever number but 1, 2 and 28, is kept: its entry of the ring and the next place are written, and no other word.
  *
  *     number  means (asked of the kinds)                                                        place
  *      1      no book: under 9 words, a limit or capacity out of range, or another length       0
- *      2      a book that breaks a law, or has a cell with what it may not hold                 0
+ *      2      a book that breaks a law, or has a cell or an order with what it may not hold     0
  *      3      unknown kind                                                                      0
  *      4      a field that the kind does not use is not 0                                       0
  *      5      a is not below its limit                                                          0
@@ -110,23 +133,27 @@
  *     25      the book has another length than the settings ask for                             0
  *     26      the lent page is shorter than its lines                                           0
  *     27      the party has no guest, or more than 64                                           0
+ *     28      the order is kept with another request                                            0
  *
- * Questions are asked in the order of their numbers, each of all slots before the next. The place is the lowest slot with the answer
+ * Questions are asked in the order of their numbers, each of all slots before the next; but 28 comes behind 2, and an order that passes
+ * it because it is kept is asked no more. The place is the lowest slot with the answer
  * no, in the unit of the kind; for 17 it is a date though the slots of kind 16 are sessions. A party is asked 1, 2 and 27, and then its
  * guests come one after the other, each with the questions of kind 10.
  *
  * AN EXAMPLE
  *
  *     const uint32_t settings[] = {2, 2, 2, 3, 2, 2, 1, 2, 1, 4};
- *     uint32_t book[64];                                           caviar_book_len(settings, 10) is 64
+ *     uint32_t book[769];                                          caviar_book_len(settings, 10) is 769
  *     caviar_request_words leave = {.kind = 1, .b = 1, .first = 0, .last = 1};
  *     caviar_request_words hotel = {.kind = 4, .a = 0, .b = 1, .first = 0, .last = 1};
  *     caviar_answer answer;
  *
- *     answer = caviar_lay(settings, 10, book, 64);                 0 0 0
- *     answer = caviar_request(book, 64, hotel);                    9 0 0: visitor 1 has no leave on date 0
- *     answer = caviar_request(book, 64, leave);                    0 0 0
- *     answer = caviar_request(book, 64, hotel);                    0 0 0
+ *     answer = caviar_lay(settings, 10, book, 769);                0 0 0
+ *     answer = caviar_request(book, 769, hotel);                   9 0 0: visitor 1 has no leave on date 0
+ *     answer = caviar_request(book, 769, leave);                   0 0 0
+ *     answer = caviar_order(book, 769, 17, hotel);                 0 0 0
+ *     answer = caviar_order(book, 769, 17, hotel);                 0 0 0: the answer of order 17
+ *     answer = caviar_request(book, 769, hotel);                   11 0 0: the room is booked already
  *
  * examples/c/visit.c is a whole program. Link with target/staticlib/libcapi.a, which `rt staticlib capi` writes:
  *
@@ -143,12 +170,17 @@ extern "C" {
 #endif
 
 /* The greatest number of words that a book can have, and that settings can have. */
-#define CAVIAR_MOST_WORDS 9401625
+#define CAVIAR_MOST_WORDS 9402330
 #define CAVIAR_MOST_SETTINGS 25
 
-/* How many words of a list a request is, and an answer. */
+/* How many words of a list a request is, a request with its order, and an answer. */
 #define CAVIAR_REQUEST_WORDS 7
+#define CAVIAR_ORDER_WORDS 8
 #define CAVIAR_ANSWER_WORDS 3
+
+/* How many orders a book keeps, and how many of its last words they take. */
+#define CAVIAR_KEPT_ORDERS 64
+#define CAVIAR_RING_WORDS 705
 
 /* How many bytes a line of a porter's page has, its byte 10 included, and how many do for every date of every site. */
 #define CAVIAR_PAGE_LINE 31
@@ -160,7 +192,7 @@ extern "C" {
 /* An answer: done with a value, or refused with a number and a place. See ANSWERS above. */
 typedef struct caviar_answer {
     uint32_t number; /* 0 when done */
-    uint32_t place;  /* 0 when done, and for 1 to 8 and 22 to 27 */
+    uint32_t place;  /* 0 when done, and for 1 to 8 and 22 to 28 */
     uint32_t value;  /* 0 when refused */
 } caviar_answer;
 
@@ -182,7 +214,7 @@ typedef struct caviar_guest {
     uint32_t last;  /* the last session, included */
 } caviar_guest;
 
-/* How many words the book of these settings has: 20 to CAVIAR_MOST_WORDS. 0 for bad settings, those that 24 refuses: fewer than nine
+/* How many words the book of these settings has: 725 to CAVIAR_MOST_WORDS. 0 for bad settings, those that 24 refuses: fewer than nine
  * words, not 9 + G of them, or one out of its range. (rule 9.3) */
 uint64_t caviar_book_len(const uint32_t *settings, size_t settings_len);
 
@@ -210,6 +242,21 @@ caviar_answer caviar_requests(uint32_t *book, size_t book_len, const uint32_t *r
  * as before. (rule 10.5) */
 caviar_answer caviar_serve(const uint32_t *settings, size_t settings_len, uint32_t *book, size_t book_len, const uint32_t *requests,
                            size_t requests_len, uint32_t *answers, size_t answers_len);
+
+/* One request with an order on any words. Refused with 1 or 2 as by caviar_check. Order 0: the same as caviar_request. An order that is
+ * kept gets the answer that is kept for it, or 28 if its seven words are not those that are kept; no word changes. Any other is answered
+ * as by caviar_request, and order, request and answer are kept. See ORDERS above. (rule 10.6) */
+caviar_answer caviar_order(uint32_t *book, size_t book_len, uint32_t order, caviar_request_words request);
+
+/* A list of requests with orders on any words, as caviar_requests, but with eight words each: the seven of the request, then the order,
+ * 0 for none. The call is done with n, the least of orders_len / 8, answers_len / 3 and 4294967295; each of the n is answered as
+ * caviar_order would after those before. The book is checked once. (rule 10.7) */
+caviar_answer caviar_orders(uint32_t *book, size_t book_len, const uint32_t *orders, size_t orders_len, uint32_t *answers,
+                            size_t answers_len);
+
+/* caviar_lay, and then a list as in caviar_orders, without a check; refused as caviar_serve. (rule 10.8) */
+caviar_answer caviar_serve_orders(const uint32_t *settings, size_t settings_len, uint32_t *book, size_t book_len, const uint32_t *orders,
+                                  size_t orders_len, uint32_t *answers, size_t answers_len);
 
 /* The porter's page of a date, on any words: which meeting is in which conference room, with how many visitors. The page has a line for
  * each session of the date and in it for each conference room that a meeting holds, attended or not: sessions in their order, in each

@@ -24,7 +24,7 @@ ROOT = Path(__file__).resolve().parent.parent
 sys.path.insert(0, str(ROOT / "tools"))
 
 from caviar_tool import explain, library, lines, main, rules, typed  # noqa: E402
-from caviar_tool.rules import Guest, Party, Problem, Raw, Request  # noqa: E402
+from caviar_tool.rules import Guest, Order, Party, Problem, Raw, Request  # noqa: E402
 
 CAVIAR = ROOT / "tools" / "caviar"
 CARGO_TARGET = Path(os.environ.get("CARGO_TARGET_DIR", ROOT / "target" / "cargo"))
@@ -32,7 +32,7 @@ PROVED = ROOT / "target" / "bin" / "frames"
 SETTINGS = ("settings dates 2 sessions 2 times 2 visitors 3 meetings 2 rooms 2 dining 1 hotels 2 transports 1 "
             "capacities 4")
 SETTINGS_LINE = "00000002000000020000000200000003000000020000000200000001000000020000000100000004"
-SEEDS = [1, 2, 3, 4, 5, 6, 31]
+SEEDS = [1, 2, 3, 4, 5, 22, 31]
 LINES_A_SEED = 800
 
 
@@ -126,6 +126,23 @@ class Conversations(Tested):
             kinds = {rules.BY_NUMBER[kind].name for kind in rules.QUESTIONS[number][1]}
             self.assertEqual({name for at, name in refused if at == number}, kinds, f"question {number}")
 
+    def test_orders(self):
+        said = self.converses("orders.txt")
+        self.assertEqual(said.count("Sent again, and answered as the first time: "), 4)
+
+    def test_the_sixty_fifth_order_is_answered_anew(self):
+        """Order 1 is kept while 63 others come after it, and no longer."""
+        asked = [f"order {number} count-leave date 0" for number in range(1, 65)]
+        late = ["add-leave visitor 0 date 0", asked[0], "order 65 count-leave date 0", asked[0]]
+        text = "\n".join([SETTINGS, *asked, *late])
+        framed = self.wrote("frame", given=text)
+        for program in programs():
+            said = self.explained(text.encode(), answered(program, framed)).decode().splitlines()[-8:]
+            again = "Sent again, and answered as the first time: "
+            counts = [again + "Done: visitors with leave on date 0: 0.", "Done: visitors with leave on date 0: 1.",
+                      "Done: visitors with leave on date 0: 1."]
+            self.assertEqual(said[3::2], ["    " + count for count in counts])
+
     def test_the_example_of_the_rules(self):
         typed_text = SETTINGS + "\nadd-leave visitor 1 dates 0..1\nraw zz\n"
         framed = self.wrote("frame", given=typed_text)
@@ -135,7 +152,7 @@ class Conversations(Tested):
             answers = answered(program, framed)
             self.assertEqual(answers, b"000000000000000000000000\n000000170000000000000000\n")
             self.assertEqual(self.wrote("explain", given=answers).decode(), "Done, value 0.\nRefused by 23. "
-                             "[rule 5.23: a line must be a frame: 56 digits of lower-case hexadecimal]\n")
+                             "[rule 5.23: a line must be a frame: 56 or 64 digits of lower-case hexadecimal]\n")
 
     def test_refused_settings(self):
         refused = "\n    Refused by 24: these are not good settings, {}. [rule 5.24: {}]\n"
@@ -151,11 +168,11 @@ class Conversations(Tested):
             self.refused_at_once(typed_text, shown + refused.format(why, rules.QUESTIONS[24][0]))
 
     def test_settings_of_the_largest_book_and_of_one_too_large(self):
-        wide = SETTINGS.replace("visitors 3", "visitors 500").replace("sessions 2", "sessions 16")
+        wide = SETTINGS.replace("visitors 3", "visitors 478").replace("sessions 2", "sessions 16")
         largest, over = wide.replace("hotels 2", "hotels 83"), wide.replace("hotels 2", "hotels 84")
         for program in programs():
             self.assertEqual(answered(program, self.wrote("frame", given=largest)), b"")
-        why = "the book of these settings has 16,386 words, more than 16,384"
+        why = "the book of these settings has 16,385 words, more than 16,384"
         self.refused_at_once(over, f"{over}\n    Refused by 25: {why}. [rule 5.25: {rules.QUESTIONS[25][0]}]\n")
 
     def refused_at_once(self, typed_text, expected):
@@ -213,6 +230,13 @@ class Frame(Tested):
         cases = {
             "setings dates 2": "there is no kind 'setings'; did you mean settings?",
             "pary meeting 0": "there is no kind 'pary'; did you mean party?",
+            "ordr 1 add-leave": "there is no kind 'ordr'; did you mean order?",
+            "order": f"an order has a number and a request, as in: {typed.AN_ORDER}",
+            "order 5": f"an order has a number and a request, as in: {typed.AN_ORDER}",
+            "order x add-leave visitor 1 date 0": "'x' is not a number",
+            "order 4294967296 add-leave visitor 1 date 0": "4294967296 does not fit in 32 bits",
+            "order 5 add-leave visitor 1": "add-leave lacks dates",
+            "order 5 party meeting 0": "there is no kind 'party'; an order carries a request",
             "party meeting 0": "the program has no line for a party; `caviar page` and `caviar party` take it",
             "add-hotl": "there is no kind 'add-hotl'; did you mean add-hotel?",
             "frobnicate 3": "there is no kind 'frobnicate'; `caviar kinds` lists the kinds",
@@ -272,6 +296,9 @@ class RoundTrips(Tested):
             request = Request(kind, *fields)
             self.assertEqual(typed.parse_line(typed.typed(request), False), request)
             self.assertEqual(lines.read_request(lines.written(request)), request)
+            order = Order(rng.choice([0, rng.randrange(9), rng.randrange(2 ** 32)]), request)
+            self.assertEqual(typed.parse_line(typed.typed(order), False), order)
+            self.assertEqual(lines.read_request(lines.written(order)), order)
 
     def test_seeded_streams(self):
         numbers, kinds, count = set(), set(), 0
@@ -285,7 +312,7 @@ class RoundTrips(Tested):
                 kinds |= {line.split()[0] for line in words.decode("utf-8", "replace").splitlines() if line}
                 count += len(sentences)
         print(f"seeds {', '.join(map(str, SEEDS))}: {count} answers explained, numbers {sorted(numbers)}", flush=True)
-        self.assertEqual(numbers, set(range(3, 26)))
+        self.assertEqual(numbers, {*range(3, 26), 28})
         self.assertLessEqual({kind.name for kind in rules.KINDS}, kinds)
 
     def there_and_back(self, stream):
@@ -327,7 +354,7 @@ class Explain(Tested):
         no_line = "not an answer line, which is 24 lower-case hexadecimal digits"
         cases = {
             "zz": no_line, "": no_line, "0" * 23: no_line, "0" * 32: no_line, "A" * 24: no_line,
-            "0000001c" + "0" * 16: "there is no question 28",
+            "0000001d" + "0" * 16: "there is no question 29",
             "000000090000000000000001": "a refusal has value 0",
             "000000000000000100000000": "a done answer has place 0",
             "000000080000000100000000": "this answer has place 0",
@@ -356,6 +383,12 @@ class Explain(Tested):
             (f"{SETTINGS}\nadd-hotel room 2 visitor 0 date 0", done, "line 1: this line is refused by 5" + whose),
             (f"{SETTINGS}\n21", done, "line 1: this line is refused by 3" + whose),
             (f"{SETTINGS}\nraw zz", done, "line 1: this line is refused by 23" + whose),
+            (f"{SETTINGS}\norder 1 {leave}", "0000001c" + "0" * 16,
+             "line 1: add-leave with these words is not refused by 28" + whose),
+            (f"{SETTINGS}\norder 1 {leave}\norder 1 {hotel}", done + "\n" + done,
+             "line 2: this line is refused by 28" + whose),
+            (f"{SETTINGS}\norder 1 {hotel}\norder 1 {hotel}", "000000090000000000000000\n" + done,
+             "line 2: order 1 was answered otherwise the first time" + whose),
         ]
         for requests, answers, message in cases:
             with tempfile.NamedTemporaryFile("w") as file:
@@ -404,7 +437,7 @@ class Page(Tested):
         self.assertEqual(out, "    0   1   0     0          0\n")
         expected = [self.REFUSED.format(2).strip(), "raw zz", "    Refused by 23: {}2 characters. [rule 5.23: {}]",
                     "raw", "    Refused by 23: {}0 characters. [rule 5.23: {}]"]
-        why = "the line is not 56 digits of lower-case hexadecimal; it has "
+        why = "the line is not 56 or 64 digits of lower-case hexadecimal; it has "
         self.assertEqual(said.splitlines(), [line.format(why, rules.QUESTIONS[23][0]) for line in expected])
 
     def test_a_site_too_large_for_the_program(self):
@@ -529,7 +562,8 @@ class Parties(Tested):
     @staticmethod
     def drawn(rng, entries):
         """A party near what the requests of kind 10 of a site ask for."""
-        asked = [entry for entry in entries if isinstance(entry, Request) and entry.kind in (8, 10)]
+        requests = [entry.request if isinstance(entry, Order) else entry for entry in entries]
+        asked = [entry for entry in requests if isinstance(entry, Request) and entry.kind in (8, 10)]
         meeting = rng.choice(asked).a
         near = [entry for entry in asked if entry.a == meeting]
         visitors = entries[0].limit("visitors")
@@ -567,7 +601,7 @@ class Commands(Tested):
 
     def test_the_tables(self):
         table = self.wrote("table").decode().splitlines()
-        self.assertEqual([int(line.split()[0]) for line in table[:27]], list(range(1, 28)))
+        self.assertEqual([int(line.split()[0]) for line in table[:28]], list(range(1, 29)))
         self.assertTrue(all(question in line for line, (question, _) in zip(table, rules.QUESTIONS.values())))
         kinds = self.wrote("kinds").decode().splitlines()
         self.assertEqual([line.split()[:2] for line in kinds], [[str(kind.number), kind.name] for kind in rules.KINDS])
@@ -591,9 +625,9 @@ class Commands(Tested):
         self.assertEqual((done.returncode, done.stderr), (0, b""))
 
     def test_the_length_of_a_book(self):
-        self.assertEqual(typed.parse_line(SETTINGS, True).book_length(), 64)
+        self.assertEqual(typed.parse_line(SETTINGS, True).book_length(), 769)
         largest = rules.settings_of(list(rules.LIMITS.values()) + [1000] * 16)
-        self.assertEqual(largest.book_length(), 9_401_625)
+        self.assertEqual(largest.book_length(), 9_402_330)
         self.assertEqual(lines.read_first("zz"), Raw("zz"))
         self.assertRaises(Problem, lines.settings_in, "zz")
 
@@ -656,6 +690,24 @@ class Documents(Tested):
         for words, site, expected in shown:
             out = self.wrote(*words.split(), given=(ROOT / site).read_bytes()).decode()
             self.assertEqual("".join(f"    {line}\n" for line in out.splitlines()), expected)
+
+    def test_the_orders_of_the_readme(self):
+        typed_text = (ROOT / "examples" / "orders.txt").read_bytes()
+        told = self.explained(typed_text, answered(PROVED, self.wrote("frame", given=typed_text))).decode()
+        indented = "".join(f"    {line}\n" for line in told.splitlines())
+        command = "    $ tools/caviar explain --with examples/orders.txt < answers\n"
+        self.assertIn(f"{command}{indented}\n", (ROOT / "README.md").read_text())
+
+    def test_the_orders_of_the_rules(self):
+        """The table of rule 18.8."""
+        rows = self.rows("docs/RULES.md", r"^\| (\d+) \| ((?:\d+ ){6}\d+) \| (\d+) (\d+) (\d+) \|")
+        self.assertEqual(len(rows), 10)
+        orders = [Order(int(order), Request(*map(int, words.split()))) for order, words, *_ in rows]
+        entries = [typed.parse_line(SETTINGS, True), *orders]
+        expected = [tuple(map(int, answer)) for _, _, *answer in rows]
+        self.assertEqual(main.answered(entries)[1], expected)
+        book, _ = library.played(entries[0], orders)
+        self.assertEqual((book[64:75], book[108], book[768]), ([16, 4, 0, 1, 0, 1, 0, 0, 9, 0, 0], 20, 5))
 
     def test_the_numbers_of_the_documents(self):
         """The tables of refusal numbers go as far as the tool's."""

@@ -1,5 +1,5 @@
 /* A visit of two dates, from C: lay a book, ask for leave, a hotel room and a meeting, see a refusal, check the book, write the
- * porter's page of a date and add a party.
+ * porter's page of a date, add a party and send an order twice.
  *
  *     rt staticlib capi
  *     gcc -Iinclude examples/c/visit.c target/staticlib/libcapi.a -o target/visit && target/visit
@@ -7,6 +7,9 @@
 #include <stdio.h>
 #include <stdlib.h>
 #include "caviar.h"
+
+/* How many words the book of the small site has. */
+enum { WORDS = 769 };
 
 static void say(const char *what, caviar_answer answer)
 {
@@ -29,11 +32,11 @@ static void porters_page(uint32_t *book)
     uint8_t page[4 * CAVIAR_PAGE_LINE];
     caviar_answer answer;
 
-    say("a meeting on date 1", caviar_requests(book, 64, requests, 28, answers, 12));
-    answer = caviar_page(book, 64, 1, page, sizeof page);
+    say("a meeting on date 1", caviar_requests(book, WORDS, requests, 28, answers, 12));
+    answer = caviar_page(book, WORDS, 1, page, sizeof page);
     say("the page of date 1", answer);
     fwrite(page, CAVIAR_PAGE_LINE, answer.value, stdout);
-    say("the page of date 2", caviar_page(book, 64, 2, page, sizeof page));
+    say("the page of date 2", caviar_page(book, WORDS, 2, page, sizeof page));
 }
 
 /* Two more visitors for the meeting of date 1, both or none. */
@@ -46,31 +49,45 @@ static void coach_party(uint32_t *book)
     uint32_t answers[6];
     caviar_guest guests[] = {{.visitor = 0, .first = 2, .last = 3}, {.visitor = 1, .first = 1, .last = 2}};
 
-    say("leave for visitors 0 and 1 on date 1", caviar_requests(book, 64, leave, 14, answers, 6));
-    say("a party for meeting 0, one guest from date 0", caviar_party(book, 64, 0, guests, 2));
+    say("leave for visitors 0 and 1 on date 1", caviar_requests(book, WORDS, leave, 14, answers, 6));
+    say("a party for meeting 0, one guest from date 0", caviar_party(book, WORDS, 0, guests, 2));
     guests[1].first = 2;
-    say("the party with both guests on date 1", caviar_party(book, 64, 0, guests, 2));
-    say("the party again", caviar_party(book, 64, 0, guests, 2));
+    say("the party with both guests on date 1", caviar_party(book, WORDS, 0, guests, 2));
+    say("the party again", caviar_party(book, WORDS, 0, guests, 2));
+}
+
+/* A hotel room with an order, sent again as if its answer had been lost; then the same request without a number, and the number with
+ * another request. */
+static void sent_twice(uint32_t *book)
+{
+    caviar_request_words hotel = {.kind = 4, .a = 1, .b = 2, .first = 1, .last = 1};
+    caviar_request_words other = {.kind = 4, .a = 0, .b = 2, .first = 1, .last = 1};
+
+    say("order 17, hotel room 1 for visitor 2 on date 1", caviar_order(book, WORDS, 17, hotel));
+    say("order 17 again", caviar_order(book, WORDS, 17, hotel));
+    say("the same without an order", caviar_request(book, WORDS, hotel));
+    say("order 17 with hotel room 0", caviar_order(book, WORDS, 17, other));
 }
 
 /* The small site of docs/RULES.md, section 13, request by request. */
 static void small_site(void)
 {
     const uint32_t settings[] = {2, 2, 2, 3, 2, 2, 1, 2, 1, 4};
-    uint32_t book[64];
+    uint32_t book[WORDS];
     caviar_request_words leave = {.kind = 1, .b = 1, .first = 0, .last = 1};
     caviar_request_words hotel = {.kind = 4, .a = 0, .b = 1, .first = 0, .last = 1};
     caviar_request_words removal = {.kind = 3, .b = 1, .first = 0, .last = 1};
 
     printf("a book of these settings has %llu words\n", (unsigned long long)caviar_book_len(settings, 10));
-    say("lay", caviar_lay(settings, 10, book, 64));
-    say("hotel room 0 for visitor 1 on dates 0 to 1", caviar_request(book, 64, hotel));
-    say("leave for visitor 1 on dates 0 to 1", caviar_request(book, 64, leave));
-    say("hotel room 0 for visitor 1 on dates 0 to 1", caviar_request(book, 64, hotel));
-    say("remove visitor 1 on dates 0 to 1", caviar_request(book, 64, removal));
-    say("check", caviar_check(book, 64));
+    say("lay", caviar_lay(settings, 10, book, WORDS));
+    say("hotel room 0 for visitor 1 on dates 0 to 1", caviar_request(book, WORDS, hotel));
+    say("leave for visitor 1 on dates 0 to 1", caviar_request(book, WORDS, leave));
+    say("hotel room 0 for visitor 1 on dates 0 to 1", caviar_request(book, WORDS, hotel));
+    say("remove visitor 1 on dates 0 to 1", caviar_request(book, WORDS, removal));
+    say("check", caviar_check(book, WORDS));
     porters_page(book);
     coach_party(book);
+    sent_twice(book);
 }
 
 /* The largest site, with a list of requests. */
@@ -98,7 +115,7 @@ static int largest_site(void)
         printf("  kind %u: number %u, place %u, value %u\n", requests[7 * i], answers[3 * i], answers[3 * i + 1], answers[3 * i + 2]);
     say("the same list again", caviar_requests(book, length, requests, 42, answers, 18));
     say("check", caviar_check(book, length));
-    book[length - 1] = 513;
+    book[length - CAVIAR_RING_WORDS - 1] = 513;
     say("check with a visitor past the limit in the last cell", caviar_check(book, length));
     free(book);
     return 0;

@@ -1,7 +1,8 @@
 """Answers in sentences."""
 
 from .lines import printable, settings_in
-from .rules import BY_NUMBER, MOST_GUESTS, MOST_WORDS, QUESTIONS, Party, Problem, Raw, Settings, has_place
+from .rules import (BY_NUMBER, KEPT_ORDERS, MOST_GUESTS, MOST_WORDS, QUESTIONS, Order, Party, Problem, Raw, Settings,
+                    has_place)
 from .typed import typed
 
 WIDEST_ECHO = 100
@@ -171,7 +172,8 @@ def fitting(scene, number, place, value):
 def reason(settings, entry, number, place, value):
     """The answer to a request, in the words of its site."""
     if isinstance(entry, Raw):
-        expected, said = 23, f"the line is not 56 digits of lower-case hexadecimal; it has {len(entry.text)} characters"
+        length = len(entry.text)
+        expected, said = 23, f"the line is not 56 or 64 digits of lower-case hexadecimal; it has {length} characters"
     elif entry.kind not in BY_NUMBER:
         expected, said = 3, f"there is no kind {entry.kind}"
     else:
@@ -234,6 +236,33 @@ def sentence(settings, entry, answer):
     return f"Refused by {number}: {said}. {question(number)}"
 
 
+class Kept:
+    """The orders that the book keeps, with their requests and answers, the oldest first."""
+
+    def __init__(self):
+        self.orders = {}
+
+    def sentence(self, settings, entry, answer):
+        """What an answer says to an order after those before; the first one of a number is kept."""
+        if not entry.order:
+            return sentence(settings, entry.request, answer)
+        if entry.order not in self.orders:
+            told = sentence(settings, entry.request, answer)
+            self.orders[entry.order] = (entry.request, answer)
+            if len(self.orders) > KEPT_ORDERS:
+                del self.orders[next(iter(self.orders))]
+            return told
+        request, first = self.orders[entry.order]
+        if request != entry.request:
+            if answer[0] != 28:
+                raise Problem("this line is refused by 28")
+            said = f"order {entry.order} is kept with another request, {typed(request)}"
+            return f"Refused by 28: {said}. {question(28)}"
+        if answer != first:
+            raise Problem(f"order {entry.order} was answered otherwise the first time")
+        return f"Sent again, and answered as the first time: {sentence(settings, request, answer)}"
+
+
 def fault_of_settings(entry):
     """The number that refuses a first line, and why; 0 for none."""
     if isinstance(entry, Raw):
@@ -270,10 +299,11 @@ def explained(entries, answers):
         raise Problem("the requests do not begin with good settings, and are answered with 24 alone")
     if len(answers) > len(requests):
         raise Problem(f"there are {len(answers)} answers and {len(requests)} requests")
-    told = []
+    told, kept = [], Kept()
     for at, (entry, answer) in enumerate(zip(requests, answers), 1):
         try:
-            told.append(echo(entry) + "\n    " + sentence(first, entry, answer))
+            say = kept.sentence if isinstance(entry, Order) else sentence
+            told.append(echo(entry) + "\n    " + say(first, entry, answer))
         except Problem as problem:
             raise Problem(f"line {at}: {problem}; are these the answers to these requests?") from None
     return told

@@ -5,8 +5,8 @@ import functools
 import itertools
 from pathlib import Path
 
-from .lines import WORDS_OF_ANSWER, WORDS_OF_REQUEST
-from .rules import Party, Problem
+from .lines import WORDS_OF_ANSWER, WORDS_OF_ORDER
+from .rules import Order, Party, Problem
 
 PATH = Path(__file__).resolve().parent.parent.parent / "target" / "lib" / "libcaviar.so"
 LINE_BYTES = 31
@@ -32,10 +32,10 @@ def loaded():
     try:
         library = ctypes.CDLL(str(PATH))
         library.caviar_lay.argtypes = [WORDS, LENGTH] * 2
-        library.caviar_requests.argtypes = [WORDS, LENGTH] * 3
+        library.caviar_orders.argtypes = [WORDS, LENGTH] * 3
         library.caviar_page.argtypes = [WORDS, LENGTH, WORD, ctypes.POINTER(ctypes.c_uint8), LENGTH]
         library.caviar_party.argtypes = [WORDS, LENGTH, WORD, ctypes.POINTER(Guest), LENGTH]
-        for function in (library.caviar_lay, library.caviar_requests, library.caviar_page, library.caviar_party):
+        for function in (library.caviar_lay, library.caviar_orders, library.caviar_page, library.caviar_party):
             function.restype = Answer
     except (OSError, AttributeError) as error:
         raise Problem(f"no library with these functions, `tools/build-library` makes it: {error}") from None
@@ -61,11 +61,12 @@ def laid(settings):
 
 
 def answered(book, requests):
-    """The answer to each of the requests, which the book is moved along by."""
-    flat = array([word for request in requests for word in request])
-    assert len(flat) == WORDS_OF_REQUEST * len(requests)
+    """The answer to each of the requests, with or without orders, which the book is moved along by."""
+    orders = [request if isinstance(request, Order) else Order(0, request) for request in requests]
+    flat = array([word for order in orders for word in order.words()])
+    assert len(flat) == WORDS_OF_ORDER * len(requests)
     answers = (WORD * (WORDS_OF_ANSWER * len(requests)))()
-    taken(loaded().caviar_requests(book, len(book), flat, len(flat), answers, len(answers)), "this book")
+    taken(loaded().caviar_orders(book, len(book), flat, len(flat), answers, len(answers)), "this book")
     return [tuple(answers[at:at + WORDS_OF_ANSWER]) for at in range(0, len(answers), WORDS_OF_ANSWER)]
 
 
@@ -83,7 +84,7 @@ def admitted(book, party):
 
 
 def played(settings, calls):
-    """The book of the settings after the calls, requests and parties, and the answer to each."""
+    """The book of the settings after the calls, requests, orders and parties, and the answer to each."""
     book, answers = laid(settings), []
     for of_parties, run in itertools.groupby(calls, lambda call: isinstance(call, Party)):
         answers += [admitted(book, party) for party in run] if of_parties else answered(book, list(run))

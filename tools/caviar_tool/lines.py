@@ -2,9 +2,10 @@
 
 import re
 
-from .rules import Problem, Raw, Request, Settings, settings_of
+from .rules import Order, Problem, Raw, Request, Settings, settings_of
 
 WORDS_OF_REQUEST = 7
+WORDS_OF_ORDER = 8
 WORDS_OF_ANSWER = 3
 
 
@@ -26,10 +27,10 @@ def words_of(line):
 
 
 def written(entry):
-    """The line of settings, of a request, or of a line taken as it stands."""
+    """The line of settings, of a request, of an order, or of a line taken as it stands."""
     if isinstance(entry, Raw):
         return entry.text
-    return line_of(entry.words() if isinstance(entry, Settings) else entry)
+    return line_of(entry.words() if isinstance(entry, (Settings, Order)) else entry)
 
 
 def settings_in(line):
@@ -49,9 +50,11 @@ def read_first(line):
 
 
 def read_request(line):
-    """The request of a later line, or the line as it stands."""
-    words = words_of(line)
-    return Request(*words) if words and len(words) == WORDS_OF_REQUEST else Raw(line)
+    """The request or the order of a later line, or the line as it stands."""
+    words = words_of(line) or []
+    if len(words) == WORDS_OF_ORDER:
+        return Order(words[-1], Request(*words[:-1]))
+    return Request(*words) if len(words) == WORDS_OF_REQUEST else Raw(line)
 
 
 def read_lines(text):

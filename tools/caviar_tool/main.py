@@ -165,10 +165,10 @@ def table(_):
         lines.append(f"{number:2}  {question}{of}")
     return lines + [
         "",
-        "A refusal has the number n of the first rule 5.n of docs/RULES.md that is not kept. Its place is the lowest",
-        "slot where it is not kept (9 to 16 and 19 to 21), a date (17 and 18) or 0. a is the hotel, conference or",
-        "dining room, the transport, or the meeting of kinds 8 to 11. b is the visitor, or the meeting of kinds 12",
-        "to 16.",
+        "A refusal has the number n of the first rule 5.n of docs/RULES.md that is not kept; 28 comes after 2. Its place",
+        "is the lowest slot where it is not kept (9 to 16 and 19 to 21), a date (17 and 18) or 0. a is the hotel,",
+        "conference or dining room, the transport, or the meeting of kinds 8 to 11. b is the visitor, or the meeting of",
+        "kinds 12 to 16.",
     ]
 
 
@@ -201,7 +201,7 @@ def parser():
     paging.add_argument("date", metavar="DATE", help="the date, from 0")
     joining = command(party, "party", "say what a party is answered, on the site on standard input", PARTY)
     joining.add_argument("words", nargs="+", metavar="WORD", help="meeting N, then visitor N sessions N..N, ..")
-    command(table, "table", "print the refusal numbers 1 to 27 with their rules")
+    command(table, "table", "print the refusal numbers 1 to 28 with their rules")
     command(kinds, "kinds", "print the kinds of requests and the words that each takes")
     return top
 

@@ -10,6 +10,10 @@ MOST_WORDS = 16_384
 # A party has at most so many guests.
 MOST_GUESTS = 64
 
+# A book keeps so many orders, in so many words.
+KEPT_ORDERS = 64
+RING_WORDS = 705
+
 # The one word of a request that may be left out.
 INFO = "info"
 
@@ -111,11 +115,11 @@ BY_NUMBER = {kind.number: kind for kind in KINDS}
 BY_NAME = {kind.name: kind for kind in KINDS}
 
 # The questions of section 5, as what must be so, with the kinds that they are asked of; none where a line, a book,
-# settings, a page or a party are asked about.
+# settings, a page, a party or an order are asked about.
 EVERY = tuple(BY_NUMBER)
 QUESTIONS = {
     1: ("the words must be as many as their settings ask for, and these settings in range", ()),
-    2: ("every cell must be well formed and every law kept", ()),
+    2: ("every cell and every kept order must be well formed and every law kept", ()),
     3: ("a kind is a number from 1 to 20", ()),
     4: ("fields that the kind has no use for must be 0", EVERY),
     5: ("a must be something that the site has", (4, 5, 6, 7, 8, 9, 10, 11, 12, 14, 15, 19)),
@@ -136,11 +140,12 @@ QUESTIONS = {
     20: ("the meeting whose standing ends must stand, in every slot", (9,)),
     21: ("the visitor must attend some meeting in that session", (17,)),
     22: ("some conference room must be free in all the slots", (20,)),
-    23: ("a line must be a frame: 56 digits of lower-case hexadecimal", ()),
+    23: ("a line must be a frame: 56 or 64 digits of lower-case hexadecimal", ()),
     24: ("settings must be complete and in range", ()),
     25: ("the book must have the length that its settings ask for; in the program, at most 16,384 words", ()),
     26: ("the page must have room for its lines, 31 bytes each", ()),
     27: ("a party must have a guest, and no more than 64 of them", ()),
+    28: ("an order that is kept must come with the request that it is kept with", ()),
 }
 
 
@@ -172,12 +177,12 @@ class Settings(NamedTuple):
         return self.limits + self.capacities
 
     def book_length(self):
-        """How many words the book of this site has, region by region."""
+        """How many words the book of this site has, region by region, and the ring of orders."""
         dates, _, _, visitors, meetings, rooms, _, hotels, transports = self.limits
         sessions, times = self.slots("session"), self.slots("time")
         of_dates = dates * (-(-visitors // 32) + hotels + 3 * meetings)
         of_sessions = sessions * (-(-meetings // 32) + visitors + 2 * rooms)
-        return len(self.words()) + of_dates + of_sessions + times * transports
+        return len(self.words()) + of_dates + of_sessions + times * transports + RING_WORDS
 
 
 def settings_of(words):
@@ -206,6 +211,16 @@ class Request(NamedTuple):
     last: int = 0
     n: int = 0
     info: int = 0
+
+
+class Order(NamedTuple):
+    """A request with the number of an order; 0 is the number of none."""
+
+    order: int
+    request: Request
+
+    def words(self):
+        return self.request + (self.order,)
 
 
 class Guest(NamedTuple):

@@ -4,6 +4,7 @@
     add-hotel room 0 visitor 1 dates 0..1      # a kind by name or number, then its fields in any order
     4 room 0 visitor 1 date 0                  # one slot
     add-leave b 1 first 0 last 1               # the request's own field names do as well
+    order 17 add-hotel room 0 visitor 1 date 0 # a request with the number of an order
     party meeting 0 visitor 1 sessions 0..1, visitor 2 session 1     # all of these guests or none
 
 Every word that the kind takes must be there; only `info` may be left out, and is then 0.
@@ -16,11 +17,12 @@ import difflib
 import re
 
 from .lines import text_lines
-from .rules import (BY_NAME, BY_NUMBER, LIMITS, WORD_LIMIT, Guest, Party, Problem, Raw, Request, Settings,
+from .rules import (BY_NAME, BY_NUMBER, LIMITS, WORD_LIMIT, Guest, Order, Party, Problem, Raw, Request, Settings,
                     settings_of)
 
 FIELDS = ("a", "b", "first", "last", "n", "info")
 RUN = ("first", "last")
+AN_ORDER = "order 17 add-leave visitor 1 dates 0..1"
 A_PARTY = "party meeting 0 visitor 1 sessions 0..1, visitor 2 session 1"
 GUEST_WORDS = {"visitor": ("visitor",), "session": RUN, "sessions": RUN, "first": ("first",), "last": ("last",)}
 UNITS = {"date": "date", "dates": "date", "session": "session", "sessions": "session", "time": "time", "times": "time"}
@@ -51,7 +53,7 @@ def kind_of(text):
         return BY_NAME[text].number
     if re.fullmatch(r"[0-9]+|0x[0-9a-f]+", text, re.ASCII):
         return number(text)
-    near = difflib.get_close_matches(text, list(BY_NAME) + ["settings", "party", "raw"], 1)
+    near = difflib.get_close_matches(text, list(BY_NAME) + ["settings", "order", "party", "raw"], 1)
     hint = f"did you mean {near[0]}?" if near else "`caviar kinds` lists the kinds"
     raise Problem(f"there is no kind '{text}'; {hint}")
 
@@ -106,6 +108,15 @@ def parse_request(head, words):
     return Request(kind_number, **given)
 
 
+def parse_order(words):
+    """An order: its number, then its request."""
+    if len(words) < 2:
+        raise Problem(f"an order has a number and a request, as in: {AN_ORDER}")
+    if words[1] in ("settings", "order", "party", "raw"):
+        raise Problem(f"there is no kind '{words[1]}'; an order carries a request")
+    return Order(number(words[0]), parse_request(words[1], words[2:]))
+
+
 def parse_guest(words):
     given = {}
     for word, text in pairs(words):
@@ -158,6 +169,8 @@ def parse_line(line, first, parties=False):
         if not parties:
             raise Problem("the program has no line for a party; `caviar page` and `caviar party` take it")
         return parse_party(words[1:])
+    if words[0] == "order":
+        return parse_order(words[1:])
     if words[0] != "settings":
         return parse_request(words[0], words[1:])
     if not first:
@@ -184,7 +197,7 @@ def is_typed(text):
         words = line.partition("#")[0].lower().split()
         if words:
             by_number = re.fullmatch(r"[0-9]{1,10}", words[0], re.ASCII) and words[1:2] and words[1].isalpha()
-            return bool(words[0] in BY_NAME or words[0] in ("settings", "party", "raw") or by_number)
+            return bool(words[0] in BY_NAME or words[0] in ("settings", "order", "party", "raw") or by_number)
     return True
 
 
@@ -218,4 +231,6 @@ def typed(entry):
     if isinstance(entry, Settings):
         limits = " ".join(f"{name} {limit}" for name, limit in zip(LIMITS, entry.limits))
         return f"settings {limits} capacities {' '.join(map(str, entry.capacities))}"
+    if isinstance(entry, Order):
+        return f"order {entry.order} {typed_request(entry.request)}"
     return typed_party(entry) if isinstance(entry, Party) else typed_request(entry)

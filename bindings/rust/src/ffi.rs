@@ -25,6 +25,25 @@ extern "C" {
         answers: *mut u32,
         answers_len: usize,
     ) -> Answer;
+    pub fn caviar_order(book: *mut u32, book_len: usize, order: u32, request: Request) -> Answer;
+    pub fn caviar_orders(
+        book: *mut u32,
+        book_len: usize,
+        orders: *const u32,
+        orders_len: usize,
+        answers: *mut u32,
+        answers_len: usize,
+    ) -> Answer;
+    pub fn caviar_serve_orders(
+        settings: *const u32,
+        settings_len: usize,
+        book: *mut u32,
+        book_len: usize,
+        orders: *const u32,
+        orders_len: usize,
+        answers: *mut u32,
+        answers_len: usize,
+    ) -> Answer;
     pub fn caviar_page(book: *const u32, book_len: usize, date: u32, page: *mut u8, page_len: usize) -> Answer;
     pub fn caviar_party(
         book: *mut u32,

@@ -1,7 +1,8 @@
 //! The CAVIAR booking book for Rust.
 //!
 //! A book is a slice of 32-bit words that the caller owns: settings first, then seven regions of
-//! leave, bookings and meetings. The functions keep nothing between calls and allocate nothing.
+//! leave, bookings and meetings, then the last orders. The functions keep nothing between calls and
+//! allocate nothing.
 //! Each takes any words of any length, and says so where they are not a book. What each function
 //! promises is proved, for all words; this crate only lends the slices. include/caviar.h has the
 //! tables of kinds and of refusal numbers, and docs/RULES.md everything that the book does.
@@ -23,10 +24,16 @@
 mod ffi;
 
 /// The greatest number of words that a book can have.
-pub const MOST_WORDS: usize = 9_401_625;
+pub const MOST_WORDS: usize = 9_402_330;
 
 /// The greatest number of words that settings can have.
 pub const MOST_SETTINGS: usize = 25;
+
+/// How many orders a book keeps.
+pub const KEPT_ORDERS: usize = 64;
+
+/// How many words the kept orders take, the last of a book.
+pub const RING_WORDS: usize = 705;
 
 /// How many bytes a line of a porter's page has.
 pub const PAGE_LINE: usize = 31;
@@ -99,6 +106,15 @@ impl Request {
     }
 }
 
+/// A request with the number of an order, 0 for none: eight words.
+#[repr(C)]
+#[derive(Clone, Copy, Debug, Default, PartialEq, Eq)]
+pub struct Order {
+    pub request: Request,
+    /// The number, which the caller chooses.
+    pub order: u32,
+}
+
 /// A guest of a party: a visitor who is to attend its meeting in these sessions.
 #[repr(C)]
 #[derive(Clone, Copy, Debug, Default, PartialEq, Eq)]
@@ -117,7 +133,7 @@ impl Guest {
     }
 }
 
-/// How many words the book of these settings has: 20 to [`MOST_WORDS`]. 0 for settings that
+/// How many words the book of these settings has: 725 to [`MOST_WORDS`]. 0 for settings that
 /// question 24 refuses: fewer than nine words, not nine limits with a capacity for each dining
 /// room, or one out of its range (rule 9.3).
 pub fn book_len(settings: &[u32]) -> usize {
@@ -199,6 +215,75 @@ pub fn serve_words(settings: &[u32], book: &mut [u32], list: &[u32], answers: &m
     }
 }
 
+/// One request with the number of an order, on a book that may hold any words. Order 0: the same as
+/// [`request`]. The book keeps the last [`KEPT_ORDERS`] orders with their requests and answers. One that is
+/// kept gets the answer that is kept for it and changes nothing, so that it may be sent again when its
+/// answer was lost; with another request it is refused by 28. Any other is answered as by [`request`], done or
+/// refused, and kept. Refused with 1 or 2 as by [`check`]; these and 28 write no word (rule 10.6, section 18).
+///
+/// ```
+/// use caviar::{Refusal, Request};
+/// let settings = [2, 2, 2, 3, 2, 2, 1, 2, 1, 4];
+/// let mut book = vec![0; caviar::book_len(&settings)];
+/// caviar::lay(&settings, &mut book);
+/// let leave = Request { kind: 1, b: 1, first: 0, last: 1, ..Default::default() };
+/// let hotel = Request { kind: 4, a: 0, b: 1, first: 0, last: 1, ..Default::default() };
+/// assert_eq!(caviar::order(&mut book, 16, leave).result(), Ok(0));
+/// assert_eq!(caviar::order(&mut book, 17, hotel).result(), Ok(0));
+/// let before = book.clone();
+/// assert_eq!(caviar::order(&mut book, 17, hotel).result(), Ok(0));
+/// assert_eq!(caviar::order(&mut book, 17, leave).result(), Err(Refusal { number: 28, place: 0 }));
+/// assert_eq!(book, before);
+/// assert_eq!(caviar::request(&mut book, hotel).result(), Err(Refusal { number: 11, place: 0 }));
+/// ```
+pub fn order(book: &mut [u32], order: u32, request: Request) -> Answer {
+    // SAFETY: the pointer and the length are those of one slice, lent as `&mut`.
+    unsafe { ffi::caviar_order(book.as_mut_ptr(), book.len(), order, request) }
+}
+
+/// A list of requests with orders, as [`requests`] is one without: each is answered as [`order`] would
+/// after those before, and the book is checked once (rule 10.7).
+pub fn orders(book: &mut [u32], list: &[Order], answers: &mut [Answer]) -> Answer {
+    orders_words(book, order_words(list), answer_words(answers))
+}
+
+/// The same with plain words: eight each, the order last, and three an answer.
+pub fn orders_words(book: &mut [u32], list: &[u32], answers: &mut [u32]) -> Answer {
+    // SAFETY: each pointer has its slice's length, and no two slices overlap where one is `&mut`.
+    unsafe {
+        ffi::caviar_orders(
+            book.as_mut_ptr(),
+            book.len(),
+            list.as_ptr(),
+            list.len(),
+            answers.as_mut_ptr(),
+            answers.len(),
+        )
+    }
+}
+
+/// Lays the book and answers a list with orders on it, as [`serve`] one without (rule 10.8).
+pub fn serve_orders(settings: &[u32], book: &mut [u32], list: &[Order], answers: &mut [Answer]) -> Answer {
+    serve_orders_words(settings, book, order_words(list), answer_words(answers))
+}
+
+/// The same with plain words: eight each, the order last, and three an answer.
+pub fn serve_orders_words(settings: &[u32], book: &mut [u32], list: &[u32], answers: &mut [u32]) -> Answer {
+    // SAFETY: each pointer has its slice's length, and no two slices overlap where one is `&mut`.
+    unsafe {
+        ffi::caviar_serve_orders(
+            settings.as_ptr(),
+            settings.len(),
+            book.as_mut_ptr(),
+            book.len(),
+            list.as_ptr(),
+            list.len(),
+            answers.as_mut_ptr(),
+            answers.len(),
+        )
+    }
+}
+
 /// Writes the porter's page of a date: a line of [`PAGE_LINE`] bytes for each session of the date and
 /// in it each conference room in use, in that order. A line has five numbers in base ten, each behind
 /// spaces at the end of its columns, and a byte 10: session (5 columns), room (4), meeting (4), visitors
@@ -263,6 +348,12 @@ pub fn party(book: &mut [u32], meeting: u32, guests: &[Guest]) -> Answer {
 fn request_words(list: &[Request]) -> &[u32] {
     // SAFETY: `Request` is seven `u32` in order (`repr(C)`), with their alignment and no padding.
     unsafe { std::slice::from_raw_parts(list.as_ptr().cast(), list.len() * 7) }
+}
+
+/// The words of a list of orders, which has eight in each place and nothing between.
+fn order_words(list: &[Order]) -> &[u32] {
+    // SAFETY: `Order` is eight `u32` in order (`repr(C)`), with their alignment and no padding.
+    unsafe { std::slice::from_raw_parts(list.as_ptr().cast(), list.len() * 8) }
 }
 
 /// The words of a list of answers, three in each place; every word is a value of its field.

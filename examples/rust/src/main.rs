@@ -1,6 +1,6 @@
 //! A visit of two dates, from Rust: lay a book, ask for leave, a hotel room and a meeting, see a
-//! refusal, check the book, write the porter's page of a date and add a party; then a list on the
-//! largest book.
+//! refusal, check the book, write the porter's page of a date, add a party and send an order twice;
+//! then a list on the largest book.
 
 use caviar::{Answer, Guest, Request};
 
@@ -28,6 +28,7 @@ fn small_site() {
     say("check", caviar::check(&book));
     porters_page(&mut book);
     coach_party(&mut book);
+    sent_twice(&mut book);
 }
 
 /// Gives a meeting a room on date 1 and prints the porter's page of that date.
@@ -60,6 +61,18 @@ fn coach_party(book: &mut [u32]) {
     say("the party again", caviar::party(book, 0, &guests));
 }
 
+/// A hotel room with an order, sent again as if its answer had been lost; then the same request without a
+/// number, and the number with another request.
+fn sent_twice(book: &mut [u32]) {
+    let hotel = Request { kind: 4, a: 1, b: 2, first: 1, last: 1, ..Request::default() };
+    let other = Request { a: 0, ..hotel };
+
+    say("order 17, hotel room 1 for visitor 2 on date 1", caviar::order(book, 17, hotel));
+    say("order 17 again", caviar::order(book, 17, hotel));
+    say("the same without an order", caviar::request(book, hotel));
+    say("order 17 with hotel room 0", caviar::order(book, 17, other));
+}
+
 /// The largest site, with a list of requests.
 fn largest_site() {
     let mut settings = vec![400, 16, 96, 512, 128, 64, 16, 512, 128];
@@ -81,7 +94,7 @@ fn largest_site() {
     }
     say("the same list again", caviar::requests(&mut book, &list, &mut answers));
     say("check", caviar::check(&book));
-    book[caviar::MOST_WORDS - 1] = 513;
+    book[caviar::MOST_WORDS - caviar::RING_WORDS - 1] = 513;
     say("check with a visitor past the limit in the last cell", caviar::check(&book));
 }
 
