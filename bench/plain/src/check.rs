@@ -2,6 +2,7 @@
 //! folded by OR, which finds blank rows and words past every table at once, and then looked up in
 //! small tables of barred members.
 
+use crate::orders::ring_is_bad;
 use crate::site::{Answer, Site};
 
 /// Tables are larger than any cell that may stand in a row, so that a masked cell is an index.
@@ -16,6 +17,9 @@ pub fn check(book: &[u32]) -> Answer {
         if date_is_bad(&site, book, date, &mut tables) {
             return Answer::refused(2, 0);
         }
+    }
+    if ring_is_bad(&book[site.ring..]) {
+        return Answer::refused(2, 0);
     }
     Answer::done(0)
 }

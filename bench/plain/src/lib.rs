@@ -6,6 +6,7 @@
 //! - `kinds`: the table of kinds, questions 3 to 8
 //! - `judge` and `apply`: questions 9 to 22, and the writes; `step` puts them together
 //! - `calls`: laying, requests on raw books, lists
+//! - `orders`: the ring of kept orders, and requests that carry the number of one
 //! - `party`: guests of one meeting, all or none
 //! - `lines`: the line program in chunks
 //! - `traffic`: the trial load that all measurements use
@@ -16,12 +17,13 @@ pub mod check;
 pub mod judge;
 pub mod kinds;
 pub mod lines;
+pub mod orders;
 pub mod party;
 pub mod site;
 pub mod step;
 pub mod traffic;
 
-pub use calls::{lay, request, requests, serve};
+pub use calls::{lay, order, orders, request, requests, serve, serve_orders};
 pub use check::check;
 pub use party::party;
 pub use site::{Answer, Request, Site};

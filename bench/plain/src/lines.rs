@@ -2,11 +2,13 @@
 //! decoded where it lies; only pieces of lines at the ends of chunks are copied.
 
 use crate::calls::lay;
+use crate::orders::{order, Numbers};
 use crate::site::{Answer, Request, Site};
-use crate::step::step;
 
 const MOST_WORDS: usize = 16_384;
+/// The digits of a frame line, without and with the number of an order.
 const FRAME: usize = 56;
+const ORDER: usize = 64;
 /// No line of more bytes can be good: 25 settings words and one byte more.
 const KEPT: usize = 201;
 const LINE_END: u8 = 10;
@@ -51,10 +53,10 @@ fn word(digits: &[u8; 8]) -> (u32, u8) {
     (value, any)
 }
 
-/// The seven words of a frame line.
+/// The seven or eight words of a frame line; a line of seven has no order, 0.
 #[inline(always)]
-fn frame(line: &[u8; FRAME]) -> Option<[u32; 7]> {
-    let mut words = [0; 7];
+fn frame<const DIGITS: usize>(line: &[u8; DIGITS]) -> Option<[u32; 8]> {
+    let mut words = [0; 8];
     let mut any = 0;
     for (out, digits) in words.iter_mut().zip(line.as_chunks::<8>().0) {
         let (value, flags) = word(digits);
@@ -80,7 +82,7 @@ fn put_answer(answer: &Answer, out: &mut Vec<u8>) {
 
 enum Phase {
     Settings,
-    Requests { site: Box<Site>, book: Vec<u32> },
+    Requests { site: Box<Site>, book: Vec<u32>, numbers: Numbers },
     Over,
 }
 
@@ -130,14 +132,10 @@ impl Program {
     /// Answers good frame lines at the front of the chunk and gives the rest.
     #[inline]
     fn whole_frames<'a>(&mut self, mut chunk: &'a [u8], out: &mut Vec<u8>) -> &'a [u8] {
-        let Phase::Requests { site, book } = &mut self.phase else { return chunk };
-        while let Some((line, rest)) = chunk.split_first_chunk::<FRAME>() {
-            if rest.first() != Some(&LINE_END) {
-                break;
-            }
-            let Some(words) = frame(line) else { break };
-            put_answer(&step(site, book, &Request::new(words)), out);
-            chunk = &rest[1..];
+        let Phase::Requests { site, book, numbers } = &mut self.phase else { return chunk };
+        while let Some((words, rest)) = whole_frame(chunk) {
+            put_answer(&answer(site, book, numbers, words), out);
+            chunk = rest;
         }
         chunk
     }
@@ -151,10 +149,11 @@ impl Program {
     fn end_line(&mut self, out: &mut Vec<u8>) {
         match &mut self.phase {
             Phase::Settings => self.phase = settings_line(&self.piece, out),
-            Phase::Requests { site, book } => {
-                let words = <&[u8; FRAME]>::try_from(&self.piece[..]).ok().and_then(frame);
-                let answer = match words {
-                    Some(words) => step(site, book, &Request::new(words)),
+            Phase::Requests { site, book, numbers } => {
+                let without = <&[u8; FRAME]>::try_from(&self.piece[..]).ok().and_then(frame);
+                let with = <&[u8; ORDER]>::try_from(&self.piece[..]).ok().and_then(frame);
+                let answer = match without.or(with) {
+                    Some(words) => answer(site, book, numbers, words),
                     None => Answer::refused(23, 0),
                 };
                 put_answer(&answer, out);
@@ -164,6 +163,24 @@ impl Program {
         self.piece.clear();
         self.open = false;
     }
+}
+
+/// The words of a good frame line at the front of the chunk, and what comes behind its byte 10.
+#[inline(always)]
+fn whole_frame(chunk: &[u8]) -> Option<([u32; 8], &[u8])> {
+    if chunk.get(FRAME) == Some(&LINE_END) {
+        return Some((frame(chunk.first_chunk::<FRAME>()?)?, &chunk[FRAME + 1..]));
+    }
+    if chunk.get(ORDER) == Some(&LINE_END) {
+        return Some((frame(chunk.first_chunk::<ORDER>()?)?, &chunk[ORDER + 1..]));
+    }
+    None
+}
+
+#[inline(always)]
+fn answer(site: &Site, book: &mut [u32], numbers: &mut Numbers, words: [u32; 8]) -> Answer {
+    let [request @ .., number] = words;
+    order(site, book, numbers, number, &Request::new(request))
 }
 
 /// 24 before 25; silent when good.
@@ -176,7 +193,8 @@ fn settings_line(line: &[u8], out: &mut Vec<u8>) -> Phase {
         Some(site) if whole && site.length <= MOST_WORDS => {
             let mut book = vec![0; site.length];
             lay(&settings, &mut book);
-            return Phase::Requests { site: Box::new(site), book };
+            let numbers = Numbers::of(&site, &book);
+            return Phase::Requests { site: Box::new(site), book, numbers };
         }
         Some(_) if whole => 25,
         _ => 24,

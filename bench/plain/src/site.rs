@@ -1,4 +1,6 @@
-//! Limits, capacities and the places of the seven regions, computed once and passed along.
+//! Limits, capacities and the places of the seven regions and of the ring, computed once and passed along.
+
+use crate::orders::RING_WORDS;
 
 /// The greatest value of each limit, in the order D P Q V M C G H K.
 const GREATEST: [u32; 9] = [400, 16, 96, 512, 128, 64, 16, 512, 128];
@@ -65,6 +67,8 @@ pub struct Site {
     pub conf: Grid,
     pub lunch: Grid,
     pub ride: Grid,
+    /// Where the ring of kept orders begins.
+    pub ring: usize,
     /// Words of the whole book.
     pub length: usize,
 }
@@ -114,7 +118,8 @@ impl Site {
         let lunch = grid(3 * m, 1);
         let ride = grid(k, q);
         let slots = [d, d * p, d * q].map(|count| count as u32);
-        Site { limits, capacities, slots, leave, hotel, standing, attend, conf, lunch, ride, length: end }
+        let length = end + RING_WORDS;
+        Site { limits, capacities, slots, leave, hotel, standing, attend, conf, lunch, ride, ring: end, length }
     }
 
     pub fn dates(&self) -> u32 {
@@ -139,6 +144,11 @@ impl Request {
     pub fn new(words: [u32; 7]) -> Request {
         let [kind, a, b, first, last, n, info] = words;
         Request { kind, a, b, first, last, n, info }
+    }
+
+    #[inline(always)]
+    pub fn words(&self) -> [u32; 7] {
+        [self.kind, self.a, self.b, self.first, self.last, self.n, self.info]
     }
 }
 

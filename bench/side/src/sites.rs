@@ -9,7 +9,7 @@ fn settings(words: &[u32]) -> Settings {
     Settings::from_words(words).expect("settings in range")
 }
 
-/// 9,401,625 words.
+/// 9,402,330 words.
 pub fn largest() -> Settings {
     let mut words = GREATEST.to_vec();
     words.extend([1000; 16]);

@@ -1,4 +1,4 @@
-//! One request with its check, a list with one check, and the steps of a list without it.
+//! One request with its check, a list with one check, the steps of a list without it, and lists of orders.
 
 use crate::clock::{seconds, turns};
 use crate::sites::{load, medium, of_kind, small, SEED};
@@ -77,6 +77,44 @@ pub fn measure(name: &str, book: &[u32], count: usize) {
     row(&format!("requests, {name}"), lists, each, &format!("{note}, one check"));
     row(&format!("steps, {name}"), steps(lists, check_times(book)), each, &format!("{note}, without the check"));
     one_request(name, book, &requests);
+}
+
+/// The requests of the load with the numbers of orders, all new, and with every tenth order sent again some orders later.
+pub fn orders(name: &str, book: &[u32], count: usize) {
+    let settings = Settings::of_book(book).expect("a full book");
+    let requests = load(&settings, count);
+    let numbered = |at: usize| {
+        let [kind, a, b, first, last, n, info] = requests[at];
+        [kind, a, b, first, last, n, info, at as u32 + 1]
+    };
+    let again = |at: usize| if at % 10 == 9 { at - at % 9 - 1 } else { at };
+    let lists: [Vec<u32>; 2] =
+        [(0..count).flat_map(numbered).collect(), (0..count).map(again).flat_map(numbered).collect()];
+    for (list, what) in lists.iter().zip(["all new", "a tenth sent again"]) {
+        let times = order_times(book, list, 15);
+        let each = |time: f64| format!("{:.1} ns", time / count as f64 * 1e9);
+        row(
+            &format!("orders, {name}, {what}"),
+            times,
+            each,
+            &format!("each of {count} orders of all kinds, one check"),
+        );
+    }
+}
+
+/// The least times of a list of orders on a copy of the book.
+fn order_times(book: &[u32], list: &[u32], count: usize) -> [f64; 2] {
+    let copy = Copy::of(book, list.len() / 8 * 3);
+    copy.time(|words, answers| caviar::orders_words(words, list, answers));
+    let proved_left = copy.left();
+    copy.time(|words, answers| plain::orders(words, list, answers));
+    assert!(proved_left == copy.left(), "the engines differ");
+    turns(
+        count,
+        [&mut || copy.time(|words, answers| caviar::orders_words(words, black_box(list), answers)), &mut || {
+            copy.time(|words, answers| plain::orders(words, black_box(list), answers))
+        }],
+    )
 }
 
 fn one_request(name: &str, book: &[u32], requests: &[[u32; 7]]) {
