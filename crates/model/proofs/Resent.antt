@@ -1,29 +1,30 @@
 -- Orders sent again: a kept order gets the answer that it got when it was sent, and changes nothing; and lists in which orders are sent
 -- again while they are kept, on ledgers, on books and as the words of a list.
 -- Assumes nothing.
-use Prim.Native.Nat.{ℕ, zero, suc, _≤_, _<_}
+use Prim.Native.Nat.{ℕ, zero, suc, _+_, _*_, _≤_, _<_}
 use mathlib.Core.Path.{_≡_, refl, sym, _∙_, ap, ap₂, subst}
 use mathlib.Core.Logic.{_⊎_, inl, inr}
-use mathlib.Core.Bool.{Bool, true, false, cond, false≢true}
+use mathlib.Core.Bool.{Bool, true, false, not, cond, false≢true}
 use mathlib.Core.Option.{Option, none, some}
 use mathlib.Core.List.{List, [], _∷_, _++_}
 use native.Mathlib.Omega.{arith}
 use lib.Dec.{ltb, eqb}
-use lib.ListN.{length}
-use borrow.Author.Tests.{eq-eqb, ltb-true, ltb-false}
+use lib.ListN.{length, take, drop, length-append}
+use lib.Seq.{take-at}
+use borrow.Author.Tests.{eq-eqb, eqb-true, ltb-true, ltb-false}
 use Rattle.model.specs.declared.Settings.{Settings}
 use Rattle.model.specs.declared.Request.{Request}
 use Rattle.model.specs.declared.Answer.{Answer}
-use Rattle.model.specs.declared.Answer.the-variants.{Refused}
+use Rattle.model.specs.declared.Answer.the-variants.{Done, Refused}
 use Rattle.model.specs.Bounded.{isSome}
 use Rattle.model.specs.Site.{validSettings}
 use Rattle.model.specs.Messages.{orderLength, sameRequest}
-use Rattle.model.specs.Tail.{Entry, ringPlaces, entryAt, keptAt, keep, emptyTail}
+use Rattle.model.specs.Tail.{Entry, ringPlaces, entryAt, keptAt, placeAfter, keep, emptyTail}
 use Rattle.model.specs.Reading.{settingsOf}
 use Rattle.model.specs.Ledger.{Ledger, emptyLedger, bookLength, bookWords, ledgerOf}
-use Rattle.model.specs.Machine.{step, Call, ordered, party, Reply, told, Performed, stepped, answerOrder, perform, Run, run}
-use Rattle.model.specs.Calls.{Calls, calls, freshBook, settingsGood, callsOf, answerable, callList, servedList, serveList}
-use Rattle.model.specs.Resent.{IsKept, Kept, KeptThrough, Sending, once, again, allSent, onceSent, WhileKept, onceReplied}
+use Rattle.model.specs.Machine.{step, Call, ordered, party, Reply, told, replyWords, Performed, stepped, answerOrder, perform, Run, run}
+use Rattle.model.specs.Calls.{Calls, calls, freshBook, settingsGood, callsOf, repliesWords, answerable, Listed, listed, callList, shownBy, serveList}
+use Rattle.model.specs.Resent.{IsKept, Kept, KeptThrough, isNew, newOrders, Sending, once, again, allSent, onceSent, WhileKept, onceReplied, onceAnswered}
 use Rattle.model.proofs.Search.{and-true}
 use Rattle.model.proofs.Tail.{empty-at, kept-there, kept-else, here-or-not, none-kept, kept-first, kept-place, kept-order, kept-by, not-kept}
 use Rattle.model.proofs.Ledger.{LedgerSound}
@@ -102,50 +103,53 @@ module _ (l : Ledger) (s : LedgerSound l) (m : ℕ) (q : Request) (new : keptAt 
         answer = ap (λ (e : Entry). e .answer) there;
       }
 
-  -- another one stays as it is, or its place was the next one
+  -- another one, kept at place p: its number stands nowhere else. It stays there, or p was the next place.
+  module _ (n p : ℕ) (at : keptAt (l .tail) n ≡ some p) where
+    some-n : n ≡ 0 → ⊥
+    some-n = kept-first (l .tail) n at .0
+
+    place : p < ringPlaces
+    place = kept-place (l .tail) n at
+
+    order : entryAt (l .tail) p .order ≡ n
+    order = kept-order (l .tail) n at
+
+    other : suc m ≡ n → ⊥
+    other e = none-kept (l .tail) m new p place (order ∙ sym e)
+
+    alone : (j : ℕ) → j < ringPlaces → (j ≡ p → ⊥) → entryAt (l .tail) j .order ≡ n → ⊥
+    alone j h d e =
+        below-or-not j p
+        (λ b. s .tail .differ p j place b (λ z. some-n (sym order ∙ z)) (e ∙ sym order))
+        (λ b. s .tail .differ j p h (omega (arith, b, d)) (λ z. some-n (sym e ∙ z)) (order ∙ sym e))
+
+    -- what has the number then has it at p, and p is not the next place
+    elsewhere : (j : ℕ) → j < ringPlaces → (j ≡ p → j ≡ l .tail .next) → entryAt (keep (l .tail) entry) j .order ≡ n → ⊥
+    elsewhere j h d e =
+        here-or-not j (l .tail .next) (λ z. other (sym (ap (λ (e : Entry). e .order) (ap (entryAt (keep (l .tail) entry)) z ∙ there)) ∙ e))
+        (λ z. alone j h (λ y. z (d y)) (sym (ap (λ (e : Entry). e .order) (else j z)) ∙ e))
+
+    pub gone : p ≡ l .tail .next → keptAt (keep (l .tail) entry) n ≡ none
+    gone e = not-kept (keep (l .tail) entry) n (λ j h. elsewhere j h (λ y. y ∙ e))
+
+    pub stays : (p ≡ l .tail .next → ⊥) → keptAt (keep (l .tail) entry) n ≡ some p
+    stays h =
+        kept-by (keep (l .tail) entry) n p some-n place (ap (λ (e : Entry). e .order) (else p h) ∙ order)
+        (λ j g. elsewhere j (omega (arith, g, place)) (λ y. absurd (omega (arith, g, y))))
+
   module _ (n : ℕ) (r : Request) (a : Answer) where
     pub others-stay : Kept l n r a
         → (keptAt (keep (l .tail) entry) n ≡ none) ⊎ Kept (stepped (keep (l .tail) entry) (step (l .diary) q) .ledger) n r a
-    others-stay k = here-or-not (k .place) (l .tail .next) (λ e. inl (gone e)) (λ h. inr (stays h))
-      where
-        some-n : n ≡ 0 → ⊥
-        some-n = kept-first (l .tail) n (k .at) .0
-
-        place : k .place < ringPlaces
-        place = kept-place (l .tail) n (k .at)
-
-        order : entryAt (l .tail) (k .place) .order ≡ n
-        order = kept-order (l .tail) n (k .at)
-
-        other : suc m ≡ n → ⊥
-        other e = none-kept (l .tail) m new (k .place) place (order ∙ sym e)
-
-        -- no other place has its number
-        alone : (j : ℕ) → j < ringPlaces → (j ≡ k .place → ⊥) → entryAt (l .tail) j .order ≡ n → ⊥
-        alone j h d e =
-            below-or-not j (k .place)
-            (λ b. s .tail .differ (k .place) j place b (λ z. some-n (sym order ∙ z)) (e ∙ sym order))
-            (λ b. s .tail .differ j (k .place) h (omega (arith, b, d)) (λ z. some-n (sym e ∙ z)) (order ∙ sym e))
-
-        gone : k .place ≡ l .tail .next → keptAt (keep (l .tail) entry) n ≡ none
-        gone e =
-            not-kept (keep (l .tail) entry) n
-            (λ j h p.
-            here-or-not j (l .tail .next) (λ z. other (sym (ap (λ (e : Entry). e .order) (ap (entryAt (keep (l .tail) entry)) z ∙ there)) ∙ p))
-            (λ z. alone j h (λ y. z (y ∙ e)) (sym (ap (λ (e : Entry). e .order) (else j z)) ∙ p)))
-
-        stays : (k .place ≡ l .tail .next → ⊥) → Kept (stepped (keep (l .tail) entry) (step (l .diary) q) .ledger) n r a
-        stays h =
-            record {
-              place = k .place;
-              at =
-                  kept-by (keep (l .tail) entry) n (k .place) some-n place (ap (λ (e : Entry). e .order) (else (k .place) h) ∙ order)
-                  (λ j g p.
-                  here-or-not j (l .tail .next) (λ z. other (sym (ap (λ (e : Entry). e .order) (ap (entryAt (keep (l .tail) entry)) z ∙ there)) ∙ p))
-                  (λ z. alone j (omega (arith, g, place)) (λ y. omega (arith, g, y)) (sym (ap (λ (e : Entry). e .order) (else j z)) ∙ p)));
-              request = ap (λ (e : Entry). e .request) (else (k .place) h) ∙ k .request;
-              answer = ap (λ (e : Entry). e .answer) (else (k .place) h) ∙ k .answer;
-            }
+    others-stay k =
+        here-or-not (k .place) (l .tail .next) (λ e. inl (gone n (k .place) (k .at) e))
+        (λ h.
+        inr
+        (record {
+          place = k .place;
+          at = stays n (k .place) (k .at) h;
+          request = ap (λ (e : Entry). e .request) (else (k .place) h) ∙ k .request;
+          answer = ap (λ (e : Entry). e .answer) (else (k .place) h) ∙ k .answer;
+        }))
 
     -- and what is kept then was kept before, or is the new one
     pub kept-before : Kept (stepped (keep (l .tail) entry) (step (l .diary) q) .ledger) n r a
@@ -154,8 +158,7 @@ module _ (l : Ledger) (s : LedgerSound l) (m : ℕ) (q : Request) (new : keptAt 
       where
         this : k .place ≡ l .tail .next → (suc m ≡ n) × (q ≡ r) × (step (l .diary) q .answer ≡ a)
         this e =
-            let w : entry ≡ entryAt (keep (l .tail) entry) (k .place) = sym there ∙ ap (entryAt (keep (l .tail) entry)) (sym e) in
-            (
+            let w : entry ≡ entryAt (keep (l .tail) entry) (k .place) = sym there ∙ ap (entryAt (keep (l .tail) entry)) (sym e) in (
               ap (λ (e : Entry). e .order) w ∙ kept-order (keep (l .tail) entry) n (k .at),
               ap (λ (e : Entry). e .request) w ∙ k .request,
               ap (λ (e : Entry). e .answer) w ∙ k .answer,
@@ -209,27 +212,28 @@ kept-through l s n r a k [] h = k
 kept-through l s n r a k (c ∷ cs) h =
     kept-through (perform l c .ledger) (perform-sound l s c) n r a (kept-after l s n r a k c (h .0)) cs (h .1)
 
--- an order that is kept after a list of calls was kept before it, or was sent in it and got there the answer that is kept
+-- an order that is kept after a list of calls was kept before it, or was sent in it as a new one and got there the answer that is kept
 pub record Sent (l : Ledger) (cs : List Call) (n : ℕ) (r : Request) (a : Answer) : Type 0 where
   pub before : List Call
   pub after : List Call
   pub list : cs ≡ before ++ ordered n r ∷ after
+  pub new : keptAt (run l before .ledger .tail) n ≡ none
   pub reply : perform (run l before .ledger) (ordered n r) .reply ≡ told a
 
 module _ (n : ℕ) (r : Request) (a : Answer) where
   before-order : (l : Ledger) → LedgerSound l → (m : ℕ) (q : Request) (o : Option ℕ) → keptAt (l .tail) m ≡ o → Kept (answerOrder l m q o .ledger) n r a
-      → Kept l n r a ⊎ ((ordered m q ≡ ordered n r) × (answerOrder l m q o .reply ≡ told a))
+      → Kept l n r a ⊎ ((ordered m q ≡ ordered n r) × (keptAt (l .tail) n ≡ none) × (answerOrder l m q o .reply ≡ told a))
   before-order l s m q (some i) e k = inl k
   before-order l s zero q none e k = inl (record { place = k .place; at = k .at; request = k .request; answer = k .answer })
   before-order l s (suc m) q none e k = go (kept-before l s m q e n r a k)
     where
       go : Kept l n r a ⊎ ((suc m ≡ n) × (q ≡ r) × (step (l .diary) q .answer ≡ a))
-          → Kept l n r a ⊎ ((ordered (suc m) q ≡ ordered n r) × (answerOrder l (suc m) q none .reply ≡ told a))
+          → Kept l n r a ⊎ ((ordered (suc m) q ≡ ordered n r) × (keptAt (l .tail) n ≡ none) × (answerOrder l (suc m) q none .reply ≡ told a))
       go (inl k) = inl k
-      go (inr p) = inr (ap₂ ordered (p .0) (p .1), ap told (p .2))
+      go (inr p) = inr (ap₂ ordered (p .0) (p .1), ap (keptAt (l .tail)) (sym (p .0)) ∙ e, ap told (p .2))
 
   before-call : (l : Ledger) → LedgerSound l → (c : Call) → Kept (perform l c .ledger) n r a
-      → Kept l n r a ⊎ ((c ≡ ordered n r) × (perform l c .reply ≡ told a))
+      → Kept l n r a ⊎ ((c ≡ ordered n r) × (keptAt (l .tail) n ≡ none) × (perform l c .reply ≡ told a))
   before-call l s (ordered m q) k = before-order l s m q (keptAt (l .tail) m) refl k
   before-call l s (party m gs) k = inl (record { place = k .place; at = k .at; request = k .request; answer = k .answer })
 
@@ -238,7 +242,7 @@ module _ (n : ℕ) (r : Request) (a : Answer) where
   kept-was-sent l s [] k = inl k
   kept-was-sent l s (c ∷ cs) k = go (kept-was-sent (perform l c .ledger) (perform-sound l s c) cs k)
     where
-      now : Kept l n r a ⊎ ((c ≡ ordered n r) × (perform l c .reply ≡ told a)) → Kept l n r a ⊎ Sent l (c ∷ cs) n r a
+      now : Kept l n r a ⊎ ((c ≡ ordered n r) × (keptAt (l .tail) n ≡ none) × (perform l c .reply ≡ told a)) → Kept l n r a ⊎ Sent l (c ∷ cs) n r a
       now (inl k) = inl k
       now (inr p) =
           inr
@@ -246,13 +250,21 @@ module _ (n : ℕ) (r : Request) (a : Answer) where
             before = [];
             after = cs;
             list = ap (λ (d : Call). d ∷ cs) (p .0);
-            reply = sym (ap (λ (d : Call). perform l d .reply) (p .0)) ∙ p .1;
+            new = p .1;
+            reply = sym (ap (λ (d : Call). perform l d .reply) (p .0)) ∙ p .2;
           })
 
       go : Kept (perform l c .ledger) n r a ⊎ Sent (perform l c .ledger) cs n r a → Kept l n r a ⊎ Sent l (c ∷ cs) n r a
       go (inl k) = now (before-call l s c k)
       go (inr h) =
-          inr (record { before = c ∷ h .before; after = h .after; list = ap (λ (ds : List Call). c ∷ ds) (h .list); reply = h .reply })
+          inr
+          (record {
+            before = c ∷ h .before;
+            after = h .after;
+            list = ap (λ (ds : List Call). c ∷ ds) (h .list);
+            new = h .new;
+            reply = h .reply;
+          })
 
   -- from a fresh book on it was sent
   none-fresh : (S : Settings) → Kept (emptyLedger S) n r a → ⊥
@@ -269,6 +281,92 @@ module _ (n : ℕ) (r : Request) (a : Answer) where
       go : Kept (emptyLedger S) n r a ⊎ Sent (emptyLedger S) cs n r a → Sent (emptyLedger S) cs n r a
       go (inl k) = absurd (none-fresh S k)
       go (inr h) = h
+
+-- ---- behind how many orders one is still kept
+
+-- k more orders can be kept before place p is the next one
+abbrev Before : ℕ → ℕ → ℕ → Type 0
+Before next p k = (next + k ≡ p) ⊎ (next + k ≡ p + ringPlaces)
+
+before-other : (i p k : ℕ) → suc k < ringPlaces → Before i p (suc k) → i ≡ p → ⊥
+before-other i p k h (inl e) q = omega (arith, e, q)
+before-other i p k h (inr e) q = omega (arith, h, e, q)
+
+before-after : (i p k : ℕ) → i < ringPlaces → p < ringPlaces → Before i p (suc k) → Before (placeAfter i) p k
+before-after i p k h g b = go (eqb (suc i) ringPlaces) refl b
+  where
+    go : (t : Bool) → eqb (suc i) ringPlaces ≡ t → Before i p (suc k) → Before (cond t 0 (suc i)) p k
+    go true q (inl e) = absurd (omega (arith, g, e, eqb-true (suc i) ringPlaces q))
+    go true q (inr e) = inl (omega (arith, e, eqb-true (suc i) ringPlaces q))
+    go false q (inl e) = inl (omega (arith, e))
+    go false q (inr e) = inr (omega (arith, e))
+
+-- behind the entry that was kept last it is all the others
+before-all : (i : ℕ) → i < ringPlaces → Before (placeAfter i) i 63
+before-all i h = go (eqb (suc i) ringPlaces) refl
+  where
+    go : (t : Bool) → eqb (suc i) ringPlaces ≡ t → Before (cond t 0 (suc i)) i 63
+    go true q = inl (omega (arith, eqb-true (suc i) ringPlaces q))
+    go false q = inr (omega arith)
+
+-- an order at place p, before which k others can be kept
+record Stands (l : Ledger) (n p k : ℕ) : Type 0 where
+  at : keptAt (l .tail) n ≡ some p
+  most : k < ringPlaces
+  before : Before (l .tail .next) p k
+
+-- it is kept after each call of a list with no more new orders
+module _ (n p : ℕ) where
+  after-call : (l : Ledger) → LedgerSound l → (k m : ℕ) → Stands l n p k → (c : Call) → cond (isNew l c) 1 0 + m ≤ k
+      → (j : ℕ) × (m ≤ j) × Stands (perform l c .ledger) n p j
+  unfolding keep
+  after-call l s k m h (party q gs) e = (k, omega (arith, e), record { at = h .at; most = h .most; before = h .before })
+  after-call l s k m h (ordered zero q) e = (k, omega (arith, e), record { at = h .at; most = h .most; before = h .before })
+  after-call l s k m h (ordered (suc i) q) e = go (keptAt (l .tail) (suc i)) refl k e h
+    where
+      go : (o : Option ℕ) → keptAt (l .tail) (suc i) ≡ o → (k : ℕ) → cond (not (isSome o)) 1 0 + m ≤ k → Stands l n p k
+          → (j : ℕ) × (m ≤ j) × Stands (answerOrder l (suc i) q o .ledger) n p j
+      go (some at) f k e h = (k, omega (arith, e), h)
+      go none f zero e h = absurd (omega (arith, e))
+      go none f (suc k) e h = (
+        k,
+        omega (arith, e),
+        record {
+          at = stays l s i q f n p (h .at) (λ z. before-other (l .tail .next) p k (h .most) (h .before) (sym z));
+          most = omega (arith, h .most);
+          before = before-after (l .tail .next) p k (s .tail .next) (kept-place (l .tail) n (h .at)) (h .before);
+        },
+      )
+
+  stands-through : (l : Ledger) → LedgerSound l → (k : ℕ) → Stands l n p k → (cs : List Call) → newOrders l cs ≤ k → KeptThrough l n cs
+  stands-through l s k h [] e = tt
+  stands-through l s k h (c ∷ cs) e =
+      let a = after-call l s k (newOrders (perform l c .ledger) cs) h c e in
+      (ap isSome (a .2 .at), stands-through (perform l c .ledger) (perform-sound l s c) (a .0) (a .2) cs (a .1))
+
+-- "An order is kept until 64 new ones have come behind it": on any sound ledger, through every list of calls with fewer
+pub kept-behind : (l : Ledger) → LedgerSound l → (n : ℕ) (r : Request) → keptAt (l .tail) (suc n) ≡ none → (cs : List Call)
+    → newOrders (perform l (ordered (suc n) r) .ledger) cs < ringPlaces → KeptThrough (perform l (ordered (suc n) r) .ledger) (suc n) cs
+unfolding keep
+kept-behind l s n r new cs e =
+    stands-through (suc n) (l .tail .next) (perform l (ordered (suc n) r) .ledger) (perform-sound l s (ordered (suc n) r)) 63
+    (subst (λ (p : Performed). Stands (p .ledger) (suc n) (l .tail .next) 63) (sym (ap (answerOrder l (suc n) r) new))
+    (record { at = first-at l s n r new; most = omega arith; before = before-all (l .tail .next) (s .tail .next) }))
+    cs (omega (arith, e))
+
+-- so an order that is sent again behind fewer than 64 new ones gets the answer that it got first, and changes nothing
+pub once-done : (l : Ledger) → LedgerSound l → (n : ℕ) (r : Request) → keptAt (l .tail) (suc n) ≡ none → (cs : List Call)
+    → newOrders (perform l (ordered (suc n) r) .ledger) cs < ringPlaces
+    → perform (run l (ordered (suc n) r ∷ cs) .ledger) (ordered (suc n) r)
+    ≡ record { reply = perform l (ordered (suc n) r) .reply; ledger = run l (ordered (suc n) r ∷ cs) .ledger }
+unfolding run
+once-done l s n r new cs e =
+    let l′ : Ledger = perform l (ordered (suc n) r) .ledger in
+    let first = first-kept l s n r new in
+    let a : Answer = step (l .diary) r .answer in
+    let k : Kept (run l′ cs .ledger) (suc n) r a
+    = kept-through l′ (perform-sound l s (ordered (suc n) r)) (suc n) r a (first .1) cs (kept-behind l s n r new cs e) in
+    sent-again (run l′ cs .ledger) (suc n) r a k ∙ ap (λ (o : Reply). record { reply = o; ledger = run l′ cs .ledger }) (sym (first .0))
 
 -- ---- orders sent again in a list
 
@@ -299,22 +397,76 @@ pub resent-fresh : (S : Settings) → validSettings S ≡ true → (ss : List Se
     → Resent ss (calls (freshBook S) (allSent ss)) (calls (freshBook S) (onceSent ss))
 resent-fresh S e ss k = resent-book (freshBook S) (emptyLedger S) (fresh-shows S e) ss k
 
--- and of lists of words, eight an order: the one list has the repeats, the other has not. On a book that passes questions 1 and 2 and on
--- a book laid anew, the words of the book are the same after both.
+-- the words of the replies
+reply-long : (p : Reply) → length (replyWords p) ≡ 3
+reply-long (told (Done v)) = refl
+reply-long (told (Refused n p)) = refl
+
+replies-long : (rs : List Reply) → length (repliesWords rs) ≡ 3 * length rs
+unfolding repliesWords
+replies-long [] = refl
+replies-long (p ∷ rs) = length-append (replyWords p) (repliesWords rs) ∙ omega (arith, reply-long p, replies-long rs)
+
+once-words : (ss : List Sending) (rs : List Reply) → length rs ≡ length ss → (w : List ℕ)
+    → onceAnswered ss (repliesWords rs ++ w) ≡ repliesWords (onceReplied ss rs)
+unfolding onceAnswered repliesWords
+once-words [] rs e w = refl
+once-words (s ∷ ss) [] e w = absurd (omega (arith, e))
+once-words (once c ∷ ss) (told (Done v) ∷ rs) e w = ap (λ (v′ : List ℕ). 0 ∷ 0 ∷ v ∷ v′) (once-words ss rs (omega (arith, e)) w)
+once-words (once c ∷ ss) (told (Refused n p) ∷ rs) e w = ap (λ (v : List ℕ). n ∷ p ∷ 0 ∷ v) (once-words ss rs (omega (arith, e)) w)
+once-words (again m r ∷ ss) (told (Done v) ∷ rs) e w = once-words ss rs (omega (arith, e)) w
+once-words (again m r ∷ ss) (told (Refused n p) ∷ rs) e w = once-words ss rs (omega (arith, e)) w
+
+run-long : (l : Ledger) (cs : List Call) → length (run l cs .replies) ≡ length cs
+unfolding run
+run-long l [] = refl
+run-long l (c ∷ cs) = ap suc (run-long (perform l c .ledger) cs)
+
+sent-long : (ss : List Sending) → length (allSent ss) ≡ length ss
+sent-long [] = refl
+sent-long (once c ∷ ss) = ap suc (sent-long ss)
+sent-long (again n r ∷ ss) = ap suc (sent-long ss)
+
+list-long : (k n : ℕ) (w : List ℕ) → length (callsOf k n w) ≡ n
+unfolding callsOf
+list-long k zero w = refl
+list-long k (suc n) w = ap suc (list-long k n (drop k w))
+
+-- and of lists of words, eight an order: the one list has the repeats, the other, of n orders, has not. The words of the book are the
+-- same after both, and the words of the answers are, but for those to the repeats.
+pub record ResentWords (ss : List Sending) (n : ℕ) (all-listed once-listed : Listed) : Type 0 where
+  pub book : all-listed .book ≡ once-listed .book
+  pub answers : onceAnswered ss (all-listed .answers) ≡ take (3 * n) (once-listed .answers)
+
+resent-listed : (l : Ledger) (ss : List Sending) → WhileKept l ss → (m n : ℕ) → length (onceSent ss) ≡ n → (a c : List ℕ)
+    → ResentWords ss n (listed m a (shownBy (run l (allSent ss)))) (listed n c (shownBy (run l (onceSent ss))))
+resent-listed l ss k m n e a c =
+    let r = resent l ss k in
+    let rs : List Reply = run l (onceSent ss) .replies in
+    record {
+      book = ap bookWords (r .0);
+      answers =
+          once-words ss (run l (allSent ss) .replies) (run-long l (allSent ss) ∙ sent-long ss) (drop (3 * m) a) ∙ ap repliesWords (r .1)
+          ∙ sym (take-at (repliesWords rs) (drop (3 * n) c) (3 * n) (omega (arith, replies-long rs, run-long l (onceSent ss), e)));
+    }
+
+-- on a book that passes questions 1 and 2, and on a book laid anew
 module _ (w v a c : List ℕ) (ss : List Sending) (all-words : callsOf orderLength (answerable orderLength w a) w ≡ allSent ss)
     (once-words : callsOf orderLength (answerable orderLength v c) v ≡ onceSent ss) where
-  pub orders-resent : (b : List ℕ) → Passes b → WhileKept (ledgerOf b) ss → callList orderLength b w a .book ≡ callList orderLength b v c .book
+  count : length (onceSent ss) ≡ answerable orderLength v c
+  count = sym (ap length once-words) ∙ list-long orderLength (answerable orderLength v c) v
+
+  pub orders-resent : (b : List ℕ) → Passes b → WhileKept (ledgerOf b) ss
+      → ResentWords ss (answerable orderLength v c) (callList orderLength b w a) (callList orderLength b v c)
   unfolding callList
   orders-resent b p k =
-      rw (p .one, p .two, all-words, once-words) (resent-book b (ledgerOf b) (passes-shows b p) ss k .book)
+      let h : Shows b (ledgerOf b) = passes-shows b p in
+      rw (p .one, p .two, all-words, once-words, shown-calls b (ledgerOf b) h (allSent ss), shown-calls b (ledgerOf b) h (onceSent ss))
+      (resent-listed (ledgerOf b) ss k (answerable orderLength w a) (answerable orderLength v c) count a c)
 
-  pub served-resent : (s b : List ℕ) → WhileKept (emptyLedger (settingsOf s)) ss → serveList orderLength s b w a .book ≡ serveList orderLength s b v c .book
+  pub served-resent : (s b : List ℕ) → settingsGood s ≡ true → length b ≡ bookLength (settingsOf s) → WhileKept (emptyLedger (settingsOf s)) ss
+      → ResentWords ss (answerable orderLength v c) (serveList orderLength s b w a) (serveList orderLength s b v c)
   unfolding serveList
-  served-resent s b k = go (settingsGood s) (eqb (length b) (bookLength (settingsOf s)))
-    where
-      go : (g f : Bool)
-          → servedList g f (settingsOf s) (answerable orderLength w a) b (callsOf orderLength (answerable orderLength w a) w) a .book
-          ≡ servedList g f (settingsOf s) (answerable orderLength v c) b (callsOf orderLength (answerable orderLength v c) v) c .book
-      go false f = refl
-      go true false = refl
-      go true true = rw (all-words, once-words) (ap bookWords (resent (emptyLedger (settingsOf s)) ss k .0))
+  served-resent s b g f k =
+      rw (g, eq-eqb (length b) (bookLength (settingsOf s)) f, all-words, once-words)
+      (resent-listed (emptyLedger (settingsOf s)) ss k (answerable orderLength w a) (answerable orderLength v c) count a c)

@@ -1,16 +1,17 @@
 -- Orders sent again (rule 18.7): what it is for an order to be kept, and lists of calls in which orders are sent again while they are.
 -- Assumes nothing.
-use Prim.Native.Nat.{ℕ}
+use Prim.Native.Nat.{ℕ, zero, suc, _+_}
 use mathlib.Core.Path.{_≡_}
-use mathlib.Core.Bool.{true}
+use mathlib.Core.Bool.{Bool, true, false, not, cond}
 use mathlib.Core.Option.{some}
-use mathlib.Core.List.{List, [], _∷_}
+use mathlib.Core.List.{List, [], _∷_, _++_}
+use lib.ListN.{take, drop}
 use Rattle.model.specs.declared.Request.{Request}
 use Rattle.model.specs.declared.Answer.{Answer}
 use Rattle.model.specs.Bounded.{isSome}
 use Rattle.model.specs.Tail.{entryAt, keptAt}
 use Rattle.model.specs.Ledger.{Ledger}
-use Rattle.model.specs.Machine.{Call, ordered, Reply, perform}
+use Rattle.model.specs.Machine.{Call, ordered, party, Reply, perform}
 
 -- a ledger keeps order n: its number stands in the ring
 abbrev pub IsKept : Ledger → ℕ → Type 0
@@ -27,6 +28,16 @@ pub record Kept (l : Ledger) (n : ℕ) (r : Request) (a : Answer) : Type 0 where
 abbrev pub KeptThrough : Ledger → ℕ → List Call → Type 0
 KeptThrough l n [] = Unit {0}
 KeptThrough l n (c ∷ cs) = IsKept (perform l c .ledger) n × KeptThrough (perform l c .ledger) n cs
+
+-- how many orders of a list of calls are not kept where they come: these are the ones that take the next place
+abbrev pub isNew : Ledger → Call → Bool
+isNew l (ordered zero r) = false
+isNew l (ordered (suc n) r) = not (isSome (keptAt (l .tail) (suc n)))
+isNew l (party m gs) = false
+
+abbrev pub newOrders : Ledger → List Call → ℕ
+newOrders l [] = 0
+newOrders l (c ∷ cs) = cond (isNew l c) 1 0 + newOrders (perform l c .ledger) cs
 
 -- a call, or an order sent again
 pub data Sending : Type 0 where
@@ -56,3 +67,9 @@ onceReplied [] replies = []
 onceReplied (s ∷ ss) [] = []
 onceReplied (once c ∷ ss) (a ∷ later) = a ∷ onceReplied ss later
 onceReplied (again n r ∷ ss) (a ∷ later) = onceReplied ss later
+
+-- the words of the answers without those to the repeats, three an answer
+unfoldable pub onceAnswered : List Sending → List ℕ → List ℕ
+onceAnswered [] w = []
+onceAnswered (once c ∷ ss) w = take 3 w ++ onceAnswered ss (drop 3 w)
+onceAnswered (again n r ∷ ss) w = onceAnswered ss (drop 3 w)
