@@ -1,5 +1,5 @@
--- Reachable = lawful: the books of 32-bit words that keep no order and pass questions 1 and 2 are the books after a list of requests of
--- 32-bit words, without orders, on a fresh one.
+-- Reachable = lawful: the books of 32-bit words that pass questions 1 and 2, with an empty ring and the next place 0, are the books after
+-- a list of requests of 32-bit words, without orders, on a fresh one.
 -- Assumes nothing.
 use Prim.Native.Nat.{ℕ, zero, suc, _/_, _%_, _<_}
 use mathlib.Core.Path.{_≡_, refl, sym, _∙_, ap}
@@ -209,8 +209,8 @@ pub record Reached (b : List ℕ) : Type 0 where
   pub small : every ofWords list ≡ true
   pub book : calls (freshBook settings) (sent list) .book ≡ b
 
--- "A book of 32-bit words passes questions 1 and 2 and keeps no order exactly when a list of requests without orders leads to it from a
--- fresh book." Of a ring the law asks less: it may have gaps, and answers that no request got.
+-- "A book of 32-bit words passes questions 1 and 2, its ring is empty and the next place 0, exactly when a list of requests without orders
+-- leads to it from a fresh book." Of a ring the law asks less: it may have gaps, and answers that no request got.
 pub passes-iff-reached : (b : List ℕ) → every isWord b ≡ true → (Passes b × (ledgerOf b .tail ≡ emptyTail)) ↔ Reached b
 unfolding ledgerOf emptyLedger
 passes-iff-reached b w = (λ p. to (p .0) (p .1), λ h. (from h, unordered h))

@@ -28,7 +28,7 @@ use Rattle.model.specs.Resent.{IsKept, Kept, KeptThrough, isNew, newOrde
 use Rattle.model.proofs.Search.{and-true}
 use Rattle.model.proofs.Tail.{empty-at, kept-there, kept-else, here-or-not, none-kept, kept-first, kept-place, kept-order, kept-by, not-kept}
 use Rattle.model.proofs.Ledger.{LedgerSound}
-use Rattle.model.proofs.Calls.{perform-sound, empty-ledger}
+use Rattle.model.proofs.Calls.{kept-leaves, perform-sound, empty-ledger}
 use Rattle.model.proofs.Shows.{Shows, Passes, passes-shows, fresh-shows, shown-calls}
 
 below-or-not : {P : Type 0} (i n : ℕ) → (i < n → P) → (n ≤ i → P) → P
@@ -57,7 +57,7 @@ kept-stays l n r e = go (keptAt (l .tail) n) e
   where
     go : (o : Option ℕ) → isSome o ≡ true → answerOrder l n r o .ledger ≡ l
     go none e = absurd (false≢true e)
-    go (some i) e = refl
+    go (some i) e = kept-leaves l n r i
 
 -- sent again, it gets the answer that is kept with it
 pub sent-again : (l : Ledger) (n : ℕ) (r : Request) (a : Answer) → Kept l n r a → perform l (ordered n r) ≡ record { reply = told a; ledger = l }

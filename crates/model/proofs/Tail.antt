@@ -3,13 +3,13 @@
 -- Assumes nothing.
 use Prim.Native.Nat.{ℕ, zero, suc, _+_, _*_, _-_, _≤_, _<_}
 use mathlib.Core.Path.{_≡_, refl, sym, ap, ap₂, _∙_, subst}
-use mathlib.Core.Bool.{Bool, true, false, not, _&&_, _||_, cond, false≢true}
-use mathlib.Core.Option.{Option, none, some}
+use mathlib.Core.Bool.{Bool, true, false, not, _||_, cond, false≢true}
+use mathlib.Core.Option.{none, some}
 use mathlib.Core.List.{List, [], _∷_, _++_, append-assoc}
 use native.Mathlib.Omega.{arith}
 use lib.Dec.{eqb}
 use lib.ListN.{length, getD, take, drop, set, replicate, length-append, length-set, length-drop, length-replicate, getD-replicate, List·getD-append}
-use lib.Seq.{length-take-le, take-suc, take-all, getD-take, getD-drop, take-append-add, drop-append-add, sets, sets-eq, set-at, getD-set-same, getD-set-other, take-add, take-at, drop-at, getD-at, drop-drop, ext-getD}
+use lib.Seq.{length-take-le, take-suc, take-all, getD-take, getD-drop, take-append-add, drop-append-add, sets, sets-eq, set-at, getD-set-same, getD-set-other, take-add, drop-at, getD-at, drop-drop, ext-getD}
 use borrow.Author.Tests.{eqb-true, eq-eqb, ne-eqb, lt-ltb, ltb-true}
 use Rattle.model.specs.declared.Request.{Request}
 use Rattle.model.specs.declared.Answer.{Answer}
@@ -317,6 +317,10 @@ pub kept-else : (t : Tail) (e : Entry) (i : ℕ) → (i ≡ t .next → ⊥) →
 unfolding keep
 kept-else t e i h = getD-set-other (t .ring) (t .next) i e emptyEntry h
 
+pub kept-next : (t : Tail) (e : Entry) → keep t e .next ≡ placeAfter (t .next)
+unfolding keep
+kept-next t e = refl
+
 -- a place is the next one or another
 pub here-or-not : {P : Type 0} (i n : ℕ) → (i ≡ n → P) → ((i ≡ n → ⊥) → P) → P
 here-or-not {P} i n here away = decide (eqb i n) refl
@@ -354,7 +358,7 @@ keep-sound t s e h new =
         s .differ i j l k (λ o. z (ap order (kept-else t e i a) ∙ o)) (sym (ap order (kept-else t e j b)) ∙ q ∙ ap order (kept-else t e i a))))
 
     next : keep t e .next < ringPlaces
-    next = go (eqb (suc (t .next)) ringPlaces) refl
+    next = subst (λ (i : ℕ). i < ringPlaces) (sym (kept-next t e)) (go (eqb (suc (t .next)) ringPlaces) refl)
       where
         go : (b : Bool) → eqb (suc (t .next)) ringPlaces ≡ b → cond b 0 (suc (t .next)) < ringPlaces
         go true q = omega arith
@@ -437,10 +441,17 @@ pub not-kept : (t : Tail) (n : ℕ) → ((i : ℕ) → i < ringPlaces → entryA
 not-kept t zero f = refl
 not-kept t (suc n) f = lowest-by _ 0 ringPlaces none (λ j l h. ne-eqb _ _ (f j (omega (arith, h))))
 
+-- an order is noted by keeping its entry, whatever the answer
+pub noted-is : (t : Tail) (n : ℕ) → (n ≡ 0 → ⊥) → (r : Request) (a : Answer) → keep t (record { order = n; request = r; answer = a }) ≡ noted t n r a
+noted-is t zero h r a = absurd (h refl)
+noted-is t (suc n) h r a = refl
+
 pub noted-sound : (t : Tail) → TailSound t → (n : ℕ) → keptAt t n ≡ none → (r : Request) (a : Answer) → Tellable a → TailSound (noted t n r a)
 noted-sound t s zero e r a h = s
 noted-sound t s (suc n) e r a h =
-    keep-sound t s (record { order = suc n; request = r; answer = a }) (record { answer = h; unless = λ z. absurd (omega (arith, z)) }) (none-kept t n e)
+    let some-n : suc n ≡ 0 → ⊥ = λ z. omega (arith, z) in
+    subst TailSound (noted-is t (suc n) some-n r a)
+    (keep-sound t s (record { order = suc n; request = r; answer = a }) (record { answer = h; unless = λ z. absurd (some-n z) }) (none-kept t n e))
 
 -- a fresh tail keeps nothing, it is sound, and its words are zeros
 pub empty-at : (i : ℕ) → i < ringPlaces → entryAt emptyTail i ≡ emptyEntry

@@ -43,7 +43,7 @@ requestOf w =
       info = getD w 6 0;
     }
 
--- two requests have the same seven words
+-- two requests have the same seven words (rule 5.28)
 unfoldable pub sameRequest : Request → Request → Bool
 sameRequest p q =
     eqb (p .kind) (q .kind)

@@ -1,8 +1,8 @@
--- What a book keeps behind the rides (section 18): the ring of the last 64 orders, and the place where the next one goes. What is to
--- stand there gets its words, its reading and its law here; beyond this file no more is known of them than proofs/Tail says.
+-- What a book keeps behind the rides (section 18): the ring of 64 places for orders, and the place where the next one goes. Its words,
+-- its reading and its law are defined here; their laws are in proofs/Tail.
 -- Assumes nothing.
 use Prim.Native.Nat.{ℕ, zero, suc, _+_, _*_}
-use mathlib.Core.Bool.{Bool, true, not, _&&_, _||_, cond}
+use mathlib.Core.Bool.{Bool, not, _&&_, _||_, cond}
 use mathlib.Core.Option.{Option, none}
 use mathlib.Core.List.{List, [], _∷_, _++_}
 use lib.Dec.{ltb, eqb}
@@ -93,11 +93,11 @@ wordOf w i j = getD w (i * entryLength + j) 0
 abbrev pub numberDiffers : List ℕ → ℕ → Bool
 numberDiffers w i = eqb (wordOf w i 0) 0 || not (any (λ j. eqb (wordOf w j 0) (wordOf w i 0)) i)
 
--- an entry numbered 0 is all zeros,
+-- without a number the eleven words are 0,
 abbrev pub emptyUnlessNumbered : List ℕ → ℕ → Bool
 emptyUnlessNumbered w i = not (eqb (wordOf w i 0) 0) || all (λ j. eqb (wordOf w i j) 0) entryLength
 
--- a kept answer has place 0 if it is done, and value 0 if it is refused,
+-- the words of the answer are those of one: no place beside number 0, and no value beside another,
 abbrev pub answerTold : List ℕ → ℕ → Bool
 answerTold w i = cond (eqb (wordOf w i 8) 0) (eqb (wordOf w i 9) 0) (eqb (wordOf w i 10) 0)
 

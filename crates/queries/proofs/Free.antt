@@ -16,7 +16,7 @@ use Rattle.model.specs.State.{State}
 use Rattle.model.specs.Words.{standings}
 use Rattle.model.specs.Questions.{lowestFree, standsOn}
 use Rattle.model.specs.Reading.{stateOf, readState}
-use Rattle.model.proofs.Search.{lowest-by, any-true, any-false, true-any, false-any, none-failing, failing-none, and-true, and-left, and-right}
+use Rattle.model.proofs.Search.{any-true, any-false, true-any, false-any, none-failing, failing-none, and-true, and-left, and-right}
 use Rattle.model.proofs.Search.{any-same, within-true, true-within, both}
 use Rattle.book.specs.declared.found.Found.the-variants.{At, Nothing}
 use Rattle.book.specs.Founds.{foundOf}
@@ -24,6 +24,7 @@ use Rattle.book.specs.Good.{Good}
 use Rattle.book.specs.Grids.{cellAt, gridOf}
 use Rattle.units.specs.Units.{Cut}
 use Rattle.units.proofs.Cuts.{between-cuts}
+use Rattle.book.proofs.Founds.{found-at, found-none}
 use Rattle.book.proofs.Goods.{good-state}
 use Rattle.queries.specs.Shown.{roomTaken}
 use Rattle.queries.proofs.Shows.{standing-is}
@@ -46,15 +47,13 @@ free-no x first last c s l k e = go (failing (λ s. not (roomTaken x c s)) first
 pub lowest-none : (x : State) (first last : ℕ) → ((c : ℕ) → c < x .settings .rooms → freeIn x first last c ≡ false) → Nothing
     ≡ foundOf (lowestFree x first last)
 unfolding lowestFree roomTaken
-lowest-none x first last h = sym (ap foundOf (lowest-by (freeIn x first last) 0 (x .settings .rooms) none (λ c l k. h c (omega (arith, k)))))
+lowest-none x first last h = found-none (freeIn x first last) (x .settings .rooms) h
 
 pub lowest-at : (x : State) (first last c : ℕ) → c < x .settings .rooms → ((e : ℕ) → e < c → freeIn x first last e ≡ false) → freeIn x first last c
     ≡ true
     → At c ≡ foundOf (lowestFree x first last)
 unfolding lowestFree roomTaken
-lowest-at x first last c l h e =
-    sym (ap foundOf (lowest-by (freeIn x first last) 0 (x .settings .rooms) (some c)
-    (record { low = omega arith; high = omega (arith, l); holds = e; first = λ j a b. h j b })))
+lowest-at x first last c l h e = found-at (freeIn x first last) (x .settings .rooms) c h l e
 
 -- the sessions of a date are those between two cuts
 module _ (x : State) (d m lo hi : ℕ) (a : Cut (x .settings) sessions d lo) (b : Cut (x .settings) sessions (d + 1) hi) where

@@ -1,4 +1,4 @@
--- What the ring's functions need of the words of a tail: searches by number, the words of an entry, and an entry stored word by word.
+-- What the ring's functions need of the words of a tail: the words of an entry, and an entry stored word by word.
 -- Assumes nothing.
 use Prim.Native.Nat.{ℕ, zero, suc, _+_, _*_, _<_}
 use mathlib.Core.Path.{_≡_, refl, sym, _∙_, ap, ap₂}
@@ -7,7 +7,7 @@ use mathlib.Core.Option.{Option, none, some}
 use mathlib.Core.List.{List, [], _∷_}
 use native.Mathlib.Omega.{arith}
 use lib.Dec.{eqb}
-use lib.ListN.{length, getD, drop, set, length-set}
+use lib.ListN.{length, getD, drop, set}
 use lib.Seq.{getD-drop, drop-drop, sets, length-sets}
 use borrow.Author.Tests.{eq-eqb, ne-eqb}
 use Rattle.model.specs.declared.Request.{Request}
@@ -15,24 +15,15 @@ use Rattle.model.specs.declared.Answer.{Answer}
 use Rattle.model.specs.declared.Answer.the-variants.{Done, Refused}
 use Rattle.model.specs.Bounded.{lowest, any, all, isSome}
 use Rattle.model.specs.Messages.{toldBy, requestOf, sameRequest}
-use Rattle.model.specs.Tail.{Entry, ringPlaces, ringLength, entryAt, entryLength, entryOf, entryWords, entryKept, keep, keptAt, noted, placeAfter}
+use Rattle.model.specs.Tail.{Entry, ringPlaces, ringLength, entryAt, entryLength, entryKept, keptAt, noted, placeAfter}
 use Rattle.model.specs.Tail.{answerTold, nextWithin, tailKept, tailLength, tailOf, tailWords, wordOf}
 use Rattle.model.specs.Machine.{keptAnswer}
-use Rattle.model.proofs.Search.{lowest-by, lowest-same, all-true, true-all, both, never, passed-more}
-use Rattle.model.proofs.Tail.{entry-at, order-at, keep-words, tail-read, tail-shown}
+use Rattle.model.proofs.Search.{lowest-same, all-true, true-all, both, never}
+use Rattle.model.proofs.Tail.{entry-at, order-at, keep-words, noted-is, tail-read, tail-shown}
 use Rattle.book.specs.declared.found.Found.{Found}
 use Rattle.book.specs.declared.found.Found.the-variants.{At, Nothing}
 use Rattle.book.specs.Founds.{foundOf}
 use Rattle.ring.specs.Stores.{storedFrom, entryPut, entryKeptAt}
-
--- ---- searches
-
-pub found-at : (p : ℕ → Bool) (n i : ℕ) → ((k : ℕ) → k < i → p k ≡ false) → i < n → p i ≡ true → At i ≡ foundOf (lowest p 0 n)
-found-at p n i f h e =
-    ap foundOf (sym (lowest-by p 0 n (some i) (record { low = omega arith; high = omega (arith, h); holds = e; first = λ j l. f j })))
-
-pub found-none : (p : ℕ → Bool) (n : ℕ) → ((k : ℕ) → k < n → p k ≡ false) → Nothing ≡ foundOf (lowest p 0 n)
-found-none p n f = ap foundOf (sym (lowest-by p 0 n none (λ j l h. f j (omega (arith, h)))))
 
 -- ---- the words of an entry
 
@@ -121,26 +112,19 @@ put-long w at n r number place value =
 
 -- an order is kept with an answer that is done, and with one that is refused
 module _ (w : List ℕ) (l : length w ≡ tailLength) (k : tailKept w ≡ true) (n : ℕ) (h : n ≡ 0 → ⊥) (r : Request) where
-  note-is : (a : Answer) → keep (tailOf w) (record { order = n; request = r; answer = a }) ≡ noted (tailOf w) n r a
-  note-is a = go n h
-    where
-      go : (m : ℕ) → (m ≡ 0 → ⊥) → keep (tailOf w) (record { order = m; request = r; answer = a }) ≡ noted (tailOf w) m r a
-      go zero h = absurd (h refl)
-      go (suc m) h = refl
-
   pub done-kept : (v : ℕ) → entryKeptAt w n r 0 0 v ≡ tailWords (noted (tailOf w) n r (Done v))
   unfolding entryKeptAt
   done-kept v =
       ap (λ (u : List ℕ). set u ringLength (placeAfter (getD w ringLength 0))) (put-sets w (getD w ringLength 0 * entryLength) n r 0 0 v)
       ∙ keep-words w l k (record { order = n; request = r; answer = Done v })
-      ∙ ap tailWords (note-is (Done v))
+      ∙ ap tailWords (noted-is (tailOf w) n h r (Done v))
 
   pub refused-kept : (m p : ℕ) → entryKeptAt w n r m p 0 ≡ tailWords (noted (tailOf w) n r (Refused m p))
   unfolding entryKeptAt
   refused-kept m p =
       ap (λ (u : List ℕ). set u ringLength (placeAfter (getD w ringLength 0))) (put-sets w (getD w ringLength 0 * entryLength) n r m p 0)
       ∙ keep-words w l k (record { order = n; request = r; answer = Refused m p })
-      ∙ ap tailWords (note-is (Refused m p))
+      ∙ ap tailWords (noted-is (tailOf w) n h r (Refused m p))
 
 -- the next place of words that keep the law, and words without an order to keep
 module _ (w : List ℕ) (l : length w ≡ tailLength) (k : tailKept w ≡ true) where
@@ -156,9 +140,6 @@ module _ (w : List ℕ) (l : length w ≡ tailLength) (k : tailKept w ≡ true) 
 
 pub one-fails : (p : ℕ → Bool) (n i : ℕ) → i < n → p i ≡ false → false ≡ all p n
 one-fails p n i h e = sym (never (all p n) (λ q. both (all-true p n q i h) e))
-
-pub passed-one : (p : ℕ → Bool) (i : ℕ) → ((k : ℕ) → k < i → p k ≡ true) → p i ≡ true → (k : ℕ) → k < i + 1 → p k ≡ true
-passed-one p i f e k h = passed-more p 0 i (λ j l. f j) e k (omega arith) h
 
 pub tail-fails : (w : List ℕ) (i : ℕ) → i < ringPlaces → entryKept w i ≡ false → false ≡ tailKept w
 unfolding tailKept

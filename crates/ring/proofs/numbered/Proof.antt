@@ -8,8 +8,9 @@ use lib.Dec.{eqb}
 use borrow.Author.Tests.{eq-eqb, ne-eqb}
 use borrow.Author.Needs.{needs}
 use Rattle.model.specs.Tail.{wordOf, tailLength}
-use Rattle.model.proofs.Search.{passed-false}
-use Rattle.ring.proofs.Entries.{found-at, found-none, first-word}
+use Rattle.model.proofs.Search.{passed-first}
+use Rattle.book.proofs.Founds.{found-at, found-none}
+use Rattle.ring.proofs.Entries.{first-word}
 use Rattle.ring.proofs.numbered.Statement.{statement}
 use Rattle.ring.proofs.numbered.Tie as tie
 
@@ -50,7 +51,7 @@ loop-less c = search needs
 loop-again : tie.Need-loop-again Inv-loop μ-loop
 loop-again c = let l = c .before .before .before .loop in
     let a = c .before .before .before .before .args in
-    (omega arith, passed-false _ (l .i) (l .inv .1) (ne-eqb _ _ (λ e. c .if1 .left (first-word (a .tail .now) (l .i) ∙ e))))
+    (omega arith, passed-first _ (l .i) (l .inv .1) (ne-eqb _ _ (λ e. c .if1 .left (first-word (a .tail .now) (l .i) ∙ e))))
 
 returns-2 : tie.Need-returns-2 Inv-loop μ-loop
 returns-2 c = let l = c .before .loop in

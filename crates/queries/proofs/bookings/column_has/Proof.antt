@@ -11,7 +11,7 @@ use Rattle.model.specs.Bounded.{one}
 use Rattle.model.proofs.Sums.{sum-empty, sum-zero, one-zero}
 use Rattle.book.specs.Grids.{cellAt}
 use Rattle.queries.specs.Shown.{columnCount}
-use Rattle.model.proofs.Search.{passed-from}
+use Rattle.model.proofs.Search.{passed-more}
 use Rattle.queries.proofs.bookings.column_has.Statement.{statement}
 use Rattle.queries.proofs.bookings.column_has.Tie as tie
 
@@ -46,7 +46,7 @@ loop-less c = omega (arith, c .before .before .loop-test .taken)
 loop-again : tie.Need-loop-again Inv-loop μ-loop
 loop-again c =
     let l = c .before .before .before .loop in
-    (omega arith, passed-from _ _ (l .i) (l .inv .1) (ap not (eq-eqb _ 0 (sym (c .before .cell .ensures) ∙ c .if1 .left))))
+    (omega arith, passed-more _ _ (l .i) (l .inv .1) (ap not (eq-eqb _ 0 (sym (c .before .cell .ensures) ∙ c .if1 .left))))
 
 returns-2 : tie.Need-returns-2 Inv-loop μ-loop
 unfolding columnCount

@@ -8,7 +8,7 @@ use native.Mathlib.Omega.{arith}
 use Rattle.model.specs.Bounded.{bit}
 use Rattle.book.specs.Grids.{cellAt}
 use Rattle.queries.proofs.Free.{between-yes, between-no}
-use Rattle.model.proofs.Search.{passed-from}
+use Rattle.model.proofs.Search.{passed-more}
 use Rattle.queries.proofs.entries.member_between.Statement.{statement}
 use Rattle.queries.proofs.entries.member_between.Tie as tie
 
@@ -38,7 +38,7 @@ loop-less c = omega (arith, c .before .before .loop-test .taken)
 loop-again : tie.Need-loop-again Inv-loop μ-loop
 loop-again c =
     let l = c .before .before .before .loop in
-    (omega arith, passed-from _ _ (l .i) (l .inv .1) (sym (c .before .member .ensures) ∙ c .if1 .left))
+    (omega arith, passed-more _ _ (l .i) (l .inv .1) (sym (c .before .member .ensures) ∙ c .if1 .left))
 
 returns-2 : tie.Need-returns-2 Inv-loop μ-loop
 returns-2 c =

@@ -14,7 +14,7 @@ use Rattle.book.proofs.Goods.{good-state, good-lies}
 use Rattle.queries.specs.Shown.{roomTaken}
 use Rattle.queries.proofs.Free.{freeIn, free-yes, free-no, lowest-none, lowest-at}
 use Rattle.queries.proofs.Shows.{room-taken-is}
-use Rattle.model.proofs.Search.{passed-false, passed-from}
+use Rattle.model.proofs.Search.{passed-first, passed-more}
 use Rattle.queries.proofs.rooms.lowest_free.Statement.{statement}
 use Rattle.queries.proofs.rooms.lowest_free.Tie as tie
 
@@ -59,7 +59,7 @@ rooms-again c =
     let e = rw (s .pre .1 .0) at (c .before .cell .ensures) in
     let t = room-taken-is (a .site .settings) (reading (a .book .now)) (s .pre .0) (r .next) (l .slot) (omega (arith, s .pre .1 .1 .1)) (omega arith) in (
       omega arith,
-      passed-false _ (r .next) (r .inv .1)
+      passed-first _ (r .next) (r .inv .1)
           (free-no (stateOf (reading (a .book .now))) (a .first .0) (a .last .0) (r .next) (l .slot) (l .inv .0) (l .inv .1)
           (t ∙ rw (← e) (ap not (ne-eqb _ 0 (c .if2 .taken))))),
     )
@@ -78,7 +78,7 @@ loop-again c =
     let l = c .before .before .before .before .loop in
     let e = rw (s .pre .1 .0) at (c .before .before .cell .ensures) in
     let t = room-taken-is (a .site .settings) (reading (a .book .now)) (s .pre .0) (r .next) (l .slot) (omega (arith, s .pre .1 .1 .1)) (omega arith) in
-    (omega arith, omega arith, passed-from _ _ (l .slot) (l .inv .2) (t ∙ rw (← e) (ap not (eq-eqb _ 0 (c .before .if2 .left)))))
+    (omega arith, omega arith, passed-more _ _ (l .slot) (l .inv .2) (t ∙ rw (← e) (ap not (eq-eqb _ 0 (c .before .if2 .left)))))
 
 returns : tie.Need-returns Inv-loop μ-loop Inv-rooms μ-rooms
 unfolding readState
@@ -102,7 +102,7 @@ returns-3 c =
     let n : stateOf (reading (a .book .now)) .settings .rooms ≡ a .site .settings .rooms = ap (λ (x : State). x .settings .rooms) (good-state (s .pre .0)) in
     let e = rw (s .pre .1 .0) at (c .before .before .cell .ensures) in
     let t = room-taken-is (a .site .settings) (reading (a .book .now)) (s .pre .0) (r .next) (l .slot) (omega (arith, s .pre .1 .1 .1)) (omega arith) in
-    let all = passed-from _ _ (l .slot) (l .inv .2) (t ∙ rw (← e) (ap not (eq-eqb _ 0 (c .before .if2 .left)))) in
+    let all = passed-more _ _ (l .slot) (l .inv .2) (t ∙ rw (← e) (ap not (eq-eqb _ 0 (c .before .if2 .left)))) in
     lowest-at (stateOf (reading (a .book .now))) (a .first .0) (a .last .0) (r .next) (omega (arith, n)) (r .inv .1)
     (free-yes (stateOf (reading (a .book .now))) (a .first .0) (a .last .0) (r .next) (λ k h g. all k h (omega (arith, g))))
 

@@ -9,8 +9,8 @@ use lib.ListN.{getD}
 use borrow.Author.Tests.{eq-eqb, ne-eqb}
 use borrow.Author.Needs.{needs}
 use Rattle.model.specs.Tail.{entryLength}
-use Rattle.model.proofs.Search.{true-all}
-use Rattle.ring.proofs.Entries.{one-fails, passed-one}
+use Rattle.model.proofs.Search.{true-all, passed-first}
+use Rattle.ring.proofs.Entries.{one-fails}
 use Rattle.ring.proofs.law.all_zero.Statement.{statement}
 use Rattle.ring.proofs.law.all_zero.Tie as tie
 
@@ -45,7 +45,7 @@ loop-less c = search needs
 
 loop-again : tie.Need-loop-again Inv-loop μ-loop
 loop-again c = let l = c .before .before .before .loop in
-    (omega arith, passed-one _ (l .j) (l .inv .1) (eq-eqb _ 0 (c .if1 .left)))
+    (omega arith, passed-first _ (l .j) (l .inv .1) (eq-eqb _ 0 (c .if1 .left)))
 
 returns-2 : tie.Need-returns-2 Inv-loop μ-loop
 returns-2 c = let l = c .before .loop in

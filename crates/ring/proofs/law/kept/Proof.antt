@@ -7,7 +7,8 @@ use native.Mathlib.Omega.{arith}
 use borrow.Author.Tests.{not-true, not-false}
 use borrow.Author.Needs.{needs}
 use Rattle.model.specs.Tail.{entryKept, tailLength}
-use Rattle.ring.proofs.Entries.{passed-one, tail-fails, tail-passes}
+use Rattle.model.proofs.Search.{passed-first}
+use Rattle.ring.proofs.Entries.{tail-fails, tail-passes}
 use Rattle.ring.proofs.law.kept.Statement.{statement}
 use Rattle.ring.proofs.law.kept.Tie as tie
 
@@ -36,7 +37,7 @@ loop-less c = search needs
 
 loop-again : tie.Need-loop-again Inv-loop μ-loop
 loop-again c = let l = c .before .before .before .loop in
-    (omega arith, passed-one _ (l .i) (l .inv .1) (sym (c .before .entry-kept .ensures) ∙ not-false _ (c .if1 .left)))
+    (omega arith, passed-first _ (l .i) (l .inv .1) (sym (c .before .entry-kept .ensures) ∙ not-false _ (c .if1 .left)))
 
 shared-slice-read-result : tie.Need-shared-slice-read-result Inv-loop μ-loop
 unfolding tailLength
