@@ -254,7 +254,7 @@ class Kept:
             return told
         request, first = self.orders[entry.order]
         if request != entry.request:
-            if answer[0] != 28:
+            if checked(answer)[0] != 28:
                 raise Problem("this line is refused by 28")
             said = f"order {entry.order} is kept with another request, {typed(request)}"
             return f"Refused by 28: {said}. {question(28)}"

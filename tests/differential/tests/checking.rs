@@ -1,11 +1,10 @@
 //! `check` against the second program: lawful books, each rule broken alone, junk, the edges of the
 //! pools, the smallest site and the largest book.
 
-use differential::{seed, times, Counts};
+use differential::{largest_settings, seed, times, Counts};
 use second::book::regions::{address, regions};
 use second::book::{self, Rule};
 use second::gen::{damaged, deep_state, full_book, junk_book, sites, Rng, Size};
-use second::machine::site::GREATEST;
 use second::machine::{Settings, State};
 
 /// The engine's answer, which must be the second program's.
@@ -95,18 +94,12 @@ fn smallest_site() {
     assert_eq!((numbers.of(0), numbers.of(2)), (149, 58_900));
 }
 
-fn largest() -> Settings {
-    let mut words = GREATEST.to_vec();
-    words.extend([1000; 16]);
-    Settings::from_words(&words).expect("the greatest limits are in range")
-}
-
 /// The largest book, fresh and half full, and with one word changed in each region. The single changes
 /// are compared with the plain engine, which is itself tested against the second program.
 #[test]
 fn largest_book() {
     let mut rng = Rng::new(seed(4));
-    let settings = largest();
+    let settings = largest_settings();
     let length = caviar::book_len(&settings.words());
     assert_eq!(length, caviar::MOST_WORDS);
     let mut fresh = vec![7; length];

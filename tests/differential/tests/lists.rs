@@ -2,7 +2,7 @@
 
 use caviar::Request;
 use differential::reached::{pairs, Reached};
-use differential::{seed, times, Counts};
+use differential::{largest_settings, seed, times, Counts};
 use second::book::{
     self,
     regions::{address, Name},
@@ -232,9 +232,7 @@ fn full_books() {
 #[test]
 fn largest_book() {
     let mut rng = Rng::new(seed(26));
-    let mut words = machine::site::GREATEST.to_vec();
-    words.extend([1000; 16]);
-    let settings = Settings::from_words(&words).expect("the greatest limits are in range");
+    let settings = largest_settings();
     let mut book = full_book(&mut rng, &settings, 50);
     let mut theirs = book.clone();
     let mut reached = Reached::default();

@@ -2,14 +2,13 @@
 //! lists of eight words; rings that no list made; each clause of the ring's law broken alone; a client that loses answers.
 
 use caviar::{Guest, Order, Request};
-use differential::{seed, times, Counts};
+use differential::{largest_settings, seed, times, Counts};
 use second::book::{self, Rule};
 use second::gen::orders::{
     calls, lent, list, list_from_fresh, list_words, ringed_state, some_ring, Lent, Plan, Sent, Sort,
 };
 use second::gen::requests::opening;
 use second::gen::{damaged, deep_state, full_book, junk_book, site, sites, Rng, Size};
-use second::machine::site::GREATEST;
 use second::machine::{self, Settings, State};
 use second::party::{perform, Call};
 use std::collections::BTreeSet;
@@ -31,8 +30,7 @@ fn answered(call: &Lent) -> [u32; 3] {
     answer
 }
 
-/// Lawful books with rings of all sorts, and damaged ones. A refusal by 1, 2 or 28 and an order sent again leave every
-/// word; any other writes the ring alone if it is refused.
+/// Lawful books with rings of all sorts, and damaged ones: the answer and every word are the second program's.
 #[test]
 fn orders_of_all_sorts() {
     let mut rng = Rng::new(seed(70));
@@ -334,9 +332,7 @@ fn lost_answers() {
 #[test]
 fn largest_book() {
     let mut rng = Rng::new(seed(78));
-    let mut words = GREATEST.to_vec();
-    words.extend([1000; 16]);
-    let settings = Settings::from_words(&words).expect("the greatest limits are in range");
+    let settings = largest_settings();
     let mut book = full_book(&mut rng, &settings, 50);
     let mut theirs = book.clone();
     let site = plain::Site::of_book(&book).expect("a full book has its length");
@@ -363,7 +359,8 @@ fn largest_book() {
     numbers.assert_each([0, 9, 12, 28], 20);
 }
 
-/// The answers of a kept order are those of the engine itself: an answer that was done is not done twice.
+/// A removal and a hotel booking sent again are told what they were told first, though by then there is nothing to remove
+/// and no leave to book with; and the ring has the words of rule 18.4.
 #[test]
 fn done_once() {
     let settings = [2, 2, 2, 3, 2, 2, 1, 2, 1, 4];

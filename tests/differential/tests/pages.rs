@@ -1,11 +1,10 @@
 //! The porter's page against the second program: answer, every byte of the lent page, and the book.
 
-use differential::{seed, times, Counts};
+use differential::{largest_settings, seed, times, Counts};
 use second::book;
 use second::gen::pages::{junk_page, lent, Lent, Sort};
 use second::gen::requests::opening;
 use second::gen::{full_book, list, sites, Mix, Rng, Size};
-use second::machine::site::GREATEST;
 use second::machine::{run, Date, Settings, State};
 use second::page::{lines, page, LINE_BYTES};
 
@@ -92,9 +91,7 @@ fn every_length() {
 #[test]
 fn largest_book() {
     let mut rng = Rng::new(seed(53));
-    let mut words = GREATEST.to_vec();
-    words.extend([1000; 16]);
-    let settings = Settings::from_words(&words).expect("the greatest limits are in range");
+    let settings = largest_settings();
     let full = full_book(&mut rng, &settings, 100);
     let state = book::shown(&full).expect("a lawful book");
     let mut seen = Counts::new();

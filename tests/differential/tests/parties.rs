@@ -1,13 +1,12 @@
 //! Parties against the second program: answer, every word of the book, and lists that mix them with requests.
 
 use caviar::{Guest, Request};
-use differential::{seed, times, Counts};
+use differential::{largest_settings, seed, times, Counts};
 use second::book;
 use second::gen::parties::{calls, lent, Lent, Sort};
 use second::gen::requests::{opening, state_after};
 use second::gen::{full_book, sites, Rng, Size};
-use second::machine::site::GREATEST;
-use second::machine::{Settings, State};
+use second::machine::State;
 use second::party::{party, perform, Call};
 
 fn ours(guests: &[second::party::Guest]) -> Vec<Guest> {
@@ -157,9 +156,7 @@ fn welcome(rng: &mut Rng, site: &plain::Site, book: &mut [u32], meeting: u32, si
 #[test]
 fn largest_book() {
     let mut rng = Rng::new(seed(64));
-    let mut words = GREATEST.to_vec();
-    words.extend([1000; 16]);
-    let settings = Settings::from_words(&words).expect("the greatest limits are in range");
+    let settings = largest_settings();
     let mut book = full_book(&mut rng, &settings, 50);
     let mut theirs = book.clone();
     let site = plain::Site::of_book(&book).expect("a full book has its length");

@@ -7,7 +7,8 @@ use second::gen::orders::{list_words, Sent};
 use second::machine::{Request, Settings, State};
 use second::party::Guest;
 
-const MOST_REQUESTS: usize = 60;
+/// More than a ring has places.
+const MOST_REQUESTS: usize = 100;
 const ANSWER: usize = 0;
 const RULE: usize = 1000;
 const WAY: usize = 3000;

@@ -252,6 +252,7 @@ fn lists_of_orders_answer_as_the_orders_one_by_one() {
         assert_eq!(book::serve_orders(&state.settings.words(), &mut served, &asked, &mut other), Answer::Done(12));
         assert!(laid == served && one == other);
     }
+    println!("seed {}: 200 lists, each as its orders one by one", SEED + 2);
 }
 
 #[test]

@@ -24,6 +24,14 @@ fn count<Key: Ord>(counts: &mut BTreeMap<Key, u32>, key: Key) {
     *counts.entry(key).or_default() += 1;
 }
 
+/// Counts a request by its kind if it is done, and by its number if it is refused.
+fn count_answer(done: &mut BTreeMap<u32, u32>, refused: &mut BTreeMap<u32, u32>, kind: u32, answer: &Answer) {
+    match answer {
+        Answer::Done(_) => count(done, kind),
+        Answer::Refused { number, .. } => count(refused, *number),
+    }
+}
+
 /// Each of the keys was counted at least so often.
 fn want<Key: Ord + Debug>(counts: &BTreeMap<Key, u32>, keys: impl IntoIterator<Item = Key>, least: u32) {
     for key in keys {
@@ -47,10 +55,7 @@ fn lists_reach_every_kind_and_every_number() {
         for request in &requests {
             conflicts_of(&replayed, request).into_iter().for_each(|decided| count(&mut conflicts, decided));
             Ending::of(&replayed, request).into_iter().for_each(|sort| count(&mut endings, sort));
-            match step(&mut replayed, request) {
-                Answer::Done(_) => count(&mut done, request.kind),
-                Answer::Refused { number, .. } => count(&mut refused, number),
-            }
+            count_answer(&mut done, &mut refused, request.kind, &step(&mut replayed, request));
         }
         assert_eq!(replayed, state);
         assert!(book::laws_broken(&state).is_empty());
@@ -216,6 +221,7 @@ fn cases_hold_every_sort() {
     println!("seed {}: orders by number {ordered:?}, lists {listed:?}", SEED + 5);
     want(&ordered, [0, 2, 28], 1);
     want(&listed, [(7, false, 0), (8, false, 0), (7, true, 0), (8, true, 0)], 1);
+    want(&listed, [(7, false, 2), (8, false, 2), (7, true, 24)], 1);
     want(&rules, Rule::breakable(), 2);
 }
 
@@ -234,10 +240,7 @@ fn tables_have_enough_steps_of_every_sort() {
                     Call::Request(request) => {
                         conflicts_of(&before, request).into_iter().for_each(|decided| count(&mut conflicts, decided));
                         Ending::of(&before, request).into_iter().for_each(|sort| count(&mut endings, sort));
-                        match answer {
-                            Answer::Done(_) => count(&mut done, request.kind),
-                            Answer::Refused { number, .. } => count(&mut refused, *number),
-                        }
+                        count_answer(&mut done, &mut refused, request.kind, answer);
                     }
                     Call::Order { order, request } => {
                         let sorts = orders::Sort::of(&before, &Sent { order: *order, request: *request });

@@ -20,8 +20,8 @@ use std::collections::BTreeMap;
 
 /// How many of each sort there are: books for each rule that a book can break, then the others.
 const BOOKS_A_RULE: usize = 2;
-const JUNK: usize = 16;
-const CALLS: usize = 20;
+const JUNK: usize = 20;
+const CALLS: usize = 30;
 const LAYINGS: usize = 12;
 const PAGES: usize = 18;
 const PARTIES: usize = 18;

@@ -248,7 +248,7 @@ pub enum Sort {
     AgainRefused,
     /// The same, though a request in its place would be answered otherwise.
     AgainOtherwise,
-    /// The same, with an answer that no request gets: a number of none, or a place or value that is not its own.
+    /// The same, with a number by which no request is refused.
     AgainStrange,
     /// Refused by 28: this one of its seven words differs from those kept, or several do.
     Changed(usize),

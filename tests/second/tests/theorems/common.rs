@@ -43,7 +43,7 @@ pub fn some_state(rng: &mut Rng) -> State {
     state_of(rng, &settings)
 }
 
-/// The same for a given site. No orders are kept: these theorems are about the sets.
+/// The same for a given site. No order is kept: most theorems are about the sets, and those about orders send their own.
 pub fn state_of(rng: &mut Rng, settings: &Settings) -> State {
     let length = rng.between(10, 90) as usize;
     State { ring: Ring::empty(), ..deep_state(rng, settings.clone(), length) }
