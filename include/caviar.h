@@ -81,28 +81,29 @@
  * request may carry an order, a number from 1 to 4294967295 that the caller chooses; 0 means none. caviar_order and caviar_orders take
  * requests with orders; caviar_request and caviar_requests take them without, and keep nothing.
  *
- * The book keeps the last 64 orders: the number, the seven words of the request and the three words of its answer, done or refused. While
- * an order is kept, sending it again with the same seven words gets the answer that it got first, whatever the book holds by then, and
- * changes nothing; with other words it is refused by 28. Else it is answered as the request alone would be, and kept, in the place of the
- * oldest. Only 1, 2 and 28 are not kept. So a caller that
+ * The book has 64 places for orders, each with the number, the request and its answer, done or refused. While an order is kept, sending it
+ * again with the same request gets the answer that it got first, whatever the book holds by then, and changes nothing; with another
+ * request it is refused by 28. Else it is answered as the request alone would be, and kept at the next place, which then goes on and
+ * round, so that it stays kept while fewer than 64 new orders come behind it. Only 1, 2 and 28 are not kept. So a caller that
  *
  *     - gives each request that changes something a number of its own, counting up,
  *     - sends it again with the same number when no answer came,
  *     - and sends at most 63 others behind one that has no answer yet,
  *
- * gets for each the one answer that it would have had without a lost line, and each was done at most once. Callers that share a book
- * share its numbers and its 64 places. A refused order writes the ring too; no other refusal writes anything.
+ * gets for each the answer given when it first arrived, and each was done at most once. Callers that share a book share its numbers and
+ * its 64 places. A new order that is refused writes the ring too; no other refusal writes anything.
  *
  * The ring is the last CAVIAR_RING_WORDS words of a book: 64 entries of 11 words (number, request, answer), then the place where the next
- * order goes, 0 to 63. An entry whose number is 0 is empty, and zeros. Question 2 asks that the numbers other than 0 differ, that empty
- * entries are zeros, that a kept answer has place 0 if its number is 0 and value 0 if not, and that the next place is below 64.
+ * order goes, 0 to 63. An entry without a number, that is with number 0, has zeros in all its words. Question 2 asks for this, for
+ * numbers that are not 0 to be different ones, for answers that have no place beside number 0 and no value beside another, and for a
+ * next place that the ring has.
  *
  * ANSWERS (section 6)
  *
  * An answer is the three words of struct caviar_answer. Done: number and place are 0. Refused: `number` says which question was the
  * first with the answer no, `value` is 0, and nothing has changed: not a word of the book, nor of a lent list of answers, nor a byte
- * of a lent page. A party (caviar_party) is refused so as a whole: where one of its guests is, none has been added. A refused order, by
- * whatever number but 1, 2 and 28, is kept: its entry of the ring and the next place are written, and no other word.
+ * of a lent page. A party (caviar_party) is refused so as a whole: where one of its guests is, none has been added. A new order
+ * that is refused from question 3 on is kept: its entry of the ring and the next place are written, and the rest of the book stays.
  *
  *     number  means (asked of the kinds)                                                        place
  *      1      no book: under 9 words, a limit or capacity out of range, or another length       0
@@ -136,9 +137,9 @@
  *     28      the order is kept with another request                                            0
  *
  * Questions are asked in the order of their numbers, each of all slots before the next; but 28 comes behind 2, and an order that passes
- * it because it is kept is asked no more. The place is the lowest slot with the answer
- * no, in the unit of the kind; for 17 it is a date though the slots of kind 16 are sessions. A party is asked 1, 2 and 27, and then its
- * guests come one after the other, each with the questions of kind 10.
+ * it because it is kept is asked no more. The place is the lowest slot with the answer no, in the unit of the kind; for 17 it is a date
+ * though the slots of kind 16 are sessions. A party is asked 1, 2 and 27, and then its guests come one after the other, each with the
+ * questions of kind 10.
  *
  * AN EXAMPLE
  *
