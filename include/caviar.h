@@ -5,8 +5,8 @@
  *
  * BOOK AND CALLER
  *
- * A book is an array of 32-bit words that the caller owns: settings first, then seven regions of leave, bookings and meetings, then the
- * last 64 orders. The functions below keep nothing between calls and allocate nothing.
+ * A book is an array of 32-bit words that the caller owns: settings first, then seven regions of leave, bookings and meetings, then a
+ * ring of 64 orders. The functions below keep nothing between calls and allocate nothing.
  *
  * Every function takes any words in the arrays that it is lent, of any length, and says so where they are not a book: none has a
  * condition on contents. What each one promises below is proved, for all words. What the caller owes is what C owes any function that
