@@ -10,11 +10,11 @@ use lib.ListN.{length, getD, set, take, drop, length-append, length-take, length
 use lib.Seq.{take-at, drop-at, drop-drop, getD-take, sets-eq}
 use borrow.Author.Tests.{ltb-true, ltb-false}
 use Rattle.model.specs.declared.Settings.{Settings}
-use Rattle.model.specs.declared.Answer.the-variants.{Done, Refused}
 use Rattle.model.specs.Messages.{requestOf}
-use Rattle.model.specs.Machine.{Call, callOf, Reply, told, replyWords, perform}
+use Rattle.model.specs.Machine.{Call, callOf, replyWords, perform}
 use Rattle.model.specs.Ledger.{ledgerOf}
 use Rattle.model.specs.Calls.{Calls, calls, callsOf, repliesWords}
+use Rattle.model.proofs.Told.{reply-long}
 use Rattle.book.specs.Good.{GoodBook}
 use Rattle.engine.specs.Lists.{spliced, One, All}
 use Rattle.step.proofs.Kept.{good-calls}
@@ -27,10 +27,6 @@ write-three l i x y z h =
     let e2 : i + 2 ≡ suc (suc i) = omega arith in
     ap₂ (λ (j k : ℕ). set (set (set l i x) j y) k z) e1 e2 ∙ sets-eq (x ∷ y ∷ z ∷ []) l i h
     ∙ append-assoc (take i l) (x ∷ y ∷ z ∷ []) (drop (i + 3) l)
-
-pub three : (a : Reply) → length (replyWords a) ≡ 3
-three (told (Done v)) = refl
-three (told (Refused n p)) = refl
 
 module _ (l : List ℕ) (i : ℕ) (h : i + 3 ≤ length l) (ws : List ℕ) (long : length ws ≡ 3) where
   split : length (take i l ++ ws) ≡ i + 3
@@ -150,13 +146,13 @@ module _ (S : Settings) (k : ℕ) (wide : Width k) (w : List ℕ) (n : ℕ) (b�
   unfolding c aw
   written =
       ap (λ (k : ℕ). take k a′) (sym next) ∙ ap (take (i * 3 + 3)) (one .answers)
-      ∙ spliced-take a (i * 3) fits (replyWords (perform (ledgerOf b) c .reply)) (three (perform (ledgerOf b) c .reply))
+      ∙ spliced-take a (i * 3) fits (replyWords (perform (ledgerOf b) c .reply)) (reply-long (perform (ledgerOf b) c .reply))
 
   kept : drop ((i + 1) * 3) a′ ≡ drop ((i + 1) * 3) a₀
   unfolding c
   kept =
       ap (λ (k : ℕ). drop k a′) (sym next) ∙ ap (drop (i * 3 + 3)) (one .answers)
-      ∙ spliced-drop a (i * 3) fits (replyWords (perform (ledgerOf b) c .reply)) (three (perform (ledgerOf b) c .reply))
+      ∙ spliced-drop a (i * 3) fits (replyWords (perform (ledgerOf b) c .reply)) (reply-long (perform (ledgerOf b) c .reply))
       ∙ sym (drop-drop 3 (i * 3) a) ∙ ap (drop 3) (l .behind) ∙ drop-drop 3 (i * 3) a₀ ∙ ap (λ (k : ℕ). drop k a₀) next
 
   pub left-turn : Left k w n b₀ a₀ (i + 1) b′ a′
@@ -165,7 +161,7 @@ module _ (S : Settings) (k : ℕ) (wide : Width k) (w : List ℕ) (n : ℕ) (b�
       record {
         most = omega arith;
         long = ap length (one .answers)
-            ∙ spliced-length a (i * 3) fits (replyWords (perform (ledgerOf b) c .reply)) (three (perform (ledgerOf b) c .reply))
+            ∙ spliced-length a (i * 3) fits (replyWords (perform (ledgerOf b) c .reply)) (reply-long (perform (ledgerOf b) c .reply))
             ∙ l .long;
         book = sym (ap (λ (u : Calls). u .book) taken) ∙ l .book;
         answers =

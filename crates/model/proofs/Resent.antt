@@ -26,6 +26,7 @@ use Rattle.model.specs.Machine.{step, Call, ordered, party, Reply, told,
 use Rattle.model.specs.Calls.{Calls, calls, freshBook, settingsGood, callsOf, repliesWords, answerable, Listed, listed, callList, shownBy, serveList}
 use Rattle.model.specs.Resent.{IsKept, Kept, KeptThrough, isNew, newOrders, Sending, once, again, allSent, onceSent, WhileKept, onceReplied, onceAnswered}
 use Rattle.model.proofs.Search.{and-true}
+use Rattle.model.proofs.Told.{reply-long}
 use Rattle.model.proofs.Tail.{empty-at, kept-there, kept-else, here-or-not, none-kept, kept-first, kept-place, kept-order, kept-by, not-kept}
 use Rattle.model.proofs.Ledger.{LedgerSound}
 use Rattle.model.proofs.Calls.{kept-leaves, perform-sound, empty-ledger}
@@ -398,24 +399,20 @@ pub resent-fresh : (S : Settings) → validSettings S ≡ true → (ss : List Se
 resent-fresh S e ss k = resent-book (freshBook S) (emptyLedger S) (fresh-shows S e) ss k
 
 -- the words of the replies
-reply-long : (p : Reply) → length (replyWords p) ≡ 3
-reply-long (told (Done v)) = refl
-reply-long (told (Refused n p)) = refl
-
 replies-long : (rs : List Reply) → length (repliesWords rs) ≡ 3 * length rs
 unfolding repliesWords
 replies-long [] = refl
 replies-long (p ∷ rs) = length-append (replyWords p) (repliesWords rs) ∙ omega (arith, reply-long p, replies-long rs)
 
-once-words : (ss : List Sending) (rs : List Reply) → length rs ≡ length ss → (w : List ℕ)
+words-once : (ss : List Sending) (rs : List Reply) → length rs ≡ length ss → (w : List ℕ)
     → onceAnswered ss (repliesWords rs ++ w) ≡ repliesWords (onceReplied ss rs)
 unfolding onceAnswered repliesWords
-once-words [] rs e w = refl
-once-words (s ∷ ss) [] e w = absurd (omega (arith, e))
-once-words (once c ∷ ss) (told (Done v) ∷ rs) e w = ap (λ (v′ : List ℕ). 0 ∷ 0 ∷ v ∷ v′) (once-words ss rs (omega (arith, e)) w)
-once-words (once c ∷ ss) (told (Refused n p) ∷ rs) e w = ap (λ (v : List ℕ). n ∷ p ∷ 0 ∷ v) (once-words ss rs (omega (arith, e)) w)
-once-words (again m r ∷ ss) (told (Done v) ∷ rs) e w = once-words ss rs (omega (arith, e)) w
-once-words (again m r ∷ ss) (told (Refused n p) ∷ rs) e w = once-words ss rs (omega (arith, e)) w
+words-once [] rs e w = refl
+words-once (s ∷ ss) [] e w = absurd (omega (arith, e))
+words-once (once c ∷ ss) (told (Done v) ∷ rs) e w = ap (λ (v′ : List ℕ). 0 ∷ 0 ∷ v ∷ v′) (words-once ss rs (omega (arith, e)) w)
+words-once (once c ∷ ss) (told (Refused n p) ∷ rs) e w = ap (λ (v : List ℕ). n ∷ p ∷ 0 ∷ v) (words-once ss rs (omega (arith, e)) w)
+words-once (again m r ∷ ss) (told (Done v) ∷ rs) e w = words-once ss rs (omega (arith, e)) w
+words-once (again m r ∷ ss) (told (Refused n p) ∷ rs) e w = words-once ss rs (omega (arith, e)) w
 
 run-long : (l : Ledger) (cs : List Call) → length (run l cs .replies) ≡ length cs
 unfolding run
@@ -446,7 +443,7 @@ resent-listed l ss k m n e a c =
     record {
       book = ap bookWords (r .0);
       answers =
-          once-words ss (run l (allSent ss) .replies) (run-long l (allSent ss) ∙ sent-long ss) (drop (3 * m) a) ∙ ap repliesWords (r .1)
+          words-once ss (run l (allSent ss) .replies) (run-long l (allSent ss) ∙ sent-long ss) (drop (3 * m) a) ∙ ap repliesWords (r .1)
           ∙ sym (take-at (repliesWords rs) (drop (3 * n) c) (3 * n) (omega (arith, replies-long rs, run-long l (onceSent ss), e)));
     }
 

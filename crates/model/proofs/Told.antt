@@ -7,7 +7,7 @@ use mathlib.Core.Option.{Option, none, some}
 use mathlib.Core.List.{List, [], _∷_, _++_}
 use native.Mathlib.Omega.{arith}
 use lib.Dec.{eqb}
-use lib.ListN.{getD}
+use lib.ListN.{length, getD}
 use borrow.Author.Tests.{eqb-true}
 use Rattle.model.specs.declared.Request.{Request}
 use Rattle.model.specs.declared.Answer.{Answer}
@@ -16,7 +16,7 @@ use Rattle.model.specs.State.{State}
 use Rattle.model.specs.Kinds.{Kind, kindOf}
 use Rattle.model.specs.Questions.{Question, number, always, further, ask, judge, refusal, Refusal}
 use Rattle.model.specs.Messages.{answerWords, toldBy}
-use Rattle.model.specs.Machine.{step, stepKind, finish}
+use Rattle.model.specs.Machine.{step, stepKind, finish, Reply, told, replyWords}
 use Rattle.model.proofs.Search.{never}
 
 -- an answer that three words can tell: a refusal has a number other than 0
@@ -36,6 +36,11 @@ pub refused-tellable : (n p : ℕ) → 0 < n → Tellable (Refused n p)
 refused-tellable n p h q e =
     let z : numberOf (Refused n p) ≡ numberOf (Refused 0 q) = ap numberOf e in
     omega (arith, h, z)
+
+-- a reply has three words
+pub reply-long : (p : Reply) → length (replyWords p) ≡ 3
+reply-long (told (Done v)) = refl
+reply-long (told (Refused n p)) = refl
 
 -- what three words tell can be told, and is told by them
 pub told-tellable : (n p v : ℕ) → Tellable (toldBy n p v)
