@@ -1,21 +1,22 @@
 -- What stands at the front of the input.
 -- Assumes nothing.
-use Prim.Native.Nat.{ℕ, suc, _-_, _≤_, _<_}
+use Prim.Native.Nat.{ℕ, zero, suc, _+_, _*_, _≤_, _<_}
 use native.Mathlib.Omega.{arith}
-use mathlib.Core.Path.{_≡_, refl, sym, _∙_, ap}
+use mathlib.Core.Path.{_≡_, refl, sym, _∙_, ap, ap₂}
 use mathlib.Core.Logic.{_⊎_, inl, inr}
-use mathlib.Core.Bool.{true, false, _&&_}
+use mathlib.Core.Bool.{true}
 use mathlib.Core.List.{List, [], _∷_}
-use lib.Dec.{ltb, eqb}
-use lib.ListN.{length, take, getD}
-use lib.Seq.{getD-take, length-take-le, take-length}
-use borrow.Author.Tests.{ltb-true, lt-ltb, le-ltb, eqb-true, eq-eqb, ne-eqb}
-use Rattle.model.specs.Lines.{isFrame}
+use lib.ListN.{length, take, drop, getD, List·getD-eq-default}
+use lib.Seq.{getD-take, length-take-le, take-length, take-take}
+use Rattle.model.specs.Messages.{requestLength, requestOf}
+use Rattle.model.specs.Machine.{ordered, callOf}
+use Rattle.model.specs.Text.{shown}
+use Rattle.model.specs.Lines.{isFrame, lineWords}
 use Rattle.model.proofs.Search.{and-left, and-right, both}
 use Rattle.text.specs.Digits.{isDigit, digitsOnly}
-use Rattle.framing.specs.Frame.{requestDigits, orderDigits, LineEnd, digitsAhead}
-use Rattle.framing.specs.Front.{Free, Leads, FrameAhead}
-use Rattle.framing.proofs.Framing.{FrameLength, is-frame, no-frame, frame-length, frame-digits}
+use Rattle.framing.specs.Frame.{requestDigits, orderDigits, wordAt, requestAt, LineEnd}
+use Rattle.framing.specs.Front.{Free, Leads, NoFrame}
+use Rattle.framing.proofs.Framing.{FrameLength, words-length, word-is, is-frame, no-frame, frame-length, frame-digits}
 
 -- digits are not byte 10
 pub free-digits : (l : List ℕ) → digitsOnly l ≡ true → Free l
@@ -31,63 +32,69 @@ unfolding Free
 free-at [] f = tt
 free-at (x ∷ xs) f = (f 0 (omega arith), free-at xs (λ k h. f (suc k) (omega arith)))
 
-module _ (l : List ℕ) (n : ℕ) where
-  pub ahead-by : n < length l → getD l n 0 ≡ 10 → digitsAhead l n ≡ digitsOnly (take n l)
-  unfolding digitsAhead
-  ahead-by h e = simp (lt-ltb n (length l) h, eq-eqb (getD l n 0) 10 e)
-
-  pub ahead-short : length l ≤ n → false ≡ digitsAhead l n
-  unfolding digitsAhead
-  ahead-short h = simp (le-ltb n (length l) h)
-
-  pub ahead-other : n < length l → (getD l n 0 ≡ 10 → ⊥) → false ≡ digitsAhead l n
-  unfolding digitsAhead
-  ahead-other h e = simp (lt-ltb n (length l) h, ne-eqb (getD l n 0) 10 e)
-
-  ahead-leads : digitsAhead l n ≡ true → Leads l n × (digitsOnly (take n l) ≡ true)
-  unfolding digitsAhead
-  ahead-leads h =
-      let front = and-left (ltb n (length l) && eqb (getD l n 0) 10) (digitsOnly (take n l)) h in
-      let d = and-right (ltb n (length l) && eqb (getD l n 0) 10) (digitsOnly (take n l)) h in (
-        record {
-          inside = ltb-true n (length l) (and-left (ltb n (length l)) _ front);
-          free = free-digits (take n l) d;
-          ends = eqb-true (getD l n 0) 10 (and-right (ltb n (length l)) _ front);
-        },
-        d,
-      )
+-- a part of a line is that part of the input
+part-of : (k m n : ℕ) (l : List ℕ) → m + k ≤ n → take k (drop m (take n l)) ≡ take k (drop m l)
+part-of k zero n l h = take-take k n l (omega arith)
+part-of k (suc m) zero l h = absurd (omega arith)
+part-of k (suc m) (suc n) [] h = refl
+part-of k (suc m) (suc n) (b ∷ l) h = part-of k m n l (omega arith)
 
 module _ (l : List ℕ) where
-  -- a frame of one of the two lengths that frames have, and no frame
-  ahead-length : (n : ℕ) → (n ≡ requestDigits) ⊎ (n ≡ orderDigits) → digitsAhead l n ≡ true → FrameAhead l n
-  ahead-length n q h =
-      let p = ahead-leads l n h in
-      let e = length-take-le n l (omega (arith, p .0 .inside)) in
-      record { some = λ z. (p .0, is-frame (take n l) (p .1) (rw e q)); none = λ z. absurd (above q z) }
+  -- the words of a line
+  module _ (n : ℕ) (i : n ≤ length l) where
+    word-in : (k : ℕ) → 8 * k + 8 ≤ n → getD (lineWords (take n l)) k 0 ≡ wordAt l k
+    word-in k h =
+        let e = length-take-le n l i in
+        sym (word-is (take n l) k (omega arith)) ∙ ap shown (part-of 8 (8 * k) n l h)
+
+    request-in : requestDigits ≤ n → requestOf (lineWords (take n l)) ≡ requestAt l
+    unfolding requestAt
+    request-in h =
+        λ j. record {
+          kind = word-in 0 (omega arith) j;
+          a = word-in 1 (omega arith) j;
+          b = word-in 2 (omega arith) j;
+          first = word-in 3 (omega arith) j;
+          last = word-in 4 (omega arith) j;
+          n = word-in 5 (omega arith) j;
+          info = word-in 6 (omega arith) j;
+        }
+
+  pub request-call : requestDigits ≤ length l → ordered 0 (requestAt l) ≡ callOf (lineWords (take requestDigits l))
+  request-call h =
+      let e = length-take-le requestDigits l h in
+      let z : getD (lineWords (take requestDigits l)) requestLength 0 ≡ 0
+      = List·getD-eq-default (lineWords (take requestDigits l)) 0 {n = requestLength} (omega (arith, words-length (take requestDigits l))) in
+      ap₂ ordered (sym z) (sym (request-in requestDigits h (omega arith)))
+
+  pub order-call : orderDigits ≤ length l → ordered (wordAt l requestLength) (requestAt l) ≡ callOf (lineWords (take orderDigits l))
+  order-call h = ap₂ ordered (sym (word-in orderDigits h requestLength (omega arith))) (sym (request-in orderDigits h (omega arith)))
+
+  -- a line of digits of one of the two lengths that frames have is a frame
+  module _ (n : ℕ) where
+    abbrev DigitLine : Type 0
+    DigitLine = (n < length l) × (getD l n 0 ≡ 10) × (digitsOnly (take n l) ≡ true)
+
+    pub frame-by : (n ≡ requestDigits) ⊎ (n ≡ orderDigits) → DigitLine → Leads l n × (isFrame (take n l) ≡ true)
+    frame-by q h = (
+      record { inside = h .0; free = free-digits (take n l) (h .2); ends = h .1 },
+      is-frame (take n l) (h .2) (rw (length-take-le n l (omega (arith, h .0))) q),
+    )
+
+  -- and where neither is there, no line is one
+  pub none-by : (DigitLine requestDigits → ⊥) → (DigitLine orderDigits → ⊥) → NoFrame l
+  unfolding NoFrame
+  none-by h g k e = no-frame (take k l) (λ f. bad f (frame-length (take k l) f))
     where
-      above : (n ≡ requestDigits) ⊎ (n ≡ orderDigits) → n ≡ 0 → ⊥
-      above (inl a) z = omega arith
-      above (inr a) z = omega arith
+      line : (n : ℕ) → isFrame (take k l) ≡ true → length (take k l) ≡ n → DigitLine n
+      line n f m =
+          let s : k ≡ n = sym (length-take-le k l (omega (arith, e .inside))) ∙ m in
+          let d : DigitLine k = (e .inside, e .ends, frame-digits (take k l) f) in
+          rw s at d
 
-  pub ahead-request : digitsAhead l requestDigits ≡ true → FrameAhead l requestDigits
-  ahead-request h = ahead-length requestDigits (inl refl) h
-
-  pub ahead-order : digitsAhead l orderDigits ≡ true → FrameAhead l orderDigits
-  ahead-order h = ahead-length orderDigits (inr refl) h
-
-  no-length : (n k : ℕ) → digitsAhead l n ≡ false → Leads l k → isFrame (take k l) ≡ true → k ≡ n → ⊥
-  no-length n k h e f m =
-      let i = e .inside in
-      let t : getD l n 0 ≡ 10 = ap (λ (j : ℕ). getD l j 0) (sym m) ∙ e .ends in
-      let d : digitsOnly (take n l) ≡ true = rw m at (frame-digits (take k l) f) in
-      both (ahead-by l n (omega arith) t ∙ d) h
-
-  pub ahead-none : digitsAhead l requestDigits ≡ false → digitsAhead l orderDigits ≡ false → FrameAhead l 0
-  ahead-none h g = record { some = λ z. absurd (omega arith); none = λ z k e. no-frame (take k l) (λ f. bad k e f (frame-length (take k l) f)) }
-    where
-      bad : (k : ℕ) → Leads l k → isFrame (take k l) ≡ true → FrameLength (take k l) → ⊥
-      bad k e f (inl m) = no-length requestDigits k h e f (sym (length-take-le k l (omega (arith, e .inside))) ∙ m)
-      bad k e f (inr m) = no-length orderDigits k g e f (sym (length-take-le k l (omega (arith, e .inside))) ∙ m)
+      bad : isFrame (take k l) ≡ true → FrameLength (take k l) → ⊥
+      bad f (inl m) = h (line requestDigits f m)
+      bad f (inr m) = g (line orderDigits f m)
 
   -- a line that is found by its byte 10
   pub line-free : (n : ℕ) → LineEnd l n → Free (take n l)

@@ -1,54 +1,43 @@
--- Lines as the code takes them apart: a frame line in front of the input, its digits, and a line's end.
+-- Lines as the code takes them apart: the words of a frame line in front of the input, and a line's end.
 -- Assumes nothing.
-use Prim.Native.Nat.{ℕ, _+_, _*_, _%_, _≤_, _<_}
+use Prim.Native.Nat.{ℕ, _*_, _≤_, _<_}
 use mathlib.Core.Path.{_≡_}
-use mathlib.Core.Bool.{Bool, _&&_}
+use mathlib.Core.Bool.{true}
 use mathlib.Core.List.{List}
-use lib.Dec.{ltb, eqb}
-use lib.ListN.{length, take, getD}
+use lib.ListN.{length, take, drop, getD}
 use Rattle.model.specs.declared.Request.{Request}
 use Rattle.model.specs.Messages.{requestLength, orderLength}
-use Rattle.text.specs.Digits.{valueOf, digitsOnly}
+use Rattle.model.specs.Text.{shown}
+use Rattle.text.specs.Digits.{digitsOnly}
+use Rattle.framing.specs.declared.frame.Asked.{Asked}
 
--- the digits of a request's words, those with the number of its order behind them, and the most that a frame has
+-- the digits of a request's words, and those with the number of its order behind them
 abbrev pub requestDigits : ℕ
 requestDigits = 8 * requestLength
 
 abbrev pub orderDigits : ℕ
 orderDigits = 8 * orderLength
 
-abbrev pub frameMost : ℕ
-frameMost = orderDigits
+-- word k at the front of the input, and the request of the first seven
+abbrev pub wordAt : List ℕ → ℕ → ℕ
+wordAt l k = shown (take 8 (drop (8 * k) l))
 
--- the input begins with a line of n digits
-unfoldable pub digitsAhead : List ℕ → ℕ → Bool
-digitsAhead l n = ltb n (length l) && eqb (getD l n 0) 10 && digitsOnly (take n l)
-
--- d are the values of the digits s, and zeros behind them
-pub record Values (s d : List ℕ) : Type 0 where
-  pub long : length d ≡ frameMost
-  pub at : (k : ℕ) → k < length s → getD d k 0 ≡ valueOf (getD s k 0)
-  pub past : (k : ℕ) → length s ≤ k → k < frameMost → getD d k 0 ≡ 0
-
--- the number of four values, and the word of eight
-abbrev pub halfOf : List ℕ → ℕ → ℕ
-halfOf d k = getD d k 0 * 4096 + getD d (k + 1) 0 * 256 + getD d (k + 2) 0 * 16 + getD d (k + 3) 0
-
-unfoldable pub wordOf : List ℕ → ℕ → ℕ
-wordOf d k = halfOf d k % 65536 * 65536 + halfOf d (k + 4) % 65536
-
--- the request of the first seven words
-abbrev pub requestIn : List ℕ → Request
-requestIn d =
+unfoldable pub requestAt : List ℕ → Request
+requestAt l =
     record {
-      kind = wordOf d 0;
-      a = wordOf d 8;
-      b = wordOf d 16;
-      first = wordOf d 24;
-      last = wordOf d 32;
-      n = wordOf d 40;
-      info = wordOf d 48;
+      kind = wordAt l 0;
+      a = wordAt l 1;
+      b = wordAt l 2;
+      first = wordAt l 3;
+      last = wordAt l 4;
+      n = wordAt l 5;
+      info = wordAt l 6;
     }
+
+-- r is what the first seven words are read as
+pub record AskedIn (l : List ℕ) (r : Asked) : Type 0 where
+  pub all : r .digits ≡ digitsOnly (take requestDigits l)
+  pub shows : digitsOnly (take requestDigits l) ≡ true → r .request ≡ requestAt l
 
 -- r is the index of the first byte 10 of l, or l's length
 pub record LineEnd (l : List ℕ) (r : ℕ) : Type 0 where

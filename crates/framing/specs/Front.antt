@@ -7,6 +7,8 @@ use mathlib.Core.List.{List, [], _∷_}
 use lib.ListN.{length, take, getD}
 use Rattle.model.specs.Machine.{ordered, callOf}
 use Rattle.model.specs.Lines.{isFrame, lineWords}
+use Rattle.text.specs.Digits.{digitsOnly}
+use Rattle.framing.specs.Frame.{requestDigits}
 use Rattle.framing.specs.declared.line.Next.{Next}
 use Rattle.framing.specs.declared.line.Next.the-variants.{Frame, Other, Partial}
 
@@ -21,10 +23,14 @@ pub record Leads (l : List ℕ) (n : ℕ) : Type 0 where
   pub free : Free (take n l)
   pub ends : getD l n 0 ≡ 10
 
--- n are the digits of the frame that is the first line of l, or 0: it is no frame
-pub record FrameAhead (l : List ℕ) (n : ℕ) : Type 0 where
-  pub some : 0 < n → Leads l n × (isFrame (take n l) ≡ true)
-  pub none : n ≡ 0 → (k : ℕ) → Leads l k → isFrame (take k l) ≡ false
+-- no frame is the first line of l
+unfoldable pub NoFrame : List ℕ → Type 0
+NoFrame l = (k : ℕ) → Leads l k → isFrame (take k l) ≡ false
+
+-- the digits of a request stand in front of l, and more behind them
+pub record DigitsAhead (l : List ℕ) : Type 0 where
+  pub more : requestDigits < length l
+  pub digits : digitsOnly (take requestDigits l) ≡ true
 
 -- what stands at the front of l; of a frame, the order and the request of its call
 abbrev pub NextOf : List ℕ → Next → Type 0

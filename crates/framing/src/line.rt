@@ -1,11 +1,11 @@
 // Lines: what stands at the front of the input, the words of a settings line, and the line of an answer.
-use crate::frame::call_of;
-use crate::frame::frame_ahead;
+use crate::frame::ORDER_DIGITS;
+use crate::frame::REQUEST_DIGITS;
+use crate::frame::request_ahead;
 use model::Answer;
 use model::Request;
-use text::hex::digits_only;
 use text::hex::put_word;
-use text::hex::word;
+use text::hex::word_at;
 use text::store::put;
 ghost use mathlib.Core.Path.{_≡_};
 ghost use mathlib.Core.Bool.{true};
@@ -16,8 +16,8 @@ ghost use Rattle.model.specs.Text.{hexadecimal};
 ghost use Rattle.model.specs.Lines.{wholeWords, lineWords, answerLine, answerDigits, answerBytes};
 ghost use Rattle.text.specs.Digits.{digitsOnly};
 ghost use Rattle.text.specs.Put.{Put};
-ghost use Rattle.framing.specs.Frame.{LineEnd};
-ghost use Rattle.framing.specs.Front.{NextOf};
+ghost use Rattle.framing.specs.Frame.{LineEnd, requestAt};
+ghost use Rattle.framing.specs.Front.{NoFrame, DigitsAhead, NextOf};
 
 // The digits of an answer's three words, and the bytes of its line.
 const ANSWER_DIGITS: usize = 8 * 3;
@@ -50,20 +50,11 @@ pub enum Next {
     Partial,
 }
 
-// The search for a line's end is left to lines that are no frames.
-pub fn look(s: &[u8]) -> Next
+// The first line where it is no frame: another line, or one that is not over. The search for a line's end is left to such lines.
+fn other(s: &[u8]) -> Next
+    requires { ⌜ NoFrame (now s) ⌝ }
     ensures { λ r. ⌜ NextOf (now (s .entry)) r ⌝ }
 {
-    let len = frame_ahead(s);
-    if len > 0 {
-        let call = call_of(&s[..len]);
-        let request = call.request;
-        return Next::Frame {
-            len,
-            order: call.order,
-            request,
-        };
-    }
     let n = line_end(s);
     if n == s.len() {
         return Next::Partial;
@@ -71,11 +62,69 @@ pub fn look(s: &[u8]) -> Next
     Next::Other(n)
 }
 
-// Whether a line is whole words.
+// The first line where the digits of a request stand in front: they are a frame where byte 10 ends them, and with a word more where byte 10
+// ends that.
+fn framed(s: &[u8], request: Request) -> Next
+    requires { ⌜ DigitsAhead (now s) ⌝ }
+    requires { ⌜ request ≡ requestAt (now s) ⌝ }
+    ensures { λ r. ⌜ NextOf (now (s .entry)) r ⌝ }
+{
+    if s[REQUEST_DIGITS] == 10 {
+        return Next::Frame {
+            len: REQUEST_DIGITS,
+            order: 0,
+            request,
+        };
+    }
+    if s.len() <= ORDER_DIGITS {
+        return other(s);
+    }
+    let order = word_at(s, REQUEST_DIGITS);
+    if !order.digits {
+        return other(s);
+    }
+    if s[ORDER_DIGITS] != 10 {
+        return other(s);
+    }
+    Next::Frame {
+        len: ORDER_DIGITS,
+        order: order.word,
+        request,
+    }
+}
+
+// What stands at the front. Only here and in `framed` it is known which numbers of words a frame has, and byte 10 is looked for behind
+// these alone.
+pub fn look(s: &[u8]) -> Next
+    ensures { λ r. ⌜ NextOf (now (s .entry)) r ⌝ }
+{
+    if s.len() <= REQUEST_DIGITS {
+        return other(s);
+    }
+    let front = request_ahead(s);
+    if !front.digits {
+        return other(s);
+    }
+    let request = front.request;
+    framed(s, request)
+}
+
+// Whether a line is whole words. There is no early end, since a settings line is whole words as a rule.
 pub fn whole_words(line: &[u8]) -> bool
     ensures { λ r. ⌜ r ≡ wholeWords (now (line .entry)) ⌝ }
 {
-    digits_only(line) & (line.len() % 8 == 0)
+    if line.len() % 8 != 0 {
+        return false;
+    }
+    let n = line.len() / 8;
+    let mut all = true;
+    let mut k = 0;
+    while k < n {
+        let read = word_at(line, 8 * k);
+        all = all & read.digits;
+        k += 1;
+    }
+    all
 }
 
 // The words of a line, at the front of `words`.
@@ -87,7 +136,8 @@ pub fn line_words(line: &[u8], words: &mut [u32])
     let n = line.len() / 8;
     let mut k = 0;
     while k < n {
-        words[k] = word(line, 8 * k);
+        let read = word_at(line, 8 * k);
+        words[k] = read.word;
         k += 1;
     }
 }

@@ -7,7 +7,7 @@ use Prim.Native.Nat.{ℕ, _≤_, _-_, _+_, _/_}
 use mathlib.Core.Path.{_≡_, refl, sym, _∙_, ap}
 use lib.ListN.{length, take, set}
 use Rattle.model.specs.Lines.{lineWords}
-use Rattle.framing.proofs.Framing.{words-more, words-length}
+use Rattle.framing.proofs.Framing.{words-more, words-length, digits-of}
 use Rattle.framing.proofs.line.line_words.Statement.{statement}
 use Rattle.framing.proofs.line.line_words.Tie as tie
 
@@ -20,11 +20,11 @@ abbrev μ-loop : tie.MeasureT-loop
 loop-holds : tie.Need-loop-holds Inv-loop μ-loop
 loop-holds c = (search needs, search needs, refl)
 
-mul-word : tie.Need-mul-word Inv-loop μ-loop
-mul-word c = search needs
+mul-word-at : tie.Need-mul-word-at Inv-loop μ-loop
+mul-word-at c = search needs
 
-word-requires : tie.Need-word-requires Inv-loop μ-loop
-word-requires c κs = search needs
+word-at-requires : tie.Need-word-at-requires Inv-loop μ-loop
+word-at-requires c κs = search needs
 
 mul-words : tie.Need-mul-words Inv-loop μ-loop
 mul-words c = search needs
@@ -38,13 +38,13 @@ add-k c = search needs
 loop-less : tie.Need-loop-less Inv-loop μ-loop
 loop-less c = search needs
 
-words-at : (c : tie.After-word Inv-loop μ-loop)
-    → take (c .before .before .loop .k + 1) (set (c .before .before .loop .words) (c .before .before .loop .k) (c .word .result))
+words-at : (c : tie.After-word-at Inv-loop μ-loop)
+    → take (c .before .before .loop .k + 1) (set (c .before .before .loop .words) (c .before .before .loop .k) (c .word-at .result .word))
     ≡ take (c .before .before .loop .k + 1) (lineWords (c .before .before .before .before .before .args .line .now))
 words-at c =
     let l = c .before .before .loop in
     let line = c .before .before .before .before .before .args .line .now in
-    ap (λ (w : ℕ). take (l .k + 1) (set (l .words) (l .k) w)) (c .word .ensures)
+    ap (λ (w : ℕ). take (l .k + 1) (set (l .words) (l .k) w)) (c .word-at .ensures .shows (digits-of line (l .k) (c .before .before .before .before .before .pre .0) (omega arith)))
     ∙ words-more line (l .words) (l .k) (omega arith) (omega (arith, c .before .before .before .before .before .pre)) (l .inv .2)
 
 loop-again : tie.Need-loop-again Inv-loop μ-loop
@@ -68,8 +68,8 @@ line-words-spec =
     Inv-loop
     μ-loop
     loop-holds
-    mul-word
-    word-requires
+    mul-word-at
+    word-at-requires
     mul-words
     slice-write-words
     add-k

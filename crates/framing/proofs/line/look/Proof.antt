@@ -1,55 +1,49 @@
--- `line::look`: a frame in front, or else the line's end is searched for.
+-- `line::look`: the digits of a request in front, or no frame.
 -- Assumes nothing.
-use mathlib.Core.Path.{_≡_, sym}
-use mathlib.Core.Bool.{true}
+use mathlib.Core.Path.{sym, _∙_}
 use native.Mathlib.Omega.{arith}
-use lib.ListN.{take}
-use lib.Seq.{length-take-le}
-use Rattle.model.specs.Lines.{isFrame}
-use Rattle.framing.specs.Front.{Leads}
-use Rattle.framing.proofs.Looking.{all-free, end-leads}
 use borrow.Author.Needs.{needs}
+use borrow.Author.Tests.{not-true, not-false}
+use Rattle.model.proofs.Search.{both}
+use Rattle.text.proofs.Hexes.{digits-part}
+use Rattle.framing.proofs.Looking.{none-by}
 use Rattle.framing.proofs.line.look.Statement.{statement}
 use Rattle.framing.proofs.line.look.Tie as tie
 
-frame-ahead-requires : tie.Need-frame-ahead-requires
-frame-ahead-requires c κs = search needs
-
-ahead : (c : tie.After-call-of-arg)
-    → Leads (c .before .before .before .before .args .s .now) (c .before .before .frame-ahead .result)
-    × (isFrame (take (c .before .before .frame-ahead .result) (c .before .before .before .before .args .s .now)) ≡ true)
-ahead c = c .before .before .frame-ahead .ensures .some (c .before .if1 .taken)
-
-slice-aggregate-call-of : tie.Need-slice-aggregate-call-of
-slice-aggregate-call-of c = sym (length-take-le _ _ (omega (arith, ahead c .0 .inside)))
-
-call-of-requires : tie.Need-call-of-requires
-call-of-requires c κs = ahead c .1
+other-requires : tie.Need-other-requires
+other-requires c κs = none-by _ (λ h. omega (arith, h .0)) (λ h. omega (arith, h .0))
 
 returns : tie.Need-returns
-returns c = let d = c .before .before in (ahead d .0, ahead d .1, c .before .call-of .ensures)
+returns c = search needs
 
-line-end-requires : tie.Need-line-end-requires
-line-end-requires c κs = search needs
+request-ahead-requires : tie.Need-request-ahead-requires
+request-ahead-requires c κs = search needs
+
+other-requires-2 : tie.Need-other-requires-2
+other-requires-2 c κs =
+    let f = sym (c .before .before .request-ahead .ensures .all) ∙ not-true _ (c .if2 .taken) in
+    none-by _ (λ h. both (h .2) f) (λ h. both (digits-part (c .before .before .before .before .before .args .s .now) 0 56 64 (omega arith) (h .2)) f)
 
 returns-2 : tie.Need-returns-2
-returns-2 c = all-free _ _ (c .before .line-end .ensures) (c .if2 .taken)
+returns-2 c = search needs
+
+framed-requires : tie.Need-framed-requires
+framed-requires c κs =
+    let f = c .before .before .before .request-ahead .ensures in
+    let d = sym (f .all) ∙ not-false _ (c .before .if2 .left) in
+    (record { more = omega arith; digits = d }, f .shows d)
 
 returns-3 : tie.Need-returns-3
-returns-3 c =
-    let f = c .before .before .before .frame-ahead in
-    let e = end-leads _ _ (c .before .line-end .ensures) (c .if2 .left) in
-    let n = c .before .before .if1 .left in
-    (e, f .ensures .none (omega arith) _ e)
+returns-3 c = search needs
 
 pub look-spec : {M : Type 1} → statement M
 look-spec =
     tie.close
     (tie.spec
-    frame-ahead-requires
-    slice-aggregate-call-of
-    call-of-requires
+    other-requires
     returns
-    line-end-requires
+    request-ahead-requires
+    other-requires-2
     returns-2
+    framed-requires
     returns-3)
