@@ -13,44 +13,30 @@ const ORDER: usize = 64;
 const KEPT: usize = 201;
 const LINE_END: u8 = 10;
 
-/// By byte: the digit's value, or NO_DIGIT.
-const NO_DIGIT: u8 = 0x80;
-static DIGITS: [u8; 256] = digits();
-/// By byte value: its two hexadecimal digits.
-static PAIRS: [[u8; 2]; 256] = pairs();
-
-const fn digits() -> [u8; 256] {
-    let mut table = [NO_DIGIT; 256];
-    let mut value = 0;
-    while value < 16 {
-        table[b"0123456789abcdef"[value] as usize] = value as u8;
-        value += 1;
-    }
-    table
-}
-
-const fn pairs() -> [[u8; 2]; 256] {
-    let hex = b"0123456789abcdef";
-    let mut table = [[0; 2]; 256];
-    let mut byte = 0;
-    while byte < 256 {
-        table[byte] = [hex[byte >> 4], hex[byte & 15]];
-        byte += 1;
-    }
-    table
-}
-
-/// Eight digits as a word; the second is NO_DIGIT or more when one of them is none.
+/// The digits of a word, the first in the highest byte.
 #[inline(always)]
-fn word(digits: &[u8; 8]) -> (u32, u8) {
-    let mut value = 0u32;
-    let mut any = 0;
-    for byte in digits {
-        let digit = DIGITS[*byte as usize];
-        any |= digit;
-        value = value << 4 | u32::from(digit & 15);
-    }
-    (value, any)
+fn digits_of(word: u32) -> u64 {
+    let mut values = u64::from(word);
+    values = (values | values << 16) & 0x0000_ffff_0000_ffff;
+    values = (values | values << 8) & 0x00ff_00ff_00ff_00ff;
+    values = (values | values << 4) & 0x0f0f_0f0f_0f0f_0f0f;
+    digits(values)
+}
+
+/// In each byte the digit of the value there.
+#[inline(always)]
+fn digits(values: u64) -> u64 {
+    values + 0x3030_3030_3030_3030 + (values + 0x0606_0606_0606_0606 >> 4 & 0x0101_0101_0101_0101) * 39
+}
+
+/// Eight digits as a word; the second is not 0 when a byte is no digit.
+#[inline(always)]
+fn word(bytes: &[u8; 8]) -> (u32, u64) {
+    let bytes = u64::from_be_bytes(*bytes);
+    let values = (bytes & 0x0f0f_0f0f_0f0f_0f0f) + (bytes >> 6 & 0x0101_0101_0101_0101) * 9 & 0x0f0f_0f0f_0f0f_0f0f;
+    let pairs = (values | values >> 4) & 0x00ff_00ff_00ff_00ff;
+    let halves = (pairs | pairs >> 8) & 0x0000_ffff_0000_ffff;
+    ((halves | halves >> 16) as u32, digits(values) ^ bytes)
 }
 
 /// The seven or eight words of a frame line; a line of seven has no order, 0.
@@ -63,19 +49,14 @@ fn frame<const DIGITS: usize>(line: &[u8; DIGITS]) -> Option<[u32; 8]> {
         any |= flags;
         *out = value;
     }
-    if any < NO_DIGIT {
-        Some(words)
-    } else {
-        None
-    }
+    (any == 0).then_some(words)
 }
 
 #[inline(always)]
 fn put_answer(answer: &Answer, out: &mut Vec<u8>) {
     let mut line = [LINE_END; 25];
-    let bytes = answer.words().map(u32::to_be_bytes);
-    for (pair, byte) in line.chunks_exact_mut(2).zip(bytes.as_flattened()) {
-        pair.copy_from_slice(&PAIRS[*byte as usize]);
+    for (digits, word) in line.chunks_exact_mut(8).zip(answer.words()) {
+        digits.copy_from_slice(&digits_of(word).to_be_bytes());
     }
     out.extend_from_slice(&line);
 }
@@ -186,8 +167,8 @@ fn answer(site: &Site, book: &mut [u32], numbers: &mut Numbers, words: [u32; 8])
 /// 24 before 25; silent when good.
 fn settings_line(line: &[u8], out: &mut Vec<u8>) -> Phase {
     let (groups, rest) = line.as_chunks::<8>();
-    let words: Vec<(u32, u8)> = groups.iter().map(word).collect();
-    let whole = rest.is_empty() && words.iter().all(|(_, any)| *any < NO_DIGIT);
+    let words: Vec<(u32, u64)> = groups.iter().map(word).collect();
+    let whole = rest.is_empty() && words.iter().all(|(_, any)| *any == 0);
     let settings: Vec<u32> = words.iter().map(|(value, _)| *value).collect();
     let refusal = match Site::new(&settings) {
         Some(site) if whole && site.length <= MOST_WORDS => {

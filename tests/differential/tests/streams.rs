@@ -134,6 +134,32 @@ fn every_length_of_line() {
     assert_eq!(numbers, numbers_of(&frames(&stream)));
 }
 
+/// Each of the 256 bytes at each place of a line, with an order and without; and the bytes beside the digits at each place of a settings line.
+#[test]
+fn every_byte_at_every_place() {
+    let settings = words_line(&[2, 2, 2, 3, 2, 2, 1, 2, 1, 4]);
+    let frame = words_line(&[12, 1, 1, 0, 3, 0, 0x0123_4567, 0x89ab_cdef]);
+    let mut stream = settings.clone();
+    for digits in [56, 64] {
+        for (at, byte) in (0..digits).flat_map(|at| (0..=255).map(move |byte| (at, byte))) {
+            let mut line = frame[..digits].to_vec();
+            line[at] = byte;
+            stream.extend([&line[..], b"\n"].concat());
+        }
+    }
+    let expected = frames(&stream);
+    assert!(written(vec![stream], None) == expected);
+    let mut numbers = Counts::new();
+    numbers_of(&expected).into_iter().for_each(|number| numbers.add(number));
+    println!("{} answer lines, by number {numbers}", numbers.total());
+    numbers.assert_each([3, 4, 5, 6, 7, 10, 23, 28], 5);
+    for (at, byte) in (0..settings.len() - 1).flat_map(|at| b"/09:@AFG`afg \r\x00\xff".map(move |byte| (at, byte))) {
+        let mut line = settings.clone();
+        line[at] = byte;
+        assert_eq!(written(vec![line.clone()], None), frames(&line), "byte {byte} at {at} of the settings");
+    }
+}
+
 /// A long stream of one site, in large writes.
 #[test]
 fn long_stream() {
