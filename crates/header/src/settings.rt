@@ -1,6 +1,6 @@
 // The settings at the head of a book, and question 1: limits and capacities in range, and the length that they ask for.
 use book::grid;
-use book::grid::LIMITS;
+use book::grid::FIXED_WORDS;
 use book::grid::settings_len;
 use model::Settings;
 ghost use mathlib.Core.Path.{_≡_};
@@ -34,7 +34,7 @@ fn seat(words: &[u32], dining: u32, g: usize) -> u32
     if dining <= g as u32 {
         return 0;
     }
-    word(words, LIMITS + g)
+    word(words, FIXED_WORDS + g)
 }
 
 fn seats(words: &[u32], dining: u32) -> [u32; 16]
@@ -125,7 +125,7 @@ pub fn length_of(s: Settings) -> usize
 pub fn settings_good(words: &[u32]) -> bool
     ensures { λ r. ⌜ r ≡ settingsGood (now (words .entry)) ⌝ }
 {
-    if words.len() < LIMITS {
+    if words.len() < FIXED_WORDS {
         return false;
     }
     let s = settings(words);
@@ -149,7 +149,7 @@ pub fn book_len(words: &[u32]) -> usize
 pub fn well_laid(book: &[u32]) -> bool
     ensures { λ r. ⌜ r ≡ wellLaid (now (book .entry)) ⌝ }
 {
-    if book.len() < LIMITS {
+    if book.len() < FIXED_WORDS {
         return false;
     }
     let s = settings(book);
