@@ -49,17 +49,18 @@ not-all p n k h e = ap not (true-any (λ i. not (p i)) n k h (ap not e))
 -- the tests of the limits, joined as the code joins them
 pub valid-is : (S : Settings) → length (S .capacities) ≡ 16
     → (within 1 400 (S .dates) && within 1 16 (S .sessions) && within 1 96 (S .times)) && (within 1 512 (S .visitors) && within 1 128 (S .meetings))
-    && (within 1 64 (S .rooms) && within 1 16 (S .dining) && within 1 512 (S .hotels)) && within 1 128 (S .transports) && all (seatGood S) 16
+    && (within 1 64 (S .rooms) && within 1 16 (S .dining) && within 1 512 (S .hotels)) && within 1 128 (S .transports) && ltb (S .early) (S .times)
+    && all (seatGood S) 16
     ≡ validSettings S
 unfolding validSettings
 valid-is S h =
     tests (within 1 400 (S .dates)) (within 1 16 (S .sessions)) (within 1 96 (S .times)) (within 1 512 (S .visitors)) (within 1 128 (S .meetings))
-    (within 1 64 (S .rooms)) (within 1 16 (S .dining)) (within 1 512 (S .hotels)) (within 1 128 (S .transports)) (eqb (length (S .capacities)) 16)
-    (all (seatGood S) 16) (eq-eqb _ _ h)
+    (within 1 64 (S .rooms)) (within 1 16 (S .dining)) (within 1 512 (S .hotels)) (within 1 128 (S .transports)) (ltb (S .early) (S .times))
+    (eqb (length (S .capacities)) 16) (all (seatGood S) 16) (eq-eqb _ _ h)
   where
-    tests : (a b c d e f g h i n s : Bool) → n ≡ true → (a && b && c) && (d && e) && (f && g && h) && i && s
-        ≡ a && (b && (c && (d && (e && (f && (g && (h && (i && (n && (s && true))))))))))
-    tests a b c d e f g h i n s q = rw q (simp (and-assoc, and-true))
+    tests : (a b c d e f g h i j n s : Bool) → n ≡ true → (a && b && c) && (d && e) && (f && g && h) && i && j && s
+        ≡ a && (b && (c && (d && (e && (f && (g && (h && (i && (j && (n && (s && true)))))))))))
+    tests a b c d e f g h i j n s q = rw q (simp (and-assoc, and-true))
 
 -- capacities of valid settings are small
 pub seats-low : (S : Settings) → validSettings S ≡ true → (length (S .capacities) ≡ 16) × ((g : ℕ) → getD (S .capacities) g 0 ≤ 1000)

@@ -1,4 +1,4 @@
-// The settings at the head of a book, and question 1: limits and capacities in range, and the length that they ask for.
+// The settings at the head of a book, and question 1: limits, early times and capacities in range, and the length that they ask for.
 use book::grid;
 use book::grid::FIXED_WORDS;
 use book::grid::settings_len;
@@ -64,6 +64,7 @@ pub fn settings(words: &[u32]) -> Settings
         dining,
         hotels: word(words, 7),
         transports: word(words, 8),
+        early: word(words, 9),
         capacities: seats(words, dining),
     }
 }
@@ -93,7 +94,7 @@ fn seats_good(s: Settings) -> bool
     true
 }
 
-// Every limit and capacity is in its range.
+// Every limit and capacity is in its range, and there are fewer early times than times of a date.
 pub fn valid(s: Settings) -> bool
     requires { ⌜ length (s .capacities) ≡ 16 ⌝ }
     ensures { λ r. ⌜ r ≡ validSettings s ⌝ }
@@ -101,7 +102,7 @@ pub fn valid(s: Settings) -> bool
     let slots = in_range(s.dates, 400) & in_range(s.sessions, 16) & in_range(s.times, 96);
     let people = in_range(s.visitors, 512) & in_range(s.meetings, 128);
     let rooms = in_range(s.rooms, 64) & in_range(s.dining, 16) & in_range(s.hotels, 512);
-    slots & people & rooms & in_range(s.transports, 128) & seats_good(s)
+    slots & people & rooms & in_range(s.transports, 128) & (s.early < s.times) & seats_good(s)
 }
 
 // Where the diary of a book ends, under settings in range: behind its last region.

@@ -23,4 +23,4 @@ unit-le S h times = omega (arith, all-times S h)
 pub date-lt : (S : Settings) → Ranges S → (u : Unit) (i : ℕ) → i < slotsOf S u → dateOf S u i < S .dates
 date-lt S h dates i l = l
 date-lt S h sessions i l = div-lt-iff-lt-mul {k = S .sessions} (h .sessions .0) .1 l
-date-lt S h times i l = div-lt-iff-lt-mul {k = S .times} (h .times .0) .1 l
+date-lt S h times i l = div-lt-iff-lt-mul {k = S .times} (h .times .0) .1 (omega (arith, l))
