@@ -7,16 +7,16 @@ use mathlib.Core.Bool.{Bool, true, false, _&&_, cond, and-assoc, and-true}
 use mathlib.Core.Option.{Option, none, some}
 use mathlib.Core.List.{List, [], _∷_, _++_}
 use native.Mathlib.Omega.{arith}
-use lib.Dec.{ltb, eqb}
+use lib.Dec.{leb, ltb, eqb}
 use lib.ListN.{length, take}
-use borrow.Author.Tests.{lt-ltb, eqb-true}
+use borrow.Author.Tests.{lt-ltb, eqb-true, ne-eqb}
 use Rattle.model.specs.declared.Settings.{Settings}
 use Rattle.model.specs.declared.Request.{Request}
 use Rattle.model.specs.declared.Guest.{Guest}
 use Rattle.model.specs.declared.Answer.the-variants.{Done, Refused}
 use Rattle.model.specs.Bounded.{all, within, failing, every, count2}
-use Rattle.model.specs.Site.{capacity, allSessions, allTimes, dateOfSession, dateOfTime, validSettings, settingsLength, settingsWords}
-use Rattle.model.specs.State.{State, Pairs, hotels, rides, attends, confs, lunches}
+use Rattle.model.specs.Site.{capacity, allSessions, allTimes, dateOfSession, dateOfTime, validSettings, fixedWords, settingsLength, settingsWords}
+use Rattle.model.specs.State.{State, emptyState, Pairs, hotels, rides, attends}
 use Rattle.model.specs.Kinds.{Kind, Kind.removeVisitor, kindOf, Unit, dates, sessions, times, row, dateOf}
 use Rattle.model.specs.Questions.{Question, Scope, whole, eachSlot, eachDate, scope, test, placed, ask, bookings, Refusal, refusal, judge}
 use Rattle.model.specs.Questions.{always, further, unusedZero, aBelow, bBelow, slotsFit, seatsFit, onLeave, stands, standsThatDate, absent}
@@ -25,16 +25,20 @@ use Rattle.model.specs.Machine.{withLeave, withHotel, withRide, withAtte
 use Rattle.model.specs.Machine.{joining, ifDone, joined, allOrNone, partyFits, admit, Call, ordered, party, Performed, stepped, answerOrder}
 use Rattle.model.specs.Machine.{perform, Run, run}
 use Rattle.model.specs.Words.{diaryLength, words}
+use Rattle.model.specs.Reading.{settingsOf}
 use Rattle.model.specs.Tail.{keptAt, noted}
-use Rattle.model.specs.Ledger.{Ledger, bookLength, bookWords}
+use Rattle.model.specs.Ledger.{Ledger, emptyLedger, bookLength, bookWords}
 use Rattle.model.specs.Laws.{unitOf, eachEntry, guestsOnLeave, allLaws, law, laws, oneVisitorARoom, oneRoomAVisitor, oneVisitorARide}
 use Rattle.model.specs.Laws.{oneRideAVisitor, oneMeetingAVisitor, oneMeetingARoom, oneRoomALunch, attendedStands, confStands, lunchStands}
 use Rattle.model.specs.Laws.{hotelLeave, rideLeave, attendLeave, seatsWithin}
 use Rattle.model.specs.Before.{dateThen, dateBy, bookingsBy, testBy, placedBy, judgeBy, removeBy, changeBy, valueBy, finishBy, stepKindBy}
-use Rattle.model.specs.Before.{stepBy, joinedBy, admitBy, answerOrderBy, performBy, runBy, guestsBy, lawsBy, validThen, bookThen, lengthThen, withZero}
+use Rattle.model.specs.Calls.{calls, freshBook, settingsGood}
+use Rattle.model.specs.Before.{stepBy, joinedBy, admitBy, answerOrderBy, performBy, runBy, guestsBy, lawsBy, validThen, bookThen, lengthThen}
+use Rattle.model.specs.Before.{withZero, shownThen}
 use Rattle.model.proofs.Frame.{step-settings}
 use Rattle.model.proofs.Party.{admit-settings}
 use Rattle.model.proofs.Search.{within-true}
+use Rattle.model.proofs.Shows.{Shows, shown-calls, fresh-shows}
 
 -- a call leaves the settings
 perform-settings : (l : Ledger) (c : Call) → perform l c .ledger .diary .settings ≡ l .diary .settings
@@ -44,6 +48,11 @@ perform-settings l (ordered n r) = order (keptAt (l .tail) n)
     order none = step-settings (l .diary) r
     order (some i) = refl
 perform-settings l (party m gs) = admit-settings (l .diary) m gs
+
+run-settings : (l : Ledger) (cs : List Call) → run l cs .ledger .diary .settings ≡ l .diary .settings
+unfolding run
+run-settings l [] = refl
+run-settings l (c ∷ cs) = run-settings (perform l c .ledger) cs ∙ perform-settings l c
 
 module _ (date : Settings → ℕ → ℕ) where
   -- a date of times that is today's for the settings of x
@@ -240,3 +249,31 @@ words-then l e = rw e refl
 pub length-then : (S : Settings) → bookLength S ≡ lengthThen S + 1
 unfolding bookLength diaryLength settingsLength lengthThen
 length-then S = omega arith
+
+-- On books: of every list of calls, on any book without early times that passes and on a fresh one, the replies are those of then, and so
+-- are all words but the tenth.
+pub calls-then : (b : List ℕ) (l : Ledger) → Shows b l → l .diary .settings .early ≡ 0 → (cs : List Call)
+    → calls b cs ≡ shownThen (runBy dateThen l cs)
+calls-then b l h e cs =
+    let k : bookWords (run l cs .ledger) ≡ withZero (bookThen (run l cs .ledger))
+    = words-then (run l cs .ledger) (ap (λ (S : Settings). S .early) (run-settings l cs) ∙ e) in
+    shown-calls b l h cs
+    ∙ ap (λ (w : List ℕ). record { replies = run l cs .replies; book = w }) k
+    ∙ ap shownThen (sym (run-then l e cs))
+
+pub fresh-then : (S : Settings) → validThen S ≡ true → S .early ≡ 0 → (cs : List Call)
+    → calls (freshBook S) cs ≡ shownThen (runBy dateThen (emptyLedger S) cs)
+unfolding emptyLedger emptyState
+fresh-then S v e cs = calls-then (freshBook S) (emptyLedger S) (fresh-shows S (sym (valid-then S e) ∙ v)) e cs
+
+-- settings of the length of then are none now
+pub settings-then : (w : List ℕ) → length w ≡ 9 + settingsOf w .dining → settingsGood w ≡ false
+unfolding settingsGood settingsLength
+settings-then w h =
+    ap (λ (t : Bool). leb fixedWords (length w) && t && validSettings (settingsOf w))
+    (ne-eqb (length w) (fixedWords + settingsOf w .dining) (λ q. omega (arith, h, q)))
+    ∙ go (leb fixedWords (length w)) (validSettings (settingsOf w))
+  where
+    go : (a b : Bool) → a && false && b ≡ false
+    go true b = refl
+    go false b = refl

@@ -24,6 +24,7 @@ use Rattle.model.specs.Words.{total, order, blocks}
 use Rattle.model.specs.Tail.{keptAt, entryAt, noted, tailLength, tailWords}
 use Rattle.model.specs.Ledger.{Ledger}
 use Rattle.model.specs.Laws.{unitOf, eachEntry, Law.seatsWithin, allLaws, law}
+use Rattle.model.specs.Calls.{Calls}
 
 -- the date of a time as it was
 abbrev pub dateThen : Settings → ℕ → ℕ
@@ -150,3 +151,7 @@ lengthThen S = 9 + S .dining + total S order + tailLength
 -- a 0 put in behind nine words
 abbrev pub withZero : List ℕ → List ℕ
 withZero w = take 9 w ++ 0 ∷ drop 9 w
+
+-- what a list of calls leaves of a run of then: its replies, and its book with the 0
+abbrev pub shownThen : Run → Calls
+shownThen u = record { replies = u .replies; book = withZero (bookThen (u .ledger)) }
