@@ -62,8 +62,8 @@ pub settings-in : (S : Settings) → settingsLength S ≤ diaryLength S
 unfolding diaryLength
 settings-in S = omega arith
 
-limits-in : (S : Settings) → fixedWords ≤ diaryLength S
-limits-in S = omega (arith, settings-length S, settings-in S)
+fixed-in : (S : Settings) → fixedWords ≤ diaryLength S
+fixed-in S = omega (arith, settings-length S, settings-in S)
 
 -- a book has the settings of its first part
 pub diary-settings : (b : List ℕ) → settingsOf (diaryOf b) ≡ settingsOf b
@@ -117,7 +117,7 @@ module _ (b : List ℕ) (one : wellLaid b ≡ true) where
   laid-diary =
       rw (diary-settings b)
       (and-true
-      (and-true (le-leb fixedWords (length (diaryOf b)) (omega (arith, diary-long, limits-in (settingsOf b)))) laid-valid)
+      (and-true (le-leb fixedWords (length (diaryOf b)) (omega (arith, diary-long, fixed-in (settingsOf b)))) laid-valid)
       (eq-eqb (length (diaryOf b)) (diaryLength (settingsOf b)) diary-long))
 
   -- and question 2
@@ -185,7 +185,7 @@ module _ (l : Ledger) (s : LedgerSound l) where
   well-laid =
       rw book-settings
       (and-true
-      (and-true (le-leb fixedWords (length (bookWords l)) (omega (arith, book-long, limits-in (l .diary .settings)))) (s .diary .valid))
+      (and-true (le-leb fixedWords (length (bookWords l)) (omega (arith, book-long, fixed-in (l .diary .settings)))) (s .diary .valid))
       (eq-eqb (length (bookWords l)) (bookLength (l .diary .settings)) book-long))
 
   pub lawful-words : lawful (bookWords l) ≡ true
