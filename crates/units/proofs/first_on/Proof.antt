@@ -1,6 +1,5 @@
 -- The guess is a slot or the end, and the cut lies between the two ends that are found from it.
 -- Assumes nothing.
-use native.Mathlib.Omega.{arith}
 use borrow.Author.Needs.{needs}
 use Rattle.units.proofs.first_on.Statement.{statement}
 use Rattle.units.proofs.first_on.Tie as tie
