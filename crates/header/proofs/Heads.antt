@@ -11,7 +11,7 @@ use lib.Seq.{ext-getD}
 use borrow.Author.Tests.{ltb-true, ltb-false, lt-ltb, le-ltb, leb-true, leb-false, le-leb, lt-leb, eqb-true, eq-eqb, ne-eqb}
 use Rattle.model.specs.declared.Settings.{Settings}
 use Rattle.model.specs.Bounded.{all, within, list}
-use Rattle.model.specs.Site.{validSettings, limitWords, settingsLength}
+use Rattle.model.specs.Site.{validSettings, fixedWords, settingsLength}
 use Rattle.model.specs.Words.{diaryLength, rideCells, base, size}
 use Rattle.model.specs.Reading.{settingsOf}
 use Rattle.model.specs.Ledger.{bookLength}
@@ -49,17 +49,18 @@ not-all p n k h e = ap not (true-any (λ i. not (p i)) n k h (ap not e))
 -- the tests of the limits, joined as the code joins them
 pub valid-is : (S : Settings) → length (S .capacities) ≡ 16
     → (within 1 400 (S .dates) && within 1 16 (S .sessions) && within 1 96 (S .times)) && (within 1 512 (S .visitors) && within 1 128 (S .meetings))
-    && (within 1 64 (S .rooms) && within 1 16 (S .dining) && within 1 512 (S .hotels)) && within 1 128 (S .transports) && all (seatGood S) 16
+    && (within 1 64 (S .rooms) && within 1 16 (S .dining) && within 1 512 (S .hotels)) && within 1 128 (S .transports) && ltb (S .early) (S .times)
+    && all (seatGood S) 16
     ≡ validSettings S
 unfolding validSettings
 valid-is S h =
     tests (within 1 400 (S .dates)) (within 1 16 (S .sessions)) (within 1 96 (S .times)) (within 1 512 (S .visitors)) (within 1 128 (S .meetings))
-    (within 1 64 (S .rooms)) (within 1 16 (S .dining)) (within 1 512 (S .hotels)) (within 1 128 (S .transports)) (eqb (length (S .capacities)) 16)
-    (all (seatGood S) 16) (eq-eqb _ _ h)
+    (within 1 64 (S .rooms)) (within 1 16 (S .dining)) (within 1 512 (S .hotels)) (within 1 128 (S .transports)) (ltb (S .early) (S .times))
+    (eqb (length (S .capacities)) 16) (all (seatGood S) 16) (eq-eqb _ _ h)
   where
-    tests : (a b c d e f g h i n s : Bool) → n ≡ true → (a && b && c) && (d && e) && (f && g && h) && i && s
-        ≡ a && (b && (c && (d && (e && (f && (g && (h && (i && (n && (s && true))))))))))
-    tests a b c d e f g h i n s q = rw q (simp (and-assoc, and-true))
+    tests : (a b c d e f g h i j n s : Bool) → n ≡ true → (a && b && c) && (d && e) && (f && g && h) && i && j && s
+        ≡ a && (b && (c && (d && (e && (f && (g && (h && (i && (j && (n && (s && true)))))))))))
+    tests a b c d e f g h i j n s q = rw q (simp (and-assoc, and-true))
 
 -- capacities of valid settings are small
 pub seats-low : (S : Settings) → validSettings S ≡ true → (length (S .capacities) ≡ 16) × ((g : ℕ) → getD (S .capacities) g 0 ≤ 1000)
@@ -81,49 +82,49 @@ book-end S = omega arith
 -- what question 1 leaves to know of a diary
 pub laid-valid : (b : List ℕ) → diaryLaid b ≡ true → validSettings (settingsOf b) ≡ true
 unfolding diaryLaid
-laid-valid b e = and-right (leb limitWords (length b)) _ (and-left (leb limitWords (length b) && validSettings (settingsOf b)) _ e)
+laid-valid b e = and-right (leb fixedWords (length b)) _ (and-left (leb fixedWords (length b) && validSettings (settingsOf b)) _ e)
 
 pub laid-is : (b : List ℕ) → diaryLaid b ≡ true → (S : Settings) → S ≡ settingsOf b → Laid S b
 unfolding diaryLaid
 laid-is b e S q =
     record {
       ranges = ranges-by S (ap validSettings q ∙ laid-valid b e);
-      long = eqb-true _ _ (and-right (leb limitWords (length b) && validSettings (settingsOf b)) _ e) ∙ ap diaryLength (sym q);
+      long = eqb-true _ _ (and-right (leb fixedWords (length b) && validSettings (settingsOf b)) _ e) ∙ ap diaryLength (sym q);
     }
 
 -- question 1, by what the code finds
-pub laid-short : (b : List ℕ) → length b < limitWords → wellLaid b ≡ false
+pub laid-short : (b : List ℕ) → length b < fixedWords → wellLaid b ≡ false
 unfolding wellLaid
-laid-short b h = rw (lt-leb limitWords (length b) h)
+laid-short b h = rw (lt-leb fixedWords (length b) h)
 
-module _ (b : List ℕ) (S : Settings) (is : S ≡ settingsOf b) (long : limitWords ≤ length b) where
+module _ (b : List ℕ) (S : Settings) (is : S ≡ settingsOf b) (long : fixedWords ≤ length b) where
   pub laid-bad : validSettings S ≡ false → wellLaid b ≡ false
   unfolding wellLaid
-  laid-bad v = rw (le-leb limitWords (length b) long, ← is, v)
+  laid-bad v = rw (le-leb fixedWords (length b) long, ← is, v)
 
   pub laid-good : validSettings S ≡ true → (n : ℕ) → n ≡ bookLength S → wellLaid b ≡ eqb (length b) n
   unfolding wellLaid
-  laid-good v n q = rw (le-leb limitWords (length b) long, ← is, v, q)
+  laid-good v n q = rw (le-leb fixedWords (length b) long, ← is, v, q)
 
   -- question 24
   pub good-length : (length b ≡ settingsLength S → ⊥) → settingsGood b ≡ false
   unfolding settingsGood
-  good-length n = rw (le-leb limitWords (length b) long, ← is, ne-eqb (length b) (settingsLength S) n)
+  good-length n = rw (le-leb fixedWords (length b) long, ← is, ne-eqb (length b) (settingsLength S) n)
 
   pub good-valid : length b ≡ settingsLength S → settingsGood b ≡ validSettings S
   unfolding settingsGood
-  good-valid e = rw (le-leb limitWords (length b) long, ← is, eq-eqb (length b) (settingsLength S) e)
+  good-valid e = rw (le-leb fixedWords (length b) long, ← is, eq-eqb (length b) (settingsLength S) e)
 
-pub good-short : (b : List ℕ) → length b < limitWords → settingsGood b ≡ false
+pub good-short : (b : List ℕ) → length b < fixedWords → settingsGood b ≡ false
 unfolding settingsGood
-good-short b h = rw (lt-leb limitWords (length b) h)
+good-short b h = rw (lt-leb fixedWords (length b) h)
 
 pub good-is : (b : List ℕ) → settingsGood b ≡ true → (length b ≡ settingsLength (settingsOf b)) × (validSettings (settingsOf b) ≡ true)
 unfolding settingsGood
 good-is b e =
-    let l = and-left (leb limitWords (length b) && eqb (length b) (settingsLength (settingsOf b))) (validSettings (settingsOf b)) e in (
-      eqb-true _ _ (and-right (leb limitWords (length b)) _ l),
-      and-right (leb limitWords (length b) && eqb (length b) (settingsLength (settingsOf b))) _ e,
+    let l = and-left (leb fixedWords (length b) && eqb (length b) (settingsLength (settingsOf b))) (validSettings (settingsOf b)) e in (
+      eqb-true _ _ (and-right (leb fixedWords (length b)) _ l),
+      and-right (leb fixedWords (length b) && eqb (length b) (settingsLength (settingsOf b))) _ e,
     )
 
 pub needed-none : (b : List ℕ) → settingsGood b ≡ false → neededLength b ≡ 0

@@ -1,6 +1,6 @@
-// The settings at the head of a book, and question 1: limits and capacities in range, and the length that they ask for.
+// The settings at the head of a book, and question 1: limits, early times and capacities in range, and the length that they ask for.
 use book::grid;
-use book::grid::LIMITS;
+use book::grid::FIXED_WORDS;
 use book::grid::settings_len;
 use model::Settings;
 ghost use mathlib.Core.Path.{_≡_};
@@ -34,7 +34,7 @@ fn seat(words: &[u32], dining: u32, g: usize) -> u32
     if dining <= g as u32 {
         return 0;
     }
-    word(words, LIMITS + g)
+    word(words, FIXED_WORDS + g)
 }
 
 fn seats(words: &[u32], dining: u32) -> [u32; 16]
@@ -64,6 +64,7 @@ pub fn settings(words: &[u32]) -> Settings
         dining,
         hotels: word(words, 7),
         transports: word(words, 8),
+        early: word(words, 9),
         capacities: seats(words, dining),
     }
 }
@@ -93,7 +94,7 @@ fn seats_good(s: Settings) -> bool
     true
 }
 
-// Every limit and capacity is in its range.
+// Every limit and capacity is in its range, and there are fewer early times than times of a date.
 pub fn valid(s: Settings) -> bool
     requires { ⌜ length (s .capacities) ≡ 16 ⌝ }
     ensures { λ r. ⌜ r ≡ validSettings s ⌝ }
@@ -101,7 +102,7 @@ pub fn valid(s: Settings) -> bool
     let slots = in_range(s.dates, 400) & in_range(s.sessions, 16) & in_range(s.times, 96);
     let people = in_range(s.visitors, 512) & in_range(s.meetings, 128);
     let rooms = in_range(s.rooms, 64) & in_range(s.dining, 16) & in_range(s.hotels, 512);
-    slots & people & rooms & in_range(s.transports, 128) & seats_good(s)
+    slots & people & rooms & in_range(s.transports, 128) & (s.early < s.times) & seats_good(s)
 }
 
 // Where the diary of a book ends, under settings in range: behind its last region.
@@ -125,7 +126,7 @@ pub fn length_of(s: Settings) -> usize
 pub fn settings_good(words: &[u32]) -> bool
     ensures { λ r. ⌜ r ≡ settingsGood (now (words .entry)) ⌝ }
 {
-    if words.len() < LIMITS {
+    if words.len() < FIXED_WORDS {
         return false;
     }
     let s = settings(words);
@@ -149,7 +150,7 @@ pub fn book_len(words: &[u32]) -> usize
 pub fn well_laid(book: &[u32]) -> bool
     ensures { λ r. ⌜ r ≡ wellLaid (now (book .entry)) ⌝ }
 {
-    if book.len() < LIMITS {
+    if book.len() < FIXED_WORDS {
         return false;
     }
     let s = settings(book);

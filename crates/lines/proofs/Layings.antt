@@ -52,7 +52,7 @@ layable-book : (w : List ℕ) → bookLength (settingsOf w) ≤ programWords →
 unfolding layable
 layable-book w h = simp (le-leb (bookLength (settingsOf w)) programWords h)
 
-long : (S : Settings) → 9 ≤ bookLength S
+long : (S : Settings) → 1 ≤ bookLength S
 unfolding bookLength diaryLength
 long S = omega (arith, settings-length S)
 

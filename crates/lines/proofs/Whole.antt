@@ -12,7 +12,7 @@ use lib.ListN.{length}
 use lib.Seq.{take-all, length-take-le}
 use borrow.Author.Tests.{eqb-true, eqb-false, ne-eqb}
 use Rattle.model.specs.Bounded.{every, isSome}
-use Rattle.model.specs.Site.{settingsLength, validSettings}
+use Rattle.model.specs.Site.{fixedWords, settingsLength, validSettings}
 use Rattle.model.proofs.Search.{and-left, and-right}
 use Rattle.model.proofs.Places.{settings-length}
 use Rattle.model.proofs.ReadBack.{valid-is}
@@ -57,8 +57,8 @@ settings-short l h =
     let w = lineWords l in
     let whole = eqb-true (length l % 8) 0 (and-right (every (λ b. isSome (digitValue b)) l) _ (and-left (wholeWords l) _ h)) in
     let good = and-right (wholeWords l) _ h in
-    let valid = valid-is (settingsOf w) (and-right (leb 9 (length w) && eqb (length w) (settingsLength (settingsOf w))) _ good) in
-    let long = eqb-true (length w) (settingsLength (settingsOf w)) (and-right (leb 9 (length w)) _ (and-left _ (validSettings (settingsOf w)) good))
+    let valid = valid-is (settingsOf w) (and-right (leb fixedWords (length w) && eqb (length w) (settingsLength (settingsOf w))) _ good) in
+    let long = eqb-true (length w) (settingsLength (settingsOf w)) (and-right (leb fixedWords (length w)) _ (and-left _ (validSettings (settingsOf w)) good))
     in
     omega (arith, words-length l, settings-length (settingsOf w), valid .few)
 

@@ -1,5 +1,5 @@
 // The settings line: the book that it lays.
-use book::grid::LIMITS;
+use book::grid::FIXED_WORDS;
 use framing::line::line_words;
 use framing::line::whole_words;
 use header::lay::lay;
@@ -12,10 +12,10 @@ ghost use Rattle.lines.specs.Laying.{LaidOf, LaidBy};
 // The most words of a book that the program holds.
 pub const PROGRAM_WORDS: usize = 16384;
 
-// The most dining rooms, and the most words that settings are: the limits, and a capacity for each of them.
+// The most dining rooms, and the most words that settings are: those before the capacities, and a capacity for each of them.
 const DINING_MOST: usize = 16;
 
-pub const SETTINGS_WORDS: usize = LIMITS + DINING_MOST;
+pub const SETTINGS_WORDS: usize = FIXED_WORDS + DINING_MOST;
 
 // What a settings line gives: the length of the book that is laid, or the number of a refusal.
 pub enum Laid {

@@ -12,7 +12,7 @@ use lib.Seq.{getD-take, take-all, take-at, drop-at}
 use borrow.Author.Tests.{ltb-true, le-leb, eqb-true, eq-eqb}
 use Rattle.model.specs.declared.Settings.{Settings}
 use Rattle.model.specs.Bounded.{list}
-use Rattle.model.specs.Site.{validSettings, limitWords, settingsLength}
+use Rattle.model.specs.Site.{validSettings, fixedWords, settingsLength}
 use Rattle.model.specs.Words.{diaryLength, words}
 use Rattle.model.specs.Reading.{settingsOf, stateOf}
 use Rattle.model.specs.Tail.{tailLength, tailWords, tailOf, tailKept}
@@ -46,14 +46,15 @@ same-head a b n h e =
       dining = e 6 (omega (arith, h)) i;
       hotels = e 7 (omega (arith, h)) i;
       transports = e 8 (omega (arith, h)) i;
+      early = e 9 (omega (arith, h)) i;
       capacities = list (λ g. seat g i) 16;
     }
   where
-    seat : (g : ℕ) → cond (ltb g (getD a 6 0)) (getD a (limitWords + g) 0) 0 ≡ cond (ltb g (getD b 6 0)) (getD b (limitWords + g) 0) 0
-    seat g = ap (λ (n : ℕ). cond (ltb g n) (getD a (limitWords + g) 0) 0) (e 6 (omega (arith, h))) ∙ go (ltb g (getD b 6 0)) refl
+    seat : (g : ℕ) → cond (ltb g (getD a 6 0)) (getD a (fixedWords + g) 0) 0 ≡ cond (ltb g (getD b 6 0)) (getD b (fixedWords + g) 0) 0
+    seat g = ap (λ (n : ℕ). cond (ltb g n) (getD a (fixedWords + g) 0) 0) (e 6 (omega (arith, h))) ∙ go (ltb g (getD b 6 0)) refl
       where
-        go : (t : Bool) → ltb g (getD b 6 0) ≡ t → cond t (getD a (limitWords + g) 0) 0 ≡ cond t (getD b (limitWords + g) 0) 0
-        go true q = e (limitWords + g) (omega (arith, h, ltb-true g (getD b 6 0) q))
+        go : (t : Bool) → ltb g (getD b 6 0) ≡ t → cond t (getD a (fixedWords + g) 0) 0 ≡ cond t (getD b (fixedWords + g) 0) 0
+        go true q = e (fixedWords + g) (omega (arith, h, ltb-true g (getD b 6 0) q))
         go false q = refl
 
 -- the settings stand in the diary
@@ -61,8 +62,8 @@ pub settings-in : (S : Settings) → settingsLength S ≤ diaryLength S
 unfolding diaryLength
 settings-in S = omega arith
 
-limits-in : (S : Settings) → limitWords ≤ diaryLength S
-limits-in S = omega (arith, settings-length S, settings-in S)
+fixed-in : (S : Settings) → fixedWords ≤ diaryLength S
+fixed-in S = omega (arith, settings-length S, settings-in S)
 
 -- a book has the settings of its first part
 pub diary-settings : (b : List ℕ) → settingsOf (diaryOf b) ≡ settingsOf b
@@ -93,11 +94,11 @@ module _ (b : List ℕ) {S : Settings} {n : ℕ} (is : S ≡ settingsOf b) (e : 
 module _ (b : List ℕ) (one : wellLaid b ≡ true) where
   pub laid-valid : validSettings (settingsOf b) ≡ true
   unfolding wellLaid
-  laid-valid = and-right (leb limitWords (length b)) _ (and-left _ (eqb (length b) (bookLength (settingsOf b))) one)
+  laid-valid = and-right (leb fixedWords (length b)) _ (and-left _ (eqb (length b) (bookLength (settingsOf b))) one)
 
   pub laid-long : length b ≡ bookLength (settingsOf b)
   unfolding wellLaid
-  laid-long = eqb-true _ _ (and-right (leb limitWords (length b) && validSettings (settingsOf b)) _ one)
+  laid-long = eqb-true _ _ (and-right (leb fixedWords (length b) && validSettings (settingsOf b)) _ one)
 
   pub diary-long : length (diaryOf b) ≡ diaryLength (settingsOf b)
   unfolding diaryOf bookLength
@@ -116,7 +117,7 @@ module _ (b : List ℕ) (one : wellLaid b ≡ true) where
   laid-diary =
       rw (diary-settings b)
       (and-true
-      (and-true (le-leb limitWords (length (diaryOf b)) (omega (arith, diary-long, limits-in (settingsOf b)))) laid-valid)
+      (and-true (le-leb fixedWords (length (diaryOf b)) (omega (arith, diary-long, fixed-in (settingsOf b)))) laid-valid)
       (eq-eqb (length (diaryOf b)) (diaryLength (settingsOf b)) diary-long))
 
   -- and question 2
@@ -184,7 +185,7 @@ module _ (l : Ledger) (s : LedgerSound l) where
   well-laid =
       rw book-settings
       (and-true
-      (and-true (le-leb limitWords (length (bookWords l)) (omega (arith, book-long, limits-in (l .diary .settings)))) (s .diary .valid))
+      (and-true (le-leb fixedWords (length (bookWords l)) (omega (arith, book-long, fixed-in (l .diary .settings)))) (s .diary .valid))
       (eq-eqb (length (bookWords l)) (bookLength (l .diary .settings)) book-long))
 
   pub lawful-words : lawful (bookWords l) ≡ true

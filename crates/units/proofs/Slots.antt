@@ -6,6 +6,7 @@ use native.Mathlib.Omega.{arith}
 use Rattle.model.specs.declared.Settings.{Settings}
 use Rattle.model.specs.Site.{allSessions, allTimes}
 use Rattle.model.specs.Kinds.{Unit, dates, sessions, times, slotsOf, dateOf}
+use Rattle.model.proofs.Times.{time-date-lt}
 use Rattle.units.specs.Ranges.{Ranges}
 
 pub all-sessions : (S : Settings) → Ranges S → allSessions S ≤ 6400
@@ -23,4 +24,4 @@ unit-le S h times = omega (arith, all-times S h)
 pub date-lt : (S : Settings) → Ranges S → (u : Unit) (i : ℕ) → i < slotsOf S u → dateOf S u i < S .dates
 date-lt S h dates i l = l
 date-lt S h sessions i l = div-lt-iff-lt-mul {k = S .sessions} (h .sessions .0) .1 l
-date-lt S h times i l = div-lt-iff-lt-mul {k = S .times} (h .times .0) .1 l
+date-lt S h times i l = time-date-lt S (h .times .0) i l

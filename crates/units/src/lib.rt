@@ -17,11 +17,15 @@ pub fn date_of_session(s: Settings, i: Session) -> Date
     Date(i.0 / s.sessions)
 }
 
+// The early times of a date belong to the date before it, and those of date 0 to date 0.
 pub fn date_of_time(s: Settings, i: Time) -> Date
     requires { ⌜ Ranges s ⌝ }
     ensures { λ r. ⌜ r .0 ≡ dateOfTime s (i .0) ⌝ }
 {
-    Date(i.0 / s.times)
+    if i.0 < s.early {
+        return Date(0);
+    }
+    Date((i.0 - s.early) / s.times)
 }
 
 // The date after a date.
@@ -123,16 +127,39 @@ fn reach(s: Settings, u: Division, from: u32, n: u32, d: Date) -> u32
     n
 }
 
-// The first slot on date d or later. It is looked for around the slot where d would begin if all dates were of one length: where they are,
-// two dates are asked for, of that slot and of the one before it.
+// By how many slots every date but the first begins later than with dates of one length.
+fn late(s: Settings, u: Division) -> u32 {
+    match u {
+        Division::Sessions => 0,
+        Division::Times => s.early,
+    }
+}
+
+// Where date d begins if the early times are all that dates differ by.
+fn guess(s: Settings, u: Division, n: u32, d: Date) -> u32
+    requires { ⌜ Ranges s ⌝ }
+    requires { ⌜ n ≡ slotsOf s (unitOf u) ⌝ }
+    requires { ⌜ d .0 ≤ s .dates ⌝ }
+    ensures { λ r. ⌜ r ≤ n ⌝ }
+{
+    if d.0 == 0 {
+        return 0;
+    }
+    let even = d.0 * n / s.dates;
+    let by = late(s, u);
+    if n - even < by { n } else { even + by }
+}
+
+// The first slot on date d or later. It is looked for around a guess: where that is right, two dates are asked for, of that slot and of the
+// one before it.
 fn first_on(s: Settings, u: Division, d: Date) -> u32
     requires { ⌜ Ranges s ⌝ }
     requires { ⌜ d .0 ≤ s .dates ⌝ }
     ensures { λ r. ⌜ Cut s (unitOf u) (d .0) r ⌝ }
 {
     let n = slots_of(s, u);
-    let guess = d.0 * n / s.dates;
-    let lo = retreat(s, u, guess, d);
+    let from = guess(s, u, n, d);
+    let lo = retreat(s, u, from, d);
     let hi = reach(s, u, lo, n, d);
     bisect(s, u, lo, hi, d)
 }

@@ -36,13 +36,17 @@ word-requires-8 c κs = search needs
 word-requires-9 : tie.Need-word-requires-9
 word-requires-9 c κs = search needs
 
+word-requires-10 : tie.Need-word-requires-10
+word-requires-10 c κs = search needs
+
 seats-requires : tie.Need-seats-requires
 seats-requires c κs = search needs
 
 returns : tie.Need-returns
 unfolding settingsOf
 returns c =
-    let c9 = c .before in
+    let c10 = c .before in
+    let c9 = c10 .before in
     let c8 = c9 .before in
     let c7 = c8 .before in
     let c6 = c7 .before in
@@ -61,6 +65,7 @@ returns c =
       dining = c1 .word .ensures i;
       hotels = c8 .word8 .ensures i;
       transports = c9 .word9 .ensures i;
+      early = c10 .word10 .ensures i;
       capacities = (c .seats .ensures ∙ ap (λ (n : ℕ). list (seatOf (c1 .before .before .args .words .now) n) 16) (c1 .word .ensures)) i;
     }
 
@@ -77,5 +82,6 @@ settings-spec =
     word-requires-7
     word-requires-8
     word-requires-9
+    word-requires-10
     seats-requires
     returns)

@@ -37,7 +37,7 @@ seats-good-requires c κs = search needs
 
 returns : tie.Need-returns
 returns c =
-    let c9 = c .before in
+    let c9 = c .before .before in
     let c8 = c9 .before in
     let c7 = c8 .before in
     let c6 = c7 .before in
