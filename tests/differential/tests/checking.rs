@@ -5,7 +5,6 @@ use differential::{seed, times, Counts};
 use second::book::regions::{address, regions};
 use second::book::{self, Rule};
 use second::gen::{damaged, deep_state, full_book, junk_book, sites, Rng, Size};
-use second::machine::site::GREATEST;
 use second::machine::{Settings, State};
 
 /// The engine's answer, which must be the second program's.
@@ -71,7 +70,7 @@ fn pool_edges() {
     let mut rules = Counts::new();
     for visitors in [31, 32, 33, 64, 512] {
         for meetings in [31, 32, 33, 64, 128] {
-            let settings = Settings::from_words(&[2, 2, 2, visitors, meetings, 3, 2, 4, 3, 5, 7]).expect("settings");
+            let settings = Settings::from_words(&[2, 2, 2, visitors, meetings, 3, 2, 4, 3, 1, 5, 7]).expect("settings");
             let state = deep_state(&mut rng, settings, 40);
             lawful_and_broken(&mut rng, &state, &mut rules);
         }
@@ -86,7 +85,7 @@ fn pool_edges() {
 fn smallest_site() {
     let mut numbers = Counts::new();
     for which in 0..3_u32.pow(10) {
-        let mut words = vec![1; 10];
+        let mut words = vec![1, 1, 1, 1, 1, 1, 1, 1, 1, 0, 1];
         words.extend((0..10).map(|word| which / 3_u32.pow(word) % 3));
         words.resize(words.len() + caviar::RING_WORDS, 0);
         numbers.add(checked(&words));
@@ -95,18 +94,12 @@ fn smallest_site() {
     assert_eq!((numbers.of(0), numbers.of(2)), (149, 58_900));
 }
 
-fn largest() -> Settings {
-    let mut words = GREATEST.to_vec();
-    words.extend([1000; 16]);
-    Settings::from_words(&words).expect("the greatest limits are in range")
-}
-
 /// The largest book, fresh and half full, and with one word changed in each region. The single changes
 /// are compared with the plain engine, which is itself tested against the second program.
 #[test]
 fn largest_book() {
     let mut rng = Rng::new(seed(4));
-    let settings = largest();
+    let settings = sites::largest(rng.between(1, 95));
     let length = caviar::book_len(&settings.words());
     assert_eq!(length, caviar::MOST_WORDS);
     let mut fresh = vec![7; length];

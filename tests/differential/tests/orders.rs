@@ -9,7 +9,6 @@ use second::gen::orders::{
 };
 use second::gen::requests::opening;
 use second::gen::{damaged, deep_state, full_book, junk_book, site, sites, Rng, Size};
-use second::machine::site::GREATEST;
 use second::machine::{self, Settings, State};
 use second::party::{perform, Call};
 use std::collections::BTreeSet;
@@ -194,7 +193,7 @@ fn each_clause_broken_alone() {
 #[test]
 fn every_word_of_the_ring() {
     let mut rng = Rng::new(seed(74));
-    let settings = Settings::from_words(&[1, 1, 1, 1, 1, 1, 1, 1, 1, 1]).expect("settings");
+    let settings = Settings::from_words(&[1, 1, 1, 1, 1, 1, 1, 1, 1, 0, 1]).expect("settings");
     let mut numbers = Counts::new();
     for turn in 0..times(12) {
         let mut state = State::empty(settings.clone());
@@ -334,9 +333,7 @@ fn lost_answers() {
 #[test]
 fn largest_book() {
     let mut rng = Rng::new(seed(78));
-    let mut words = GREATEST.to_vec();
-    words.extend([1000; 16]);
-    let settings = Settings::from_words(&words).expect("the greatest limits are in range");
+    let settings = sites::largest(rng.between(1, 95));
     let mut book = full_book(&mut rng, &settings, 50);
     let mut theirs = book.clone();
     let site = plain::Site::of_book(&book).expect("a full book has its length");
@@ -366,9 +363,9 @@ fn largest_book() {
 /// The answers of a kept order are those of the engine itself: an answer that was done is not done twice.
 #[test]
 fn done_once() {
-    let settings = [2, 2, 2, 3, 2, 2, 1, 2, 1, 4];
+    let settings = [2, 2, 2, 3, 2, 2, 1, 2, 1, 0, 4];
     let mut book = vec![0; caviar::book_len(&settings)];
-    assert_eq!(book.len(), 769);
+    assert_eq!(book.len(), 770);
     assert_eq!(caviar::lay(&settings, &mut book).words(), [0, 0, 0]);
     let removal = Request { kind: 3, b: 1, first: 0, last: 1, ..Request::default() };
     let leave = Request { kind: 1, ..removal };
@@ -384,6 +381,6 @@ fn done_once() {
     ] {
         assert_eq!(caviar::order(&mut book, number, request).words(), expected);
     }
-    assert_eq!(book[64..75], [7, 1, 0, 1, 0, 1, 0, 0, 0, 0, 0]);
-    assert_eq!((book[86], book[96], book[768]), (9, 2, 3));
+    assert_eq!(book[65..76], [7, 1, 0, 1, 0, 1, 0, 0, 0, 0, 0]);
+    assert_eq!((book[87], book[97], book[769]), (9, 2, 3));
 }

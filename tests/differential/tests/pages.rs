@@ -5,7 +5,6 @@ use second::book;
 use second::gen::pages::{junk_page, lent, Lent, Sort};
 use second::gen::requests::opening;
 use second::gen::{full_book, list, sites, Mix, Rng, Size};
-use second::machine::site::GREATEST;
 use second::machine::{run, Date, Settings, State};
 use second::page::{lines, page, LINE_BYTES};
 
@@ -72,7 +71,7 @@ fn pages_along_a_list() {
 fn every_length() {
     let mut rng = Rng::new(seed(52));
     let mut numbers = Counts::new();
-    let settings = Settings::from_words(&[3, 3, 1, 9, 4, 4, 1, 1, 1, 5]).expect("settings");
+    let settings = Settings::from_words(&[3, 3, 1, 9, 4, 4, 1, 1, 1, 0, 5]).expect("settings");
     for _ in 0..times(20) {
         let words = full_book(&mut rng, &settings, 60);
         let date = rng.below(3);
@@ -92,9 +91,7 @@ fn every_length() {
 #[test]
 fn largest_book() {
     let mut rng = Rng::new(seed(53));
-    let mut words = GREATEST.to_vec();
-    words.extend([1000; 16]);
-    let settings = Settings::from_words(&words).expect("the greatest limits are in range");
+    let settings = sites::largest(rng.between(1, 95));
     let full = full_book(&mut rng, &settings, 100);
     let state = book::shown(&full).expect("a lawful book");
     let mut seen = Counts::new();

@@ -6,8 +6,7 @@ use second::book;
 use second::gen::parties::{calls, lent, Lent, Sort};
 use second::gen::requests::{opening, state_after};
 use second::gen::{full_book, sites, Rng, Size};
-use second::machine::site::GREATEST;
-use second::machine::{Settings, State};
+use second::machine::State;
 use second::party::{party, perform, Call};
 
 fn ours(guests: &[second::party::Guest]) -> Vec<Guest> {
@@ -113,7 +112,7 @@ fn every_number_of_guests() {
     let mut rng = Rng::new(seed(63));
     let leave = (0..40).map(|visitor| [1, 0, visitor, 0, 3, 0, 0]);
     let opening: Vec<[u32; 7]> = leave.chain([[8, 2, 0, 0, 23, 0, 0]]).collect();
-    let state = state_after(&[4, 6, 1, 40, 3, 2, 1, 1, 1, 5], &opening);
+    let state = state_after(&[4, 6, 1, 40, 3, 2, 1, 1, 1, 0, 5], &opening);
     let mut numbers = Counts::new();
     for guests in (0..80).chain([128, 192, 193, 1000, 65_536, 1_000_000]) {
         let start = rng.below(40 * 24);
@@ -157,9 +156,7 @@ fn welcome(rng: &mut Rng, site: &plain::Site, book: &mut [u32], meeting: u32, si
 #[test]
 fn largest_book() {
     let mut rng = Rng::new(seed(64));
-    let mut words = GREATEST.to_vec();
-    words.extend([1000; 16]);
-    let settings = Settings::from_words(&words).expect("the greatest limits are in range");
+    let settings = sites::largest(rng.between(1, 95));
     let mut book = full_book(&mut rng, &settings, 50);
     let mut theirs = book.clone();
     let site = plain::Site::of_book(&book).expect("a full book has its length");

@@ -41,6 +41,27 @@ fn a_taxi_before_breakfast() {
     assert_eq!(asked(&mut state, [3, 0, 0, 0, 0, 0, 0]), [0, 0, 1], "and one of Monday erases it");
 }
 
+/// The example of docs/RULES.md (rule 13.5).
+#[test]
+fn the_example_of_the_rules() {
+    let mut state = State::empty(Settings::from_words(&taxis(1)).expect("good settings"));
+    for (request, answer) in [
+        ([1, 0, 0, 0, 0, 0, 0], [0, 0, 0]),
+        ([6, 0, 0, 3, 5, 0, 0], [9, 5, 0]),
+        ([6, 0, 0, 4, 4, 0, 0], [0, 0, 0]),
+        ([1, 0, 1, 1, 2, 0, 0], [0, 0, 0]),
+        ([6, 1, 1, 4, 5, 0, 0], [9, 4, 0]),
+        ([6, 1, 1, 8, 11, 0, 0], [0, 0, 0]),
+        ([2, 0, 0, 0, 0, 0, 0], [18, 0, 0]),
+        ([2, 0, 0, 1, 1, 0, 0], [0, 0, 0]),
+        ([3, 0, 1, 2, 2, 0, 0], [0, 0, 3]),
+        ([2, 0, 1, 1, 1, 0, 0], [18, 1, 0]),
+        ([3, 0, 0, 0, 0, 0, 0], [0, 0, 1]),
+    ] {
+        assert_eq!(asked(&mut state, request), answer, "{request:?}");
+    }
+}
+
 /// With leave on Tuesday alone it is the other way round.
 #[test]
 fn leave_on_the_date_of_the_number_is_not_enough() {
