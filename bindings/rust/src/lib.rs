@@ -223,7 +223,7 @@ pub fn serve_words(settings: &[u32], book: &mut [u32], list: &[u32], answers: &m
 ///
 /// ```
 /// use caviar::{Refusal, Request};
-/// let settings = [2, 2, 2, 3, 2, 2, 1, 2, 1, 4];
+/// let settings = [2, 2, 2, 3, 2, 2, 1, 2, 1, 0, 4];
 /// let mut book = vec![0; caviar::book_len(&settings)];
 /// caviar::lay(&settings, &mut book);
 /// let leave = Request { kind: 1, b: 1, first: 0, last: 1, ..Default::default() };
@@ -293,7 +293,7 @@ pub fn serve_orders_words(settings: &[u32], book: &mut [u32], list: &[u32], answ
 /// No word of the book is changed (section 16).
 ///
 /// ```
-/// let settings = [2, 2, 2, 3, 2, 2, 1, 2, 1, 4];
+/// let settings = [2, 2, 2, 3, 2, 2, 1, 2, 1, 0, 4];
 /// let mut book = vec![0; caviar::book_len(&settings)];
 /// caviar::lay(&settings, &mut book);
 /// let stands = caviar::Request { kind: 8, a: 1, first: 2, last: 3, ..Default::default() };
@@ -321,7 +321,7 @@ pub fn page(book: &[u32], date: u32, page: &mut [u8]) -> Answer {
 ///
 /// ```
 /// use caviar::{Guest, Request};
-/// let settings = [2, 2, 2, 3, 2, 2, 1, 2, 1, 4];
+/// let settings = [2, 2, 2, 3, 2, 2, 1, 2, 1, 0, 4];
 /// let mut book = vec![0; caviar::book_len(&settings)];
 /// caviar::lay(&settings, &mut book);
 /// let stands = Request { kind: 8, a: 1, first: 1, last: 3, ..Default::default() };
