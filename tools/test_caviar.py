@@ -147,7 +147,7 @@ class Conversations(Tested):
         self.assertEqual(self.wrote("frame", EARLY.format(1)).decode(), line + "\n")
         self.assertEqual(self.wrote("words", given=line).decode(), EARLY.format(1) + "\n")
         self.assertEqual(self.wrote("words", given=SETTINGS_LINE).decode(), SETTINGS + "\n")
-        first = EARLY.format(1).replace("settings", "settings early 1", 1).replace("transports 1 early 1", "transports 1")
+        first = SETTINGS.replace("settings", "settings early 1")
         self.assertEqual(self.wrote("frame", first).decode(), line + "\n", "in any order")
 
     def test_the_dates_of_times(self):
@@ -202,8 +202,8 @@ class Conversations(Tested):
             "": ("raw", not_words),
             "raw 0000001": ("raw 0000001", not_words),
             "raw 00000002": ("raw 00000002", "there are 1 numbers, and settings have 10 before the capacities"),
-            f"raw {WITHOUT_EARLY}": (f"raw {WITHOUT_EARLY}", "there are 10 numbers, one too few: nine limits, then early, "
-                                                             "then dining capacities"),
+            f"raw {WITHOUT_EARLY}": (f"raw {WITHOUT_EARLY}", "there are 10 numbers, one too few: nine limits, then "
+                                                             "early, then dining capacities"),
             f"raw {TOO_EARLY}": (f"raw {TOO_EARLY}", "early 2 is not from 0 to 1, one less than the times of a date"),
             one_more + "\nadd-leave visitor 0 date 0": (one_more, "dining 1 wants as many capacities, and there are 2"),
         }
@@ -317,7 +317,8 @@ class Frame(Tested):
             SETTINGS.replace("times 2", "times 0"): "times 0 is not from 1 to 96",
             EARLY.format(2): "early 2 is not from 0 to 1, one less than the times of a date",
             EARLY.format(0xffffffff): "early 4294967295 is not from 0 to 1, one less than the times of a date",
-            EARLY.format(1).replace("times 2", "times 1"): "early 1 is not from 0 to 0, one less than the times of a date",
+            EARLY.format(1).replace("times 2", "times 1"):
+                "early 1 is not from 0 to 0, one less than the times of a date",
             EARLY.format("x"): "'x' is not a number",
             EARLY.format("1 early 1"): "'early' says again what was said before",
             SETTINGS + " 5": "dining 1 wants as many capacities, and there are 2",

@@ -31,8 +31,8 @@ LIMITS = {
 }
 GREATEST_CAPACITY = 1000
 
-# The number between limits and capacities: how many of the first times of a date belong to the date before. A typed site
-# may leave it out.
+# The number between limits and capacities: how many of the first times of a date belong to the date before. A typed
+# site may leave it out.
 EARLY = "early"
 
 
