@@ -18,9 +18,10 @@
  * other, the latter with a page each; every other call that is lent a book or answers counts as writing to them, whatever its requests
  * are, so nobody else may read or write them meanwhile.
  *
- * SETTINGS (rules 1.1 to 1.3)
+ * SETTINGS (rules 1.1 to 1.3 and 1.7)
  *
- * Settings are 9 + G words: nine limits in this order, then the seat capacities of dining rooms 0, 1, .., G - 1.
+ * Settings are 10 + G words: nine limits in this order, the number of early times, then the seat capacities of dining rooms 0, 1, ..,
+ * G - 1.
  *
  *     word   limit                        from 1 to
  *     0  D   dates                        400
@@ -32,16 +33,22 @@
  *     6  G   dining rooms                 16
  *     7  H   hotel rooms                  512
  *     8  K   transports                   128
- *     9 ..   capacities, one for each of the G dining rooms, each from 1 to 1000
+ *     9  E   early times of one date      from 0 to Q - 1; see UNITS
+ *    10 ..   capacities, one for each of the G dining rooms, each from 1 to 1000
  *
  * The book of these settings has, with W(n) = (n + 31) / 32 rounded down, so many words (caviar_book_len computes it):
  *
- *     9 + G  +  D * (W(V) + H + 3 * M)  +  D * P * (W(M) + V + 2 * C)  +  D * Q * K  +  CAVIAR_RING_WORDS
+ *     10 + G  +  D * (W(V) + H + 3 * M)  +  D * P * (W(M) + V + 2 * C)  +  D * Q * K  +  CAVIAR_RING_WORDS
  *
  * UNITS (rules 2.1 and 2.2)
  *
- * Dates are 0 to D - 1, sessions 0 to D * P - 1, times 0 to D * Q - 1. Session s is on date s / P and time t on date t / Q, rounded
- * down. Visitors, meetings, rooms and transports are numbered from 0 too.
+ * Dates are 0 to D - 1, sessions 0 to D * P - 1, times 0 to D * Q - 1. Session s is on date s / P, rounded down. Visitors, meetings,
+ * rooms and transports are numbered from 0 too.
+ *
+ * Time t is on date (t - E) / Q, rounded down, and on date 0 if t is below E. The first E of the Q times that are numbered under a date
+ * are early: they belong to the date before, so that a guest whose leave ended the evening before can still ride. Date 0 has no date
+ * before it and keeps its own. With D = 3, Q = 4 and E = 1 the times 0 to 4 are on date 0, 5 to 8 on date 1, 9 to 11 on date 2. With
+ * E = 0 it is t / Q.
  *
  * REQUESTS (section 4)
  *
@@ -106,7 +113,7 @@
  * that is refused from question 3 on is kept: its entry of the ring and the next place are written, and the rest of the book stays.
  *
  *     number  means (asked of the kinds)                                                        place
- *      1      no book: under 9 words, a limit or capacity out of range, or another length       0
+ *      1      no book: under 10 words, a limit, E or a capacity out of range, or another length 0
  *      2      a book that breaks a law, or has a cell or an order with what it may not hold     0
  *      3      unknown kind                                                                      0
  *      4      a field that the kind does not use is not 0                                       0
@@ -143,18 +150,18 @@
  *
  * AN EXAMPLE
  *
- *     const uint32_t settings[] = {2, 2, 2, 3, 2, 2, 1, 2, 1, 4};
- *     uint32_t book[769];                                          caviar_book_len(settings, 10) is 769
+ *     const uint32_t settings[] = {2, 2, 2, 3, 2, 2, 1, 2, 1, 0, 4};
+ *     uint32_t book[770];                                          caviar_book_len(settings, 11) is 770
  *     caviar_request_words leave = {.kind = 1, .b = 1, .first = 0, .last = 1};
  *     caviar_request_words hotel = {.kind = 4, .a = 0, .b = 1, .first = 0, .last = 1};
  *     caviar_answer answer;
  *
- *     answer = caviar_lay(settings, 10, book, 769);                0 0 0
- *     answer = caviar_request(book, 769, hotel);                   9 0 0: visitor 1 has no leave on date 0
- *     answer = caviar_request(book, 769, leave);                   0 0 0
- *     answer = caviar_order(book, 769, 17, hotel);                 0 0 0
- *     answer = caviar_order(book, 769, 17, hotel);                 0 0 0: the answer of order 17
- *     answer = caviar_request(book, 769, hotel);                   11 0 0: the room is booked already
+ *     answer = caviar_lay(settings, 11, book, 770);                0 0 0
+ *     answer = caviar_request(book, 770, hotel);                   9 0 0: visitor 1 has no leave on date 0
+ *     answer = caviar_request(book, 770, leave);                   0 0 0
+ *     answer = caviar_order(book, 770, 17, hotel);                 0 0 0
+ *     answer = caviar_order(book, 770, 17, hotel);                 0 0 0: the answer of order 17
+ *     answer = caviar_request(book, 770, hotel);                   11 0 0: the room is booked already
  *
  * examples/c/visit.c is a whole program. Link with target/staticlib/libcapi.a, which `rt staticlib capi` writes:
  *
@@ -171,8 +178,8 @@ extern "C" {
 #endif
 
 /* The greatest number of words that a book can have, and that settings can have. */
-#define CAVIAR_MOST_WORDS 9402330
-#define CAVIAR_MOST_SETTINGS 25
+#define CAVIAR_MOST_WORDS 9402331
+#define CAVIAR_MOST_SETTINGS 26
 
 /* How many words of a list a request is, a request with its order, and an answer. */
 #define CAVIAR_REQUEST_WORDS 7
@@ -215,8 +222,8 @@ typedef struct caviar_guest {
     uint32_t last;  /* the last session, included */
 } caviar_guest;
 
-/* How many words the book of these settings has: 725 to CAVIAR_MOST_WORDS. 0 for bad settings, those that 24 refuses: fewer than nine
- * words, not 9 + G of them, or one out of its range. (rule 9.3) */
+/* How many words the book of these settings has: 726 to CAVIAR_MOST_WORDS. 0 for bad settings, those that 24 refuses: fewer than ten
+ * words, not 10 + G of them, or one out of its range. (rule 9.3) */
 uint64_t caviar_book_len(const uint32_t *settings, size_t settings_len);
 
 /* Lays a book: the settings, then zeros in all other words, whatever the book held before. Done with 0. Refused with 24 for bad

@@ -31,8 +31,13 @@ CARGO_TARGET = Path(os.environ.get("CARGO_TARGET_DIR", ROOT / "target" / "cargo"
 PROVED = ROOT / "target" / "bin" / "frames"
 SETTINGS = ("settings dates 2 sessions 2 times 2 visitors 3 meetings 2 rooms 2 dining 1 hotels 2 transports 1 "
             "capacities 4")
-SETTINGS_LINE = "00000002000000020000000200000003000000020000000200000001000000020000000100000004"
-SEEDS = [1, 2, 3, 4, 5, 22, 31]
+SETTINGS_LINE = "0000000200000002000000020000000300000002000000020000000100000002000000010000000000000004"
+# The same with a number of early times.
+EARLY = SETTINGS.replace(" capacities", " early {} capacities")
+# The settings without the number of early times, and with as many of them as there are times.
+WITHOUT_EARLY = SETTINGS_LINE[:72] + SETTINGS_LINE[80:]
+TOO_EARLY = SETTINGS_LINE[:72] + "00000002" + SETTINGS_LINE[80:]
+SEEDS = [1, 2, 3, 4, 5, 12, 22]
 LINES_A_SEED = 800
 
 
@@ -130,6 +135,41 @@ class Conversations(Tested):
         said = self.converses("orders.txt")
         self.assertEqual(said.count("Sent again, and answered as the first time: "), 4)
 
+    def test_the_taxis_before_breakfast(self):
+        """A guest who checked out on date 0 rides at the first time of date 1, and at no later one."""
+        said = self.converses("taxis.txt", (ROOT / "examples" / "taxis.txt").read_text())
+        self.assertIn("\n    Done: visitor 0 has transport 0 at time 4 (date 0).\n", said)
+        self.assertIn("\n    Refused by 9: visitor 0 has no leave on date 1 (time 5). ", said)
+
+    def test_early_times_may_be_left_out(self):
+        self.assertEqual(self.wrote("frame", EARLY.format(0)), self.wrote("frame", SETTINGS))
+        line = SETTINGS_LINE[:72] + "00000001" + SETTINGS_LINE[80:]
+        self.assertEqual(self.wrote("frame", EARLY.format(1)).decode(), line + "\n")
+        self.assertEqual(self.wrote("words", given=line).decode(), EARLY.format(1) + "\n")
+        self.assertEqual(self.wrote("words", given=SETTINGS_LINE).decode(), SETTINGS + "\n")
+        first = SETTINGS.replace("settings", "settings early 1")
+        self.assertEqual(self.wrote("frame", first).decode(), line + "\n", "in any order")
+
+    def test_the_dates_of_times(self):
+        """The date that the tool tells of each time is the one whose leave the programs ask for."""
+        of_time = rules.settings_of([3, 1, 3, 1, 1, 1, 1, 1, 1, 2, 4])
+        self.assertEqual([of_time.date_of("time", time) for time in range(9)], [0, 0, 0, 0, 0, 1, 1, 1, 2])
+        self.assertEqual([of_time.date_of("session", session) for session in range(3)], [0, 1, 2])
+        asked = 0
+        for dates, times in ((1, 1), (1, 4), (3, 1), (2, 3), (4, 2), (3, 5)):
+            for early in range(times):
+                settings = rules.settings_of([dates, 1, times, 1, 1, 1, 1, 1, 1, early, 4])
+                for date in range(dates):
+                    rides = [Request(6, 0, 0, time, time) for time in range(dates * times)]
+                    framed = "\n".join(map(lines.written, [settings, Request(1, 0, 0, date, date), *rides]))
+                    expected = [(0, 0, 0)] + [(0, 0, 0) if settings.date_of("time", time) == date else (9, time, 0)
+                                              for time in range(dates * times)]
+                    for program in programs():
+                        answers = answered(program, framed.encode()).decode().splitlines()
+                        self.assertEqual([tuple(lines.read_answer(answer)) for answer in answers], expected)
+                        asked += 1
+        self.assertGreater(asked, 70)
+
     def test_the_sixty_fifth_order_is_answered_anew(self):
         """Order 1 is kept while 63 others come after it, and no longer."""
         asked = [f"order {number} count-leave date 0" for number in range(1, 65)]
@@ -161,7 +201,10 @@ class Conversations(Tested):
         cases = {
             "": ("raw", not_words),
             "raw 0000001": ("raw 0000001", not_words),
-            "raw 00000002": ("raw 00000002", "there are 1 numbers, and settings have 9 before the capacities"),
+            "raw 00000002": ("raw 00000002", "there are 1 numbers, and settings have 10 before the capacities"),
+            f"raw {WITHOUT_EARLY}": (f"raw {WITHOUT_EARLY}", "there are 10 numbers, one too few: nine limits, then "
+                                                             "early, then dining capacities"),
+            f"raw {TOO_EARLY}": (f"raw {TOO_EARLY}", "early 2 is not from 0 to 1, one less than the times of a date"),
             one_more + "\nadd-leave visitor 0 date 0": (one_more, "dining 1 wants as many capacities, and there are 2"),
         }
         for typed_text, (shown, why) in cases.items():
@@ -169,7 +212,8 @@ class Conversations(Tested):
 
     def test_settings_of_the_largest_book_and_of_one_too_large(self):
         wide = SETTINGS.replace("visitors 3", "visitors 478").replace("sessions 2", "sessions 16")
-        largest, over = wide.replace("hotels 2", "hotels 83"), wide.replace("hotels 2", "hotels 84")
+        largest = wide.replace("hotels 2", "hotels 83")
+        over = largest.replace("dining 1", "dining 2") + " 4"
         for program in programs():
             self.assertEqual(answered(program, self.wrote("frame", given=largest)), b"")
         why = "the book of these settings has 16,385 words, more than 16,384"
@@ -267,10 +311,16 @@ class Frame(Tested):
             SETTINGS.replace(" capacities 4", ""): "settings lack capacities",
             SETTINGS.replace("dates 2", "dates"): "nothing comes after '1'",
             SETTINGS.replace("dates", "days"): "settings take no 'days'; they take dates, sessions, times, visitors, "
-                                               "meetings, rooms, dining, hotels, transports, capacities",
+                                               "meetings, rooms, dining, hotels, transports, early, capacities",
             SETTINGS.replace("sessions 2", "dates 2"): "'dates' says again what was said before",
             SETTINGS.replace("dates 2", "dates 401"): "dates 401 is not from 1 to 400",
             SETTINGS.replace("times 2", "times 0"): "times 0 is not from 1 to 96",
+            EARLY.format(2): "early 2 is not from 0 to 1, one less than the times of a date",
+            EARLY.format(0xffffffff): "early 4294967295 is not from 0 to 1, one less than the times of a date",
+            EARLY.format(1).replace("times 2", "times 1"):
+                "early 1 is not from 0 to 0, one less than the times of a date",
+            EARLY.format("x"): "'x' is not a number",
+            EARLY.format("1 early 1"): "'early' says again what was said before",
             SETTINGS + " 5": "dining 1 wants as many capacities, and there are 2",
             SETTINGS + "x": "'4x' is not a number",
             SETTINGS.replace("capacities 4", "capacities 1001"): "capacity 1001 is not from 1 to 1000",
@@ -471,9 +521,9 @@ class Page(Tested):
         for date in ("2", "4294967295"):
             self.complains(past.format(date), "page", date, given=SETTINGS)
         bad = "Refused by 24: these are not good settings, {}. [rule 5.24: " + rules.QUESTIONS[24][0] + "]"
-        few = "there are 7 numbers, and settings have 9 before the capacities"
+        few = "there are 7 numbers, and settings have 10 before the capacities"
         cases = {"": "it is not whole words of lower-case hexadecimal", "raw 00000002":
-                 "there are 1 numbers, and settings have 9 before the capacities", "add-leave visitor 0 date 0": few}
+                 "there are 1 numbers, and settings have 10 before the capacities", "add-leave visitor 0 date 0": few}
         for given, why in cases.items():
             self.complains(bad.format(why), "page", "0", given=given)
         self.complains("'x' is not a number", "page", "x", given=SETTINGS)
@@ -625,9 +675,9 @@ class Commands(Tested):
         self.assertEqual((done.returncode, done.stderr), (0, b""))
 
     def test_the_length_of_a_book(self):
-        self.assertEqual(typed.parse_line(SETTINGS, True).book_length(), 769)
-        largest = rules.settings_of(list(rules.LIMITS.values()) + [1000] * 16)
-        self.assertEqual(largest.book_length(), 9_402_330)
+        self.assertEqual(typed.parse_line(SETTINGS, True).book_length(), 770)
+        largest = rules.settings_of(list(rules.LIMITS.values()) + [95] + [1000] * 16)
+        self.assertEqual(largest.book_length(), 9_402_331)
         self.assertEqual(lines.read_first("zz"), Raw("zz"))
         self.assertRaises(Problem, lines.settings_in, "zz")
 
@@ -698,6 +748,27 @@ class Documents(Tested):
         command = "    $ tools/caviar explain --with examples/orders.txt < answers\n"
         self.assertIn(f"{command}{indented}\n", (ROOT / "README.md").read_text())
 
+    def test_the_taxis_of_the_readme(self):
+        """The site as it is typed, without its comments, and its answers in words."""
+        readme = (ROOT / "README.md").read_text()
+        typed_text = (ROOT / "examples" / "taxis.txt").read_text()
+        settings = next(line for line in typed_text.splitlines() if line.startswith("settings"))
+        self.assertIn(f"    {settings}\n", readme)
+        framed = self.wrote("frame", given=typed_text)
+        for program in programs():
+            told = self.explained(typed_text.encode(), answered(program, framed)).decode()
+            indented = "".join(f"    {line}\n" for line in told.splitlines())
+            command = "    $ tools/caviar explain --with examples/taxis.txt < answers\n"
+            self.assertIn(f"{command}{indented}\n", readme)
+
+    def test_the_settings_of_the_readme(self):
+        """The tour's first lines are those that the tool writes, and the example of the rules begins with the same."""
+        framed = self.wrote("frame", given=(ROOT / "examples" / "site.txt").read_bytes()).decode().splitlines()
+        self.assertEqual(framed[0], SETTINGS_LINE)
+        head = "".join(f"    {line}\n" for line in framed[:3])
+        self.assertIn(f"    $ head -n 3 lines\n{head}", (ROOT / "README.md").read_text())
+        self.assertIn(f"    {SETTINGS_LINE}\n", (ROOT / "docs" / "RULES.md").read_text())
+
     def test_the_orders_of_the_rules(self):
         """The table of rule 18.8."""
         rows = self.rows("docs/RULES.md", r"^\| (\d+) \| ((?:\d+ ){6}\d+) \| (\d+) (\d+) (\d+) \|")
@@ -707,7 +778,7 @@ class Documents(Tested):
         expected = [tuple(map(int, answer)) for _, _, *answer in rows]
         self.assertEqual(main.answered(entries)[1], expected)
         book, _ = library.played(entries[0], orders)
-        self.assertEqual((book[64:75], book[108], book[768]), ([16, 4, 0, 1, 0, 1, 0, 0, 9, 0, 0], 20, 5))
+        self.assertEqual((book[65:76], book[109], book[769]), ([16, 4, 0, 1, 0, 1, 0, 0, 9, 0, 0], 20, 5))
 
     def test_the_numbers_of_the_documents(self):
         """The tables of refusal numbers go as far as the tool's."""

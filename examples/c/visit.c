@@ -1,5 +1,5 @@
 /* A visit of two dates, from C: lay a book, ask for leave, a hotel room and a meeting, see a refusal, check the book, write the
- * porter's page of a date, add a party and send an order twice.
+ * porter's page of a date, add a party, send an order twice and take a taxi before breakfast.
  *
  *     rt staticlib capi
  *     gcc -Iinclude examples/c/visit.c target/staticlib/libcapi.a -o target/visit && target/visit
@@ -8,8 +8,8 @@
 #include <stdlib.h>
 #include "caviar.h"
 
-/* How many words the book of the small site has. */
-enum { WORDS = 769 };
+/* How many words the book of the small site has, and how many that of the site with early times. */
+enum { WORDS = 770, TAXI_WORDS = 742 };
 
 static void say(const char *what, caviar_answer answer)
 {
@@ -72,14 +72,14 @@ static void sent_twice(uint32_t *book)
 /* The small site of docs/RULES.md, section 13, request by request. */
 static void small_site(void)
 {
-    const uint32_t settings[] = {2, 2, 2, 3, 2, 2, 1, 2, 1, 4};
+    const uint32_t settings[] = {2, 2, 2, 3, 2, 2, 1, 2, 1, 0, 4};
     uint32_t book[WORDS];
     caviar_request_words leave = {.kind = 1, .b = 1, .first = 0, .last = 1};
     caviar_request_words hotel = {.kind = 4, .a = 0, .b = 1, .first = 0, .last = 1};
     caviar_request_words removal = {.kind = 3, .b = 1, .first = 0, .last = 1};
 
-    printf("a book of these settings has %llu words\n", (unsigned long long)caviar_book_len(settings, 10));
-    say("lay", caviar_lay(settings, 10, book, WORDS));
+    printf("a book of these settings has %llu words\n", (unsigned long long)caviar_book_len(settings, 11));
+    say("lay", caviar_lay(settings, 11, book, WORDS));
     say("hotel room 0 for visitor 1 on dates 0 to 1", caviar_request(book, WORDS, hotel));
     say("leave for visitor 1 on dates 0 to 1", caviar_request(book, WORDS, leave));
     say("hotel room 0 for visitor 1 on dates 0 to 1", caviar_request(book, WORDS, hotel));
@@ -90,10 +90,26 @@ static void small_site(void)
     sent_twice(book);
 }
 
+/* A site of two dates with four ride times each, the first of which belongs to the date before: time 4, the first of date 1, is on date 0.
+ * Visitor 0 has leave on date 0 alone. */
+static void early_taxi(void)
+{
+    const uint32_t settings[] = {2, 1, 4, 1, 1, 1, 1, 1, 1, 1, 4};
+    uint32_t book[TAXI_WORDS];
+    caviar_request_words leave = {.kind = 1, .b = 0, .first = 0, .last = 0};
+    caviar_request_words early = {.kind = 6, .a = 0, .b = 0, .first = 4, .last = 4};
+    caviar_request_words later = {.kind = 6, .a = 0, .b = 0, .first = 5, .last = 5};
+
+    say("lay a book with early times", caviar_lay(settings, 11, book, TAXI_WORDS));
+    say("leave for visitor 0 on date 0", caviar_request(book, TAXI_WORDS, leave));
+    say("a taxi at time 4, early on date 1", caviar_request(book, TAXI_WORDS, early));
+    say("a taxi at time 5, later on date 1", caviar_request(book, TAXI_WORDS, later));
+}
+
 /* The largest site, with a list of requests. */
 static int largest_site(void)
 {
-    uint32_t settings[CAVIAR_MOST_SETTINGS] = {400, 16, 96, 512, 128, 64, 16, 512, 128};
+    uint32_t settings[CAVIAR_MOST_SETTINGS] = {400, 16, 96, 512, 128, 64, 16, 512, 128, 0};
     const uint32_t requests[] = {
         1,  0,  511, 0,    399,  0, 0, /* leave for visitor 511 on every date */
         4,  7,  511, 0,    399,  0, 0, /* hotel room 7 */
@@ -109,7 +125,7 @@ static int largest_site(void)
     if (book == NULL)
         return 1;
     for (int room = 0; room < 16; room++)
-        settings[9 + room] = 1000;
+        settings[10 + room] = 1000;
     say("lay the largest book and answer a list", caviar_serve(settings, CAVIAR_MOST_SETTINGS, book, length, requests, 42, answers, 18));
     for (int i = 0; i < 6; i++)
         printf("  kind %u: number %u, place %u, value %u\n", requests[7 * i], answers[3 * i], answers[3 * i + 1], answers[3 * i + 2]);
@@ -124,5 +140,6 @@ static int largest_site(void)
 int main(void)
 {
     small_site();
+    early_taxi();
     return largest_site();
 }

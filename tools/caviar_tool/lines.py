@@ -2,7 +2,7 @@
 
 import re
 
-from .rules import Order, Problem, Raw, Request, Settings, settings_of
+from .rules import LIMITS, Order, Problem, Raw, Request, Settings, settings_of
 
 WORDS_OF_REQUEST = 7
 WORDS_OF_ORDER = 8
@@ -38,6 +38,8 @@ def settings_in(line):
     words = words_of(line)
     if not words:
         raise Problem("it is not whole words of lower-case hexadecimal")
+    if len(words) > len(LIMITS) and len(words) == len(LIMITS) + words[6]:
+        raise Problem(f"there are {len(words)} numbers, one too few: nine limits, then early, then dining capacities")
     return settings_of(words)
 
 

@@ -31,6 +31,10 @@ LIMITS = {
 }
 GREATEST_CAPACITY = 1000
 
+# The number between limits and capacities: how many of the first times of a date belong to the date before. A typed
+# site may leave it out.
+EARLY = "early"
+
 
 class Problem(Exception):
     """Something that the tool does not understand; the message says what."""
@@ -155,9 +159,10 @@ def has_place(number):
 
 
 class Settings(NamedTuple):
-    """The limits in the order of rule 1.1, and the seat capacities."""
+    """The limits in the order of rule 1.1, the number of early times, and the seat capacities."""
 
     limits: tuple
+    early: int
     capacities: tuple
 
     def limit(self, name):
@@ -171,10 +176,12 @@ class Settings(NamedTuple):
         return 1 if unit == "date" else self.limit(unit + "s")
 
     def date_of(self, unit, slot):
-        return slot // self.per_date(unit)
+        """The date of a slot (rule 2.2). Early times go to the date before; those of date 0 have none before it."""
+        early = self.early if unit == "time" else 0
+        return max(slot - early, 0) // self.per_date(unit)
 
     def words(self):
-        return self.limits + self.capacities
+        return self.limits + (self.early,) + self.capacities
 
     def book_length(self):
         """How many words the book of this site has, region by region, and the ring of orders."""
@@ -187,18 +194,22 @@ class Settings(NamedTuple):
 
 def settings_of(words):
     """The settings of these words, or a Problem that says what is wrong with them."""
-    limits, capacities = tuple(words[:len(LIMITS)]), tuple(words[len(LIMITS):])
-    if len(limits) < len(LIMITS):
-        raise Problem(f"there are {len(limits)} numbers, and settings have {len(LIMITS)} before the capacities")
+    head = len(LIMITS) + 1
+    if len(words) < head:
+        raise Problem(f"there are {len(words)} numbers, and settings have {head} before the capacities")
+    *limits, early = words[:head]
+    capacities = tuple(words[head:])
     for (name, greatest), word in zip(LIMITS.items(), limits):
         if not 1 <= word <= greatest:
             raise Problem(f"{name} {word} is not from 1 to {greatest}")
+    if early >= limits[2]:
+        raise Problem(f"{EARLY} {early} is not from 0 to {limits[2] - 1}, one less than the times of a date")
     if len(capacities) != limits[6]:
         raise Problem(f"dining {limits[6]} wants as many capacities, and there are {len(capacities)}")
     for capacity in capacities:
         if not 1 <= capacity <= GREATEST_CAPACITY:
             raise Problem(f"capacity {capacity} is not from 1 to {GREATEST_CAPACITY}")
-    return Settings(limits, capacities)
+    return Settings(tuple(limits), early, capacities)
 
 
 class Request(NamedTuple):

@@ -1,13 +1,14 @@
 """The words that a person types: settings and requests to their words, and back.
 
     settings dates 2 sessions 2 times 2 visitors 3 meetings 2 rooms 2 dining 1 hotels 2 transports 1 capacities 4
+    settings .. transports 1 early 1 capacities 4     # the first time of a date belongs to the date before
     add-hotel room 0 visitor 1 dates 0..1      # a kind by name or number, then its fields in any order
     4 room 0 visitor 1 date 0                  # one slot
     add-leave b 1 first 0 last 1               # the request's own field names do as well
     order 17 add-hotel room 0 visitor 1 date 0 # a request with the number of an order
     party meeting 0 visitor 1 sessions 0..1, visitor 2 session 1     # all of these guests or none
 
-Every word that the kind takes must be there; only `info` may be left out, and is then 0.
+Every word that the kind takes must be there; only `info`, and `early` of settings, may be left out, and are then 0.
 Settings come first. `raw TEXT` stands for the line TEXT as it is. Numbers are in base ten, or with 0x in base sixteen.
 A party begins with its meeting; it is for `caviar page` and `caviar party`, since the program has no line for it.
 The words are written as they are typed: whether a request is accepted is for the program to say.
@@ -17,8 +18,8 @@ import difflib
 import re
 
 from .lines import text_lines
-from .rules import (BY_NAME, BY_NUMBER, LIMITS, WORD_LIMIT, Guest, Order, Party, Problem, Raw, Request, Settings,
-                    settings_of)
+from .rules import (BY_NAME, BY_NUMBER, EARLY, LIMITS, WORD_LIMIT, Guest, Order, Party, Problem, Raw, Request,
+                    Settings, settings_of)
 
 FIELDS = ("a", "b", "first", "last", "n", "info")
 RUN = ("first", "last")
@@ -146,15 +147,16 @@ def parse_settings(words):
     given = {}
     at = words.index("capacities") if "capacities" in words else len(words)
     for word, text in pairs(words[:at]):
-        if word not in LIMITS:
-            raise Problem(f"settings take no '{word}'; they take {', '.join(LIMITS)}, capacities")
+        if word not in (*LIMITS, EARLY):
+            raise Problem(f"settings take no '{word}'; they take {', '.join(LIMITS)}, {EARLY}, capacities")
         if word in given:
             raise Problem(f"'{word}' says again what was said before")
         given[word] = number(text)
     missing = [name for name in LIMITS if name not in given] + ["capacities"] * (at == len(words))
     if missing:
         raise Problem(f"settings lack {', '.join(missing)}")
-    return settings_of([given[name] for name in LIMITS] + [number(text) for text in words[at + 1:]])
+    head = [given[name] for name in LIMITS] + [given.get(EARLY, 0)]
+    return settings_of(head + [number(text) for text in words[at + 1:]])
 
 
 def parse_line(line, first, parties=False):
@@ -230,7 +232,8 @@ def typed(entry):
         return f"raw {entry.text}" if entry.text else "raw"
     if isinstance(entry, Settings):
         limits = " ".join(f"{name} {limit}" for name, limit in zip(LIMITS, entry.limits))
-        return f"settings {limits} capacities {' '.join(map(str, entry.capacities))}"
+        early = f" {EARLY} {entry.early}" if entry.early else ""
+        return f"settings {limits}{early} capacities {' '.join(map(str, entry.capacities))}"
     if isinstance(entry, Order):
         return f"order {entry.order} {typed_request(entry.request)}"
     return typed_party(entry) if isinstance(entry, Party) else typed_request(entry)

@@ -1,7 +1,7 @@
 //! The writes of an accepted request. They ask nothing; kind 3 counts what it erases.
 
 use crate::judge::{has_bit, holds};
-use crate::site::{Grid, Request, Site};
+use crate::site::{Dated, Grid, Request, Site};
 
 /// Words that are searched before one of them is written: few blocks hold the guest.
 const BLOCK: usize = 64;

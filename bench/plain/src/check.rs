@@ -118,13 +118,13 @@ fn guests_are_bad(site: &Site, book: &[u32], date: u32, nobody: bool, tables: &m
         return or(hotel) | or(rides) != 0;
     }
     let mut bad = row_is_bad(hotel, 1, &mut tables.seen);
-    for (row, stamp) in rides.chunks_exact(site.ride.row).zip(2..) {
+    for (row, stamp) in rides.chunks_exact(site.ride.cells.row).zip(2..) {
         bad |= row_is_bad(row, stamp, &mut tables.seen);
     }
     bad
 }
 
-/// A row has a higher stamp than those before it on the date, and BARRED is higher than all.
+/// A row has a higher stamp than those before it on the date, and BARRED is higher than all: a date has at most 191 times.
 #[inline(always)]
 fn row_is_bad(row: &[u32], stamp: u8, seen: &mut [u8; VISITOR_TABLE]) -> bool {
     let any = or(row);

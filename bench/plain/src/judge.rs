@@ -4,7 +4,7 @@
 //! asked in one pass, as far as the order of refusals lets them.
 
 use crate::kinds::{Refusal, ROOMS};
-use crate::site::{Answer, Grid, Request, Site};
+use crate::site::{Answer, Dated, Grid, Request, Site};
 
 /// No slot has failed.
 const NEVER: u32 = u32::MAX;
@@ -51,10 +51,10 @@ fn each(r: &Request, number: u32, yes: impl Fn(u32) -> bool) -> Refusal {
 
 /// 9, asked once a date.
 #[inline(always)]
-fn has_leave(site: &Site, book: &[u32], grid: &Grid, r: &Request) -> Refusal {
-    for date in grid.date_of(r.first)..grid.date_of(r.last) + 1 {
+fn has_leave(site: &Site, book: &[u32], slots: &impl Dated, r: &Request) -> Refusal {
+    for date in slots.date_of(r.first)..slots.date_of(r.last) + 1 {
         if !has_bit(&site.leave, book, date, r.b) {
-            return Err(Answer::refused(9, r.first.max(date * grid.per_date as u32)));
+            return Err(Answer::refused(9, r.first.max(slots.first_on(date))));
         }
     }
     Ok(())
@@ -94,8 +94,8 @@ fn cells_are(book: &[u32], grid: &Grid, r: &Request, at: usize, word: u32) -> Re
 
 /// 9, 11, 12, 13 for hotel and ride.
 #[inline(always)]
-pub fn new_guest(site: &Site, book: &[u32], grid: &Grid, r: &Request) -> Refusal {
-    has_leave(site, book, grid, r)?;
+pub fn new_guest(site: &Site, book: &[u32], slots: &impl Dated, grid: &Grid, r: &Request) -> Refusal {
+    has_leave(site, book, slots, r)?;
     cells_free(book, grid, r, r.a as usize, r.b + 1, 12)?;
     each(r, 13, |slot| !contains(grid.row(book, slot), r.b + 1))
 }

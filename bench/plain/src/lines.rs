@@ -9,8 +9,8 @@ const MOST_WORDS: usize = 16_384;
 /// The digits of a frame line, without and with the number of an order.
 const FRAME: usize = 56;
 const ORDER: usize = 64;
-/// No line of more bytes can be good: 25 settings words and one byte more.
-const KEPT: usize = 201;
+/// No line of more bytes can be good: 26 settings words and one byte more.
+const KEPT: usize = 209;
 const LINE_END: u8 = 10;
 
 /// The digits of a word, the first in the highest byte.

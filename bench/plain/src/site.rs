@@ -1,10 +1,12 @@
-//! Limits, capacities and the places of the seven regions and of the ring, computed once and passed along.
+//! Limits, early times, capacities and the places of the seven regions and of the ring, computed once and passed along.
 
 use crate::orders::RING_WORDS;
 
 /// The greatest value of each limit, in the order D P Q V M C G H K.
 const GREATEST: [u32; 9] = [400, 16, 96, 512, 128, 64, 16, 512, 128];
 const GREATEST_CAPACITY: u32 = 1000;
+/// Words before the capacities: the limits and the early times.
+const HEAD: usize = 10;
 
 /// Rows of cells, one row a slot.
 #[derive(Clone, Copy, Debug)]
@@ -25,12 +27,6 @@ impl Grid {
         self.base + slot as usize * self.row + word
     }
 
-    /// Exact, since slots times slots of a date are below 2^32.
-    #[inline(always)]
-    pub fn date_of(&self, slot: u32) -> u32 {
-        ((u64::from(slot) * self.reciprocal) >> 32) as u32
-    }
-
     #[inline(always)]
     pub fn row<'a>(&self, book: &'a [u32], slot: u32) -> &'a [u32] {
         &book[self.at(slot, 0)..][..self.row]
@@ -40,16 +36,62 @@ impl Grid {
     pub fn row_mut<'a>(&self, book: &'a mut [u32], slot: u32) -> &'a mut [u32] {
         &mut book[self.at(slot, 0)..][..self.row]
     }
+}
 
+/// Which slots are on which date.
+pub trait Dated {
+    fn date_of(&self, slot: u32) -> u32;
+    fn first_on(&self, date: u32) -> u32;
+}
+
+impl Dated for Grid {
+    /// Exact, since slots times slots of a date are below 2^32.
+    #[inline(always)]
+    fn date_of(&self, slot: u32) -> u32 {
+        ((u64::from(slot) * self.reciprocal) >> 32) as u32
+    }
+
+    #[inline(always)]
+    fn first_on(&self, date: u32) -> u32 {
+        date * self.per_date as u32
+    }
+}
+
+/// Ride cells. The early times, the first of a date, belong to the date before; those of date 0 have none before it.
+#[derive(Clone, Copy, Debug)]
+pub struct Rides {
+    pub cells: Grid,
+    early: u32,
+    /// Where the cells end.
+    end: usize,
+}
+
+impl Dated for Rides {
+    #[inline(always)]
+    fn date_of(&self, time: u32) -> u32 {
+        self.cells.date_of(time.saturating_sub(self.early))
+    }
+
+    #[inline(always)]
+    fn first_on(&self, date: u32) -> u32 {
+        if date == 0 {
+            0
+        } else {
+            self.cells.first_on(date) + self.early
+        }
+    }
+}
+
+impl Rides {
     /// All rows of a date, which lie side by side.
     #[inline(always)]
     pub fn date<'a>(&self, book: &'a [u32], date: u32) -> &'a [u32] {
-        &book[self.at(date * self.per_date as u32, 0)..][..self.row * self.per_date]
+        &book[self.cells.at(self.first_on(date), 0)..self.cells.at(self.first_on(date + 1), 0).min(self.end)]
     }
 
     #[inline(always)]
     pub fn date_mut<'a>(&self, book: &'a mut [u32], date: u32) -> &'a mut [u32] {
-        &mut book[self.at(date * self.per_date as u32, 0)..][..self.row * self.per_date]
+        &mut book[self.cells.at(self.first_on(date), 0)..self.cells.at(self.first_on(date + 1), 0).min(self.end)]
     }
 }
 
@@ -66,7 +108,7 @@ pub struct Site {
     pub attend: Grid,
     pub conf: Grid,
     pub lunch: Grid,
-    pub ride: Grid,
+    pub ride: Rides,
     /// Where the ring of kept orders begins.
     pub ring: usize,
     /// Words of the whole book.
@@ -76,25 +118,26 @@ pub struct Site {
 impl Site {
     /// The site of settings words, None where a range or the length is not kept.
     pub fn new(settings: &[u32]) -> Option<Site> {
-        let limits: [u32; 9] = settings.get(..9)?.try_into().ok()?;
+        let (head, after) = settings.split_at_checked(HEAD)?;
+        let [limits @ .., early] = *head.first_chunk::<HEAD>()?;
         let kept = limits.iter().zip(GREATEST).all(|(word, most)| word.wrapping_sub(1) < most);
-        if !kept || settings.len() != 9 + limits[6] as usize {
+        if !kept || early >= limits[2] || after.len() != limits[6] as usize {
             return None;
         }
         let mut capacities = [0; 16];
-        for (capacity, word) in capacities.iter_mut().zip(&settings[9..]) {
+        for (capacity, word) in capacities.iter_mut().zip(after) {
             if word.wrapping_sub(1) >= GREATEST_CAPACITY {
                 return None;
             }
             *capacity = *word;
         }
-        Some(Site::lay_out(limits, capacities))
+        Some(Site::lay_out(limits, early, capacities))
     }
 
     /// Question 1: the site of a whole book.
     pub fn of_book(book: &[u32]) -> Option<Site> {
         let dining_rooms = *book.get(6)? as usize;
-        let site = Site::new(book.get(..9usize.checked_add(dining_rooms)?)?)?;
+        let site = Site::new(book.get(..HEAD.checked_add(dining_rooms)?)?)?;
         if site.length == book.len() {
             Some(site)
         } else {
@@ -102,9 +145,9 @@ impl Site {
         }
     }
 
-    fn lay_out(limits: [u32; 9], capacities: [u32; 16]) -> Site {
+    fn lay_out(limits: [u32; 9], early: u32, capacities: [u32; 16]) -> Site {
         let [d, p, q, v, m, c, g, h, k] = limits.map(|word| word as usize);
-        let mut end = 9 + g;
+        let mut end = HEAD + g;
         let mut grid = |row: usize, per_date: usize| {
             let base = end;
             end += d * per_date * row;
@@ -116,7 +159,8 @@ impl Site {
         let attend = grid(v, p);
         let conf = grid(2 * c, p);
         let lunch = grid(3 * m, 1);
-        let ride = grid(k, q);
+        let rides = grid(k, q);
+        let ride = Rides { cells: rides, early, end };
         let slots = [d, d * p, d * q].map(|count| count as u32);
         let length = end + RING_WORDS;
         Site { limits, capacities, slots, leave, hotel, standing, attend, conf, lunch, ride, ring: end, length }

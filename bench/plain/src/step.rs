@@ -28,7 +28,7 @@ fn answer(site: &Site, book: &mut [u32], r: &Request) -> Result<u32, Answer> {
         }
         3 => return form::<3>(site, r).map(|()| remove_visitor(site, book, r)),
         4 => {
-            form::<4>(site, r).and_then(|()| new_guest(site, book, &site.hotel, r))?;
+            form::<4>(site, r).and_then(|()| new_guest(site, book, &site.hotel, &site.hotel, r))?;
             put_cells(book, &site.hotel, r, r.a, r.b + 1);
         }
         5 => {
@@ -36,12 +36,12 @@ fn answer(site: &Site, book: &mut [u32], r: &Request) -> Result<u32, Answer> {
             put_cells(book, &site.hotel, r, r.a, 0);
         }
         6 => {
-            form::<6>(site, r).and_then(|()| new_guest(site, book, &site.ride, r))?;
-            put_cells(book, &site.ride, r, r.a, r.b + 1);
+            form::<6>(site, r).and_then(|()| new_guest(site, book, &site.ride, &site.ride.cells, r))?;
+            put_cells(book, &site.ride.cells, r, r.a, r.b + 1);
         }
         7 => {
-            form::<7>(site, r).and_then(|()| cells_hold(book, &site.ride, r))?;
-            put_cells(book, &site.ride, r, r.a, 0);
+            form::<7>(site, r).and_then(|()| cells_hold(book, &site.ride.cells, r))?;
+            put_cells(book, &site.ride.cells, r, r.a, 0);
         }
         8 => form::<8>(site, r).map(|()| set_bits(book, &site.standing, r, r.a))?,
         9 => {

@@ -2,13 +2,14 @@
 
 use plain::{Request, Site};
 use second::book;
+use second::gen::early;
 use second::gen::orders;
 use second::gen::parties::{lent, Sort};
 use second::gen::{
     clean_stream, damaged, damaged_stream, deep_state, full_book, junk_book, list, list_from_fresh, site, sites, Mix,
     Rng, Size,
 };
-use second::machine;
+use second::machine::{self, Settings, State};
 use std::collections::BTreeMap;
 use std::fmt::Debug;
 
@@ -55,7 +56,7 @@ fn asked(requests: &[machine::Request]) -> Vec<u32> {
 #[test]
 fn lists_from_fresh() {
     let mut rng = Rng::new(seed(0));
-    let (mut done, mut refused) = (BTreeMap::new(), BTreeMap::new());
+    let (mut done, mut refused, mut sorts) = (BTreeMap::new(), BTreeMap::new(), BTreeMap::new());
     let lists = times(2500);
     for _ in 0..lists {
         let settings = sites::site_within(&mut rng, Size::Any, 60_000);
@@ -70,10 +71,50 @@ fn lists_from_fresh() {
         assert_eq!(our_answers, their_answers, "{settings:?}");
         assert!(ours == theirs, "{settings:?}");
         count_list(&mut done, &mut refused, &asked(&requests), &our_answers);
+        let mut state = State::empty(settings);
+        for request in &requests {
+            early::Sort::of(&state, request).into_iter().for_each(|sort| count(&mut sorts, sort));
+            machine::step(&mut state, request);
+        }
     }
     println!("seed {}: {lists} lists of 80, done by kind {done:?}, refused by number {refused:?}", seed(0));
+    println!("seed {}: early times {sorts:?}", seed(0));
+    want(&sorts, early::Sort::ALL, 30);
     want(&done, 1..=20, 300);
     want(&refused, 3..=22, 100);
+}
+
+/// Every number of early times that a site can have, and more: full books with the trial load on them, checked with this
+/// number and with each other one, by which rides may lose their leave.
+#[test]
+fn every_number_of_early_times() {
+    let mut rng = Rng::new(seed(7));
+    let mut numbers = BTreeMap::new();
+    for (dates, times_per_date) in [(1, 1), (1, 5), (2, 1), (2, 3), (4, 4), (3, 96)] {
+        for early in 0..times_per_date {
+            let words = [dates, 2, times_per_date, 9, 3, 2, 1, 4, 3, early, 7];
+            let settings = Settings::from_words(&words).expect("settings");
+            let mut ours = full_book(&mut rng, &settings, 40);
+            let others = (0..times_per_date.min(6)).map(|more| early + more).chain([times_per_date, u32::MAX]);
+            for other in others.chain([0]) {
+                let mut book = ours.clone();
+                book[9] = other;
+                let answer = plain::check(&book);
+                assert_eq!(answer.words(), book::check(&book).words(), "{words:?}, {other} early times");
+                count(&mut numbers, answer.number);
+            }
+            let mut theirs = ours.clone();
+            let site = Site::of_book(&ours).expect("a full book has its length");
+            let requests = plain::traffic::traffic(&site, rng.word(), 300);
+            let list: Vec<u32> = requests.iter().flat_map(Request::words).collect();
+            let (mut our_answers, mut their_answers) = (vec![0; 900], vec![0; 900]);
+            plain::requests(&mut ours, &list, &mut our_answers);
+            book::requests(&mut theirs, &list, &mut their_answers);
+            assert!(our_answers == their_answers && ours == theirs, "{words:?}");
+        }
+    }
+    println!("seed {}: books with other early times, by number {numbers:?}", seed(7));
+    want(&numbers, 0..=2, 50);
 }
 
 /// One request on a lawful, damaged or junk book.

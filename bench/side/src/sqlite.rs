@@ -60,6 +60,29 @@ struct Book {
     attends: Statement,
 }
 
+/// Which slots are on which date.
+#[derive(Clone, Copy)]
+struct Unit {
+    per_date: u32,
+    early: u32,
+}
+
+const DATES: Unit = Unit { per_date: 1, early: 0 };
+
+impl Unit {
+    fn date_of(self, slot: u32) -> u32 {
+        slot.saturating_sub(self.early) / self.per_date
+    }
+
+    fn first_on(self, date: u32) -> u32 {
+        if date == 0 {
+            0
+        } else {
+            date * self.per_date + self.early
+        }
+    }
+}
+
 impl Book {
     /// A database that holds the entries of the book.
     fn of(book: &[u32]) -> Book {
@@ -91,6 +114,10 @@ impl Book {
         Book { db, settings, hotel, ride, leaves, add_leave, end_leave, attends }
     }
 
+    fn times(&self) -> Unit {
+        Unit { per_date: self.settings.times_per_date, early: self.settings.early }
+    }
+
     fn step(&self, request: &[u32; 7]) -> [u32; 3] {
         let [kind, a, b, first, last, ..] = *request;
         match kind {
@@ -101,23 +128,24 @@ impl Book {
                 DONE
             }
             2 => self.end(b, first, last),
-            4 => self.add(&self.hotel, [a, b, first, last], 1),
+            4 => self.add(&self.hotel, [a, b, first, last], DATES),
             5 => erase(&self.hotel, [a, b, first, last]),
-            6 => self.add(&self.ride, [a, b, first, last], self.settings.times_per_date),
+            6 => self.add(&self.ride, [a, b, first, last], self.times()),
             _ => erase(&self.ride, [a, b, first, last]),
         }
     }
 
     /// Question 18, and the end of leave.
     fn end(&self, visitor: u32, first: u32, last: u32) -> [u32; 3] {
-        let on_dates = |statement: &Statement, per_date: u32| {
-            let slot = statement.ask([0, visitor, first * per_date, last * per_date + per_date - 1])?;
-            Some(slot / per_date)
+        let on_dates = |statement: &Statement, unit: Unit| {
+            let slot = statement.ask([0, visitor, unit.first_on(first), unit.first_on(last + 1) - 1])?;
+            Some(unit.date_of(slot))
         };
+        let sessions = Unit { per_date: self.settings.sessions_per_date, early: 0 };
         let booked = [
-            on_dates(&self.hotel.any, 1),
-            on_dates(&self.ride.any, self.settings.times_per_date),
-            on_dates(&self.attends, self.settings.sessions_per_date),
+            on_dates(&self.hotel.any, DATES),
+            on_dates(&self.ride.any, self.times()),
+            on_dates(&self.attends, sessions),
         ];
         if let Some(date) = booked.into_iter().flatten().min() {
             return [18, date, 0];
@@ -127,12 +155,12 @@ impl Book {
     }
 
     /// Questions 9, 11, 12 and 13, and the entries.
-    fn add(&self, set: &Bookings, values: [u32; 4], per_date: u32) -> [u32; 3] {
+    fn add(&self, set: &Bookings, values: [u32; 4], unit: Unit) -> [u32; 3] {
         let [item, visitor, first, last] = values;
-        let (from, to) = (first / per_date, last / per_date);
+        let (from, to) = (unit.date_of(first), unit.date_of(last));
         if self.leaves.ask([0, visitor, from, to]) != Some(to - from + 1) {
             let missing = (from..=to).find(|date| self.leaves.ask([0, visitor, *date, *date]) == Some(0));
-            return [9, first.max(missing.expect("a date without leave") * per_date), 0];
+            return [9, first.max(unit.first_on(missing.expect("a date without leave"))), 0];
         }
         for (number, question) in [(11, &set.pair), (12, &set.taken), (13, &set.elsewhere)] {
             if let Some(slot) = question.ask(values) {

@@ -8,7 +8,7 @@
 //! tables of kinds and of refusal numbers, and docs/RULES.md everything that the book does.
 //!
 //! ```
-//! let settings = [2, 2, 2, 3, 2, 2, 1, 2, 1, 4];
+//! let settings = [2, 2, 2, 3, 2, 2, 1, 2, 1, 0, 4];
 //! let mut book = vec![0; caviar::book_len(&settings)];
 //! assert_eq!(caviar::lay(&settings, &mut book).result(), Ok(0));
 //! let leave = caviar::Request { kind: 1, b: 1, first: 0, last: 1, ..Default::default() };
@@ -24,10 +24,10 @@
 mod ffi;
 
 /// The greatest number of words that a book can have.
-pub const MOST_WORDS: usize = 9_402_330;
+pub const MOST_WORDS: usize = 9_402_331;
 
 /// The greatest number of words that settings can have.
-pub const MOST_SETTINGS: usize = 25;
+pub const MOST_SETTINGS: usize = 26;
 
 /// How many orders a book keeps.
 pub const KEPT_ORDERS: usize = 64;
@@ -133,9 +133,9 @@ impl Guest {
     }
 }
 
-/// How many words the book of these settings has: 725 to [`MOST_WORDS`]. 0 for settings that
-/// question 24 refuses: fewer than nine words, not nine limits with a capacity for each dining
-/// room, or one out of its range (rule 9.3).
+/// How many words the book of these settings has: 726 to [`MOST_WORDS`]. 0 for settings that
+/// question 24 refuses: fewer than ten words, not nine limits, the early times and a capacity for
+/// each dining room, or one out of its range (rule 9.3).
 pub fn book_len(settings: &[u32]) -> usize {
     // SAFETY: the pointer and the length are those of one slice, which is only read.
     unsafe { ffi::caviar_book_len(settings.as_ptr(), settings.len()) as usize }
@@ -223,7 +223,7 @@ pub fn serve_words(settings: &[u32], book: &mut [u32], list: &[u32], answers: &m
 ///
 /// ```
 /// use caviar::{Refusal, Request};
-/// let settings = [2, 2, 2, 3, 2, 2, 1, 2, 1, 4];
+/// let settings = [2, 2, 2, 3, 2, 2, 1, 2, 1, 0, 4];
 /// let mut book = vec![0; caviar::book_len(&settings)];
 /// caviar::lay(&settings, &mut book);
 /// let leave = Request { kind: 1, b: 1, first: 0, last: 1, ..Default::default() };
@@ -293,7 +293,7 @@ pub fn serve_orders_words(settings: &[u32], book: &mut [u32], list: &[u32], answ
 /// No word of the book is changed (section 16).
 ///
 /// ```
-/// let settings = [2, 2, 2, 3, 2, 2, 1, 2, 1, 4];
+/// let settings = [2, 2, 2, 3, 2, 2, 1, 2, 1, 0, 4];
 /// let mut book = vec![0; caviar::book_len(&settings)];
 /// caviar::lay(&settings, &mut book);
 /// let stands = caviar::Request { kind: 8, a: 1, first: 2, last: 3, ..Default::default() };
@@ -321,7 +321,7 @@ pub fn page(book: &[u32], date: u32, page: &mut [u8]) -> Answer {
 ///
 /// ```
 /// use caviar::{Guest, Request};
-/// let settings = [2, 2, 2, 3, 2, 2, 1, 2, 1, 4];
+/// let settings = [2, 2, 2, 3, 2, 2, 1, 2, 1, 0, 4];
 /// let mut book = vec![0; caviar::book_len(&settings)];
 /// caviar::lay(&settings, &mut book);
 /// let stands = Request { kind: 8, a: 1, first: 1, last: 3, ..Default::default() };

@@ -1,6 +1,6 @@
 //! A visit of two dates, from Rust: lay a book, ask for leave, a hotel room and a meeting, see a
-//! refusal, check the book, write the porter's page of a date, add a party and send an order twice;
-//! then a list on the largest book.
+//! refusal, check the book, write the porter's page of a date, add a party, send an order twice and
+//! take a taxi before breakfast; then a list on the largest book.
 
 use caviar::{Answer, Guest, Request};
 
@@ -13,7 +13,7 @@ fn say(what: &str, answer: Answer) {
 
 /// The small site of docs/RULES.md, section 13, request by request.
 fn small_site() {
-    let settings = [2, 2, 2, 3, 2, 2, 1, 2, 1, 4];
+    let settings = [2, 2, 2, 3, 2, 2, 1, 2, 1, 0, 4];
     let mut book = vec![0; caviar::book_len(&settings)];
     let leave = Request { kind: 1, b: 1, first: 0, last: 1, ..Request::default() };
     let hotel = Request { kind: 4, a: 0, b: 1, first: 0, last: 1, ..Request::default() };
@@ -73,9 +73,24 @@ fn sent_twice(book: &mut [u32]) {
     say("order 17 with hotel room 0", caviar::order(book, 17, other));
 }
 
+/// A site of two dates with four ride times each, the first of which belongs to the date before: time
+/// 4, the first of date 1, is on date 0. Visitor 0 has leave on date 0 alone.
+fn early_taxi() {
+    let settings = [2, 1, 4, 1, 1, 1, 1, 1, 1, 1, 4];
+    let mut book = vec![0; caviar::book_len(&settings)];
+    let leave = Request { kind: 1, b: 0, first: 0, last: 0, ..Request::default() };
+    let early = Request { kind: 6, a: 0, b: 0, first: 4, last: 4, ..Request::default() };
+    let later = Request { first: 5, last: 5, ..early };
+
+    say("lay a book with early times", caviar::lay(&settings, &mut book));
+    say("leave for visitor 0 on date 0", caviar::request(&mut book, leave));
+    say("a taxi at time 4, early on date 1", caviar::request(&mut book, early));
+    say("a taxi at time 5, later on date 1", caviar::request(&mut book, later));
+}
+
 /// The largest site, with a list of requests.
 fn largest_site() {
-    let mut settings = vec![400, 16, 96, 512, 128, 64, 16, 512, 128];
+    let mut settings = vec![400, 16, 96, 512, 128, 64, 16, 512, 128, 0];
     settings.extend([1000; 16]);
     let mut book = vec![0; caviar::book_len(&settings)];
     let list = [
@@ -100,5 +115,6 @@ fn largest_site() {
 
 fn main() {
     small_site();
+    early_taxi();
     largest_site();
 }

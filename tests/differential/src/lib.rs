@@ -5,8 +5,6 @@
 pub mod guarded;
 pub mod reached;
 
-use second::machine::site::GREATEST;
-use second::machine::Settings;
 use std::collections::BTreeMap;
 use std::fmt::Debug;
 
@@ -25,13 +23,6 @@ pub fn seed(test: u64) -> u64 {
 /// How many turns a test makes.
 pub fn times(usual: usize) -> usize {
     usual * number("SCALE", 1) as usize
-}
-
-/// The settings of the largest book.
-pub fn largest_settings() -> Settings {
-    let mut words = GREATEST.to_vec();
-    words.extend([1000; 16]);
-    Settings::from_words(&words).expect("the greatest limits are in range")
 }
 
 /// How often each key was seen.

@@ -1,6 +1,7 @@
 //! What a list of requests reached: kinds done, and refusals by kind and number.
 
 use crate::Counts;
+use second::gen::early;
 use second::gen::endings::Ending;
 use second::machine::kinds::{uses, Uses, LAST_KIND};
 
@@ -10,8 +11,9 @@ pub struct Reached {
     pub numbers: Counts<u32>,
     /// By kind and number.
     pub refused: Counts<(u32, u32)>,
-    /// The sorts of kind 9.
+    /// The sorts of kind 9, and of early times.
     pub endings: Counts<Ending>,
+    pub early: Counts<early::Sort>,
 }
 
 impl Reached {

@@ -1,7 +1,7 @@
 //! `check` against the second program: lawful books, each rule broken alone, junk, the edges of the
 //! pools, the smallest site and the largest book.
 
-use differential::{largest_settings, seed, times, Counts};
+use differential::{seed, times, Counts};
 use second::book::regions::{address, regions};
 use second::book::{self, Rule};
 use second::gen::{damaged, deep_state, full_book, junk_book, sites, Rng, Size};
@@ -70,7 +70,7 @@ fn pool_edges() {
     let mut rules = Counts::new();
     for visitors in [31, 32, 33, 64, 512] {
         for meetings in [31, 32, 33, 64, 128] {
-            let settings = Settings::from_words(&[2, 2, 2, visitors, meetings, 3, 2, 4, 3, 5, 7]).expect("settings");
+            let settings = Settings::from_words(&[2, 2, 2, visitors, meetings, 3, 2, 4, 3, 1, 5, 7]).expect("settings");
             let state = deep_state(&mut rng, settings, 40);
             lawful_and_broken(&mut rng, &state, &mut rules);
         }
@@ -85,7 +85,7 @@ fn pool_edges() {
 fn smallest_site() {
     let mut numbers = Counts::new();
     for which in 0..3_u32.pow(10) {
-        let mut words = vec![1; 10];
+        let mut words = vec![1, 1, 1, 1, 1, 1, 1, 1, 1, 0, 1];
         words.extend((0..10).map(|word| which / 3_u32.pow(word) % 3));
         words.resize(words.len() + caviar::RING_WORDS, 0);
         numbers.add(checked(&words));
@@ -99,7 +99,7 @@ fn smallest_site() {
 #[test]
 fn largest_book() {
     let mut rng = Rng::new(seed(4));
-    let settings = largest_settings();
+    let settings = sites::largest(rng.between(1, 95));
     let length = caviar::book_len(&settings.words());
     assert_eq!(length, caviar::MOST_WORDS);
     let mut fresh = vec![7; length];

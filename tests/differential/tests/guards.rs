@@ -172,6 +172,27 @@ fn inside_what_is_lent() {
     }
 }
 
+/// Words too short for settings or for a book: from none to some more than the eleven that the smallest settings have. Of
+/// nothing behind them may a word be read.
+#[test]
+fn inside_words_that_are_too_short() {
+    let site = [2, 2, 2, 3, 2, 2, 2, 2, 1, 1, 4, 5];
+    let taxi = machine::Request::from_words([6, 0, 0, 0, 0, 0, 0]);
+    for length in 0..=site.len() {
+        for end in [End::First, End::Last] {
+            let short = Guarded::new(&site[..length], end).read_only();
+            let words = short.words();
+            assert_eq!(caviar::book_len(words) as u64, book::book_len(&site[..length]), "{length} words");
+            assert_eq!(caviar::check(words).words(), [1, 0, 0], "{length} words");
+            let mut lent = Guarded::new(&site[..length], end);
+            assert_eq!(caviar::request(lent.words_mut(), Request::from_words(taxi.words())).words(), [1, 0, 0]);
+            let laid = caviar::lay(words, lent.words_mut());
+            assert_eq!(laid.words(), [if length == site.len() { 25 } else { 24 }, 0, 0], "{length} words");
+            assert!(lent.words() == &site[..length]);
+        }
+    }
+}
+
 /// What a process of its own does that must end it: a read beside the words, or a write to words that
 /// are only read. Run by the test below.
 #[test]

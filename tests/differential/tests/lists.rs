@@ -2,12 +2,13 @@
 
 use caviar::Request;
 use differential::reached::{pairs, Reached};
-use differential::{largest_settings, seed, times, Counts};
+use differential::{seed, times, Counts};
 use second::book::{
     self,
     regions::{address, Name},
 };
 use second::gen::conflicts::edges;
+use second::gen::early;
 use second::gen::endings::Ending;
 use second::gen::{deep_state, full_book, junk_book, list, list_from_fresh, site, sites, Mix, Rng, Size};
 use second::machine::{self, Answer, Settings, State};
@@ -27,6 +28,7 @@ fn one_by_one(book: &mut [u32], state: &mut State, requests: &[machine::Request]
         let before = book.to_vec();
         let answer = caviar::request(book, ours(request));
         Ending::of(state, request).into_iter().for_each(|sort| reached.endings.add(sort));
+        early::Sort::of(state, request).into_iter().for_each(|sort| reached.early.add(sort));
         let expected = machine::step(state, request);
         assert_eq!(answer.words(), expected.words(), "{request:?} {:?}", state.settings);
         match expected {
@@ -66,6 +68,8 @@ fn lists_from_fresh() {
     reached.refused.assert_each(pairs(4..=22), 10);
     println!("seed {}: sorts of kind 9 {}", seed(20), reached.endings);
     reached.endings.assert_each(Ending::ALL, 15);
+    println!("seed {}: early times {}", seed(20), reached.early);
+    reached.early.assert_each(early::Sort::ALL, 30);
 }
 
 /// The list through `requests`, with words to spare at both ends.
@@ -232,7 +236,7 @@ fn full_books() {
 #[test]
 fn largest_book() {
     let mut rng = Rng::new(seed(26));
-    let settings = largest_settings();
+    let settings = sites::largest(rng.between(1, 95));
     let mut book = full_book(&mut rng, &settings, 50);
     let mut theirs = book.clone();
     let mut reached = Reached::default();

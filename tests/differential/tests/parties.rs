@@ -1,7 +1,7 @@
 //! Parties against the second program: answer, every word of the book, and lists that mix them with requests.
 
 use caviar::{Guest, Request};
-use differential::{largest_settings, seed, times, Counts};
+use differential::{seed, times, Counts};
 use second::book;
 use second::gen::parties::{calls, lent, Lent, Sort};
 use second::gen::requests::{opening, state_after};
@@ -112,7 +112,7 @@ fn every_number_of_guests() {
     let mut rng = Rng::new(seed(63));
     let leave = (0..40).map(|visitor| [1, 0, visitor, 0, 3, 0, 0]);
     let opening: Vec<[u32; 7]> = leave.chain([[8, 2, 0, 0, 23, 0, 0]]).collect();
-    let state = state_after(&[4, 6, 1, 40, 3, 2, 1, 1, 1, 5], &opening);
+    let state = state_after(&[4, 6, 1, 40, 3, 2, 1, 1, 1, 0, 5], &opening);
     let mut numbers = Counts::new();
     for guests in (0..80).chain([128, 192, 193, 1000, 65_536, 1_000_000]) {
         let start = rng.below(40 * 24);
@@ -156,7 +156,7 @@ fn welcome(rng: &mut Rng, site: &plain::Site, book: &mut [u32], meeting: u32, si
 #[test]
 fn largest_book() {
     let mut rng = Rng::new(seed(64));
-    let settings = largest_settings();
+    let settings = sites::largest(rng.between(1, 95));
     let mut book = full_book(&mut rng, &settings, 50);
     let mut theirs = book.clone();
     let site = plain::Site::of_book(&book).expect("a full book has its length");

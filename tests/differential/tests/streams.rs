@@ -118,7 +118,7 @@ fn each_damage() {
 /// so are those of 64 with a byte that is no digit, at every place.
 #[test]
 fn every_length_of_line() {
-    let mut stream = words_line(&[2, 2, 2, 3, 2, 2, 1, 2, 1, 4]);
+    let mut stream = words_line(&[2, 2, 2, 3, 2, 2, 1, 2, 1, 0, 4]);
     let query = [&words_line(&[18, 0, 0, 0, 0, 0, 0])[..56], b"0000002a", b"0".repeat(80).as_slice()].concat();
     for length in 0..=query.len() {
         stream.extend([&query[..length], b"\n"].concat());
@@ -137,7 +137,7 @@ fn every_length_of_line() {
 /// Each of the 256 bytes at each place of a line, with an order and without; and the bytes beside the digits at each place of a settings line.
 #[test]
 fn every_byte_at_every_place() {
-    let settings = words_line(&[2, 2, 2, 3, 2, 2, 1, 2, 1, 4]);
+    let settings = words_line(&[2, 2, 2, 3, 2, 2, 1, 2, 1, 1, 4]);
     let frame = words_line(&[12, 1, 1, 0, 3, 0, 0x0123_4567, 0x89ab_cdef]);
     let mut stream = settings.clone();
     for digits in [56, 64] {
@@ -164,7 +164,7 @@ fn every_byte_at_every_place() {
 #[test]
 fn long_stream() {
     let mut rng = Rng::new(seed(31));
-    let settings = Settings::from_words(&[5, 3, 4, 33, 9, 4, 2, 12, 5, 9, 14]).expect("settings");
+    let settings = Settings::from_words(&[5, 3, 4, 33, 9, 4, 2, 12, 5, 1, 9, 14]).expect("settings");
     let stream = stream_of(&mut rng, settings, times(30_000));
     let wrote = written(stream.chunks(50_000).map(<[u8]>::to_vec).collect(), None);
     assert!(wrote == frames(&stream));
@@ -178,7 +178,7 @@ fn long_stream() {
 #[test]
 fn answers_at_once() {
     let mut rng = Rng::new(seed(32));
-    let settings = Settings::from_words(&[2, 2, 2, 3, 2, 2, 1, 2, 1, 4]).expect("settings");
+    let settings = Settings::from_words(&[2, 2, 2, 3, 2, 2, 1, 2, 1, 1, 4]).expect("settings");
     let stream = stream_of(&mut rng, settings, 200);
     let expected = frames(&stream);
     let mut child = program();
@@ -242,7 +242,7 @@ fn lost_lines() {
 /// without byte 10; the largest book that fits, and one word more.
 #[test]
 fn edges() {
-    let example = b"00000002000000020000000200000003000000020000000200000001000000020000000100000004\n\
+    let example = b"0000000200000002000000020000000300000002000000020000000100000002000000010000000000000004\n\
         00000001000000000000000100000000000000010000000000000000\nzz\n";
     assert_eq!(written(vec![example.to_vec()], None), b"000000000000000000000000\n000000170000000000000000\n");
     assert_eq!(written(vec![example[..example.len() - 1].to_vec()], None), frames(example));
@@ -250,7 +250,7 @@ fn edges() {
     assert_eq!(written(vec![b"\n".to_vec(), example.to_vec()], None), b"000000180000000000000000\n");
     let mut numbers = Counts::new();
     for (dates, rest) in [(1, 1), (16, 16), (400, 1)] {
-        let line = words_line(&[dates, rest, rest, 200, 40, 8, 1, 100, 30, 9]);
+        let line = words_line(&[dates, rest, rest, 200, 40, 8, 1, 100, 30, rest - 1, 9]);
         let expected = frames(&line);
         assert_eq!(written(vec![line], None), expected);
         numbers.add(expected.len());
@@ -264,7 +264,7 @@ fn nobody_reads() {
     let mut child = program();
     let mut to = child.stdin.take().expect("a pipe");
     drop(child.stdout.take());
-    to.write_all(&words_line(&[2, 2, 2, 3, 2, 2, 1, 2, 1, 4])).expect("the settings line");
+    to.write_all(&words_line(&[2, 2, 2, 3, 2, 2, 1, 2, 1, 0, 4])).expect("the settings line");
     for _ in 0..100_000 {
         match to.write_all(b"zz\n") {
             Ok(()) => {}

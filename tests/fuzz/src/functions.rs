@@ -3,6 +3,7 @@
 use crate::material::Bytes;
 use crate::reached;
 use second::book;
+use second::gen::early;
 use second::gen::orders::{list_words, Sent};
 use second::machine::{Request, Settings, State};
 use second::party::Guest;
@@ -18,6 +19,7 @@ const PARTY: usize = 3950;
 const MOST_GUESTS: u8 = 70;
 const ORDER: usize = 2500;
 const AGAIN: usize = 2600;
+const EARLY: usize = 2700;
 
 pub fn run(input: &[u8]) {
     let mut bytes = Bytes(input);
@@ -81,7 +83,7 @@ fn damaged(mut bytes: Bytes) {
     party(&words, meeting, &guests);
 }
 
-/// A word to change: of the ring for an odd number, else of what stands before it.
+/// A word to change: of the ring for an odd number, else of what stands before it, the settings included.
 fn place(words: &[u32], number: u32) -> usize {
     let before = words.len() - book::RING_WORDS;
     let half = number as usize / 2;
@@ -174,6 +176,7 @@ fn run_list(settings: &Settings, sent: &[Sent]) -> Vec<u32> {
     assert_eq!(done.words(), [0, 0, sent.len() as u32]);
     for (one, answer) in sent.iter().zip(answers.chunks_exact(3)) {
         let again = state.ring.kept(one.order).is_some();
+        early::Sort::of(&state, &one.request).into_iter().for_each(|sort| reached(EARLY + sort as usize));
         let expected = one.perform(&mut state).words();
         assert_eq!(answer, expected, "{one:?}");
         assert_eq!(caviar::order(&mut book, one.order, ours(&one.request)).words(), expected, "{one:?}");

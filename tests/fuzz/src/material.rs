@@ -1,6 +1,6 @@
 //! Bytes as test material: settings of a small site, requests that are mostly in range, raw words.
 
-use second::machine::site::{GREATEST, LIMITS};
+use second::machine::site::{GREATEST, HEAD};
 use second::machine::{Request, Settings};
 use second::party::Guest;
 
@@ -36,7 +36,7 @@ impl Bytes<'_> {
         }
     }
 
-    /// A small site; visitors and meetings sometimes at the end of a pool word.
+    /// A small site; visitors and meetings sometimes at the end of a pool word, and any number of early times.
     pub fn settings(&mut self) -> Settings {
         let mut words = Vec::new();
         for (which, greatest) in GREATEST.iter().enumerate() {
@@ -47,10 +47,11 @@ impl Bytes<'_> {
                 _ => small.min(*greatest),
             });
         }
+        words.push(u32::from(self.byte()) % words[2]);
         for _ in 0..words[6] {
             words.push(1 + u32::from(self.byte()) % 12);
         }
-        assert_eq!(words.len(), LIMITS + words[6] as usize);
+        assert_eq!(words.len(), HEAD + words[6] as usize);
         Settings::from_words(&words).expect("small settings are in range")
     }
 

@@ -7,7 +7,8 @@
 //! - `page`: the porter's page of a date
 //! - `party`: many guests for one meeting, all or none
 //! - `frames`: the line program as a function from bytes to bytes
-//! - `gen`: seeded settings, request lists, damaged books, damaged byte streams, pages to be written, parties, orders
+//! - `gen`: seeded settings, request lists, damaged books, damaged byte streams, pages to be written, parties, orders,
+//!   rides at early times
 
 pub mod book;
 pub mod frames;

@@ -53,7 +53,7 @@ fn each_rule_broken_alone_is_refused_with_2() {
 #[test]
 fn laws_kept_by_the_layout_are_laws_of_the_sets() {
     use second::machine::{Date, Session, Time};
-    let settings = Settings::from_words(&[2, 2, 2, 3, 2, 2, 2, 2, 1, 4, 4]).expect("settings");
+    let settings = Settings::from_words(&[2, 2, 2, 3, 2, 2, 2, 2, 1, 0, 4, 4]).expect("settings");
     let fresh = State::empty(settings);
     let broken_by = |edit: fn(&mut State)| {
         let mut state = fresh.clone();
@@ -93,9 +93,9 @@ fn a_book_keeps_the_cell_rules_exactly_when_it_shows_a_state() {
 
 #[test]
 fn junk_headers_give_1() {
-    let settings = [2, 2, 2, 3, 2, 2, 1, 2, 1, 4];
-    let mut fresh = vec![0; 769];
-    fresh[..10].copy_from_slice(&settings);
+    let settings = [2, 2, 2, 3, 2, 2, 1, 2, 1, 0, 4];
+    let mut fresh = vec![0; 770];
+    fresh[..11].copy_from_slice(&settings);
     let with = |at: usize, word: u32| {
         let mut book = fresh.clone();
         book[at] = word;
@@ -107,9 +107,11 @@ fn junk_headers_give_1() {
             assert_eq!(with(at, word), [1, 0, 0], "word {at} = {word}");
         }
     }
-    assert_eq!([with(9, 0), with(9, 1001), with(9, u32::MAX)], [[1, 0, 0]; 3]);
-    assert_eq!([with(9, 1), with(9, 1000)], [[0, 0, 0]; 2]);
-    for length in 0..769 {
+    assert_eq!([with(9, 2), with(9, 3), with(9, 0x8000_0000), with(9, u32::MAX)], [[1, 0, 0]; 4]);
+    assert_eq!([with(9, 0), with(9, 1)], [[0, 0, 0]; 2]);
+    assert_eq!([with(10, 0), with(10, 1001), with(10, u32::MAX)], [[1, 0, 0]; 3]);
+    assert_eq!([with(10, 1), with(10, 1000)], [[0, 0, 0]; 2]);
+    for length in 0..770 {
         assert_eq!(check(&fresh[..length]).words(), [1, 0, 0], "length {length}");
     }
     assert_eq!(check(&[fresh, vec![0]].concat()).words(), [1, 0, 0]);

@@ -13,13 +13,13 @@ use std::collections::{BTreeMap, BTreeSet};
 const SEED: u64 = 0x0bde;
 const CALLS: usize = 6000;
 
-const SITE: [u32; 10] = [2, 2, 2, 3, 2, 2, 1, 2, 1, 4];
+const SITE: [u32; 11] = [2, 2, 2, 3, 2, 2, 1, 2, 1, 0, 4];
 const LEAVE: [u32; 7] = [1, 0, 1, 0, 1, 0, 0];
 const HOTEL: [u32; 7] = [4, 0, 1, 0, 1, 0, 0];
 const QUERY: [u32; 7] = [18, 0, 0, 0, 0, 0, 0];
 
 /// Where the ring of the worked example begins.
-const RING: usize = 64;
+const RING: usize = 65;
 
 fn fresh() -> Vec<u32> {
     words(&State::empty(Settings::from_words(&SITE).expect("good settings")))
@@ -37,11 +37,11 @@ fn place(book: &[u32], at: usize) -> &[u32] {
 #[test]
 fn the_words_of_the_ring() {
     let mut book = fresh();
-    assert_eq!((book.len(), book.len() - RING), (769, RING_WORDS));
+    assert_eq!((book.len(), book.len() - RING), (770, RING_WORDS));
     assert_eq!(sent(&mut book, 17, HOTEL), [9, 0, 0], "no leave yet");
     assert_eq!(place(&book, 0), [17, 4, 0, 1, 0, 1, 0, 0, 9, 0, 0], "a refused order writes its entry");
     assert_eq!(book[RING + 704], 1, "and the next place");
-    assert!(book[10..RING].iter().all(|word| *word == 0), "and no other word");
+    assert!(book[11..RING].iter().all(|word| *word == 0), "and no other word");
     assert_eq!(sent(&mut book, 18, LEAVE), [0, 0, 0]);
     assert_eq!(sent(&mut book, 19, HOTEL), [0, 0, 0]);
     assert_eq!(sent(&mut book, 20, QUERY), [0, 0, 1], "a query is kept as well");
@@ -105,7 +105,7 @@ fn the_example_of_the_rules() {
         assert_eq!(sent(&mut book, order, request), answer, "{order}");
     }
     assert_eq!(place(&book, 0), [16, 4, 0, 1, 0, 1, 0, 0, 9, 0, 0]);
-    assert_eq!((book[108], book[768]), (20, 5));
+    assert_eq!((book[109], book[769]), (20, 5));
 }
 
 /// What the laws ask, and no more: gaps, any kept answer, a next place anywhere.

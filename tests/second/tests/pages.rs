@@ -28,7 +28,7 @@ fn example() -> State {
         [12, 1, 1, 3, 4, 0, 70],
         [12, 2, 0, 3, 3, 0, 5],
     ];
-    state_after(&[3, 2, 1, 3, 2, 3, 1, 1, 1, 4], &requests)
+    state_after(&[3, 2, 1, 3, 2, 3, 1, 1, 1, 0, 4], &requests)
 }
 
 /// The page of date 1, by hand.
@@ -65,7 +65,7 @@ fn a_refusal_keeps_the_page() {
     assert_eq!(asked(&book, 3, 0), ([7, 0, 0], vec![]), "7 comes before 26");
     assert_eq!(asked(&book[1..], 1, 200), ([1, 0, 0], vec![42; 200]));
     let mut unlawful = book.clone();
-    unlawful[10] = 0;
+    unlawful[11] = 0;
     assert_eq!(asked(&unlawful, 9, 0), ([2, 0, 0], vec![]), "the visitors of date 0 have no leave; 2 comes before 7");
 }
 

@@ -2,10 +2,10 @@
 
 use second::book::{book_len, check, lay, words};
 use second::frames::{frames, trace, words_line};
-use second::machine::site::GREATEST;
+use second::gen::sites::largest;
 use second::machine::{run, step, Answer, Request, Settings, State};
 
-const REHEARSAL_SITE: [u32; 10] = [2, 2, 2, 3, 2, 2, 1, 2, 1, 4];
+const REHEARSAL_SITE: [u32; 11] = [2, 2, 2, 3, 2, 2, 1, 2, 1, 0, 4];
 
 const REHEARSAL: [([u32; 7], [u32; 3]); 16] = [
     ([20, 0, 0, 0, 3, 0, 0], [0, 0, 0]),
@@ -27,7 +27,7 @@ const REHEARSAL: [([u32; 7], [u32; 3]); 16] = [
 ];
 
 const EXAMPLE_IN: &[u8] = b"\
-00000002000000020000000200000003000000020000000200000001000000020000000100000004
+0000000200000002000000020000000300000002000000020000000100000002000000010000000000000004
 00000001000000000000000100000000000000010000000000000000
 zz
 ";
@@ -54,9 +54,9 @@ fn the_trace_shows_the_book_after_each_answer() {
     let lines: Vec<&[u8]> = second::frames::lines(&out);
     assert_eq!(lines.len(), 4);
     assert_eq!(lines[0], &EXAMPLE_OUT[..24]);
-    assert_eq!(lines[1].len(), 769 * 8);
+    assert_eq!(lines[1].len(), 770 * 8);
     assert_eq!(lines[1], lines[3], "a refused line changes nothing");
-    assert_eq!(&lines[1][80..96], b"0000000200000002", "visitor 1 has leave on both dates");
+    assert_eq!(&lines[1][88..104], b"0000000200000002", "visitor 1 has leave on both dates");
 }
 
 #[test]
@@ -80,21 +80,21 @@ fn seats_and_last_session_at_their_ends() {
 }
 
 #[test]
-fn the_rehearsal_needs_769_words_and_the_largest_book_9402330() {
-    let mut largest = GREATEST.to_vec();
-    largest.extend([1000; 16]);
-    assert_eq!(book_len(&REHEARSAL_SITE), 769);
-    assert_eq!(book_len(&largest), 9_402_330);
-    assert_eq!(book_len(&largest[..24]), 0);
-    assert_eq!(words(&rehearsal_state()).len(), 769);
+fn the_rehearsal_needs_770_words_and_the_largest_book_9402331() {
+    let largest = largest(95).words();
+    let smallest = [1, 1, 1, 1, 1, 1, 1, 1, 1, 0, 1];
+    assert_eq!(book_len(&REHEARSAL_SITE), 770);
+    assert_eq!((book_len(&smallest), book_len(&largest)), (726, 9_402_331));
+    assert_eq!(book_len(&largest[..25]), 0);
+    assert_eq!(words(&rehearsal_state()).len(), 770);
 }
 
 #[test]
 fn laying_writes_the_settings_then_zeros_or_keeps_the_book() {
-    let mut book = [7u32; 769];
-    assert_eq!(lay(&REHEARSAL_SITE[..9], &mut book).words(), [24, 0, 0]);
-    assert_eq!(lay(&REHEARSAL_SITE, &mut book[..768]).words(), [25, 0, 0]);
-    assert_eq!(book, [7u32; 769]);
+    let mut book = [7u32; 770];
+    assert_eq!(lay(&REHEARSAL_SITE[..10], &mut book).words(), [24, 0, 0]);
+    assert_eq!(lay(&REHEARSAL_SITE, &mut book[..769]).words(), [25, 0, 0]);
+    assert_eq!(book, [7u32; 770]);
     assert_eq!(lay(&REHEARSAL_SITE, &mut book), Answer::Done(0));
     assert_eq!(book.to_vec(), words(&rehearsal_state()));
 }
@@ -103,13 +103,13 @@ fn laying_writes_the_settings_then_zeros_or_keeps_the_book() {
 #[test]
 fn settings_lines_and_line_ends() {
     let refused = |number: u32| format!("{number:08x}0000000000000000\n").into_bytes();
-    let settings = &EXAMPLE_IN[..81];
+    let settings = &EXAMPLE_IN[..89];
     assert_eq!(frames(b""), refused(24));
     assert_eq!(frames(b"\n"), refused(24));
-    assert_eq!(frames(&settings[..79]), refused(24));
+    assert_eq!(frames(&settings[..87]), refused(24));
     assert_eq!(frames(&settings.to_ascii_uppercase()), b"", "no letters in these settings");
     assert_eq!(frames(settings), b"");
-    assert_eq!(frames(&settings[..80]), b"", "the end of input ends the settings line");
+    assert_eq!(frames(&settings[..88]), b"", "the end of input ends the settings line");
     assert_eq!(frames(&[settings, b"\n"].concat()), refused(23), "an empty line is no frame line");
     assert_eq!(frames(&[settings, b"\n\n"].concat()), [refused(23), refused(23)].concat());
     assert_eq!(frames(&[b"\r\n", settings].concat()), refused(24), "nothing after it is read");
@@ -118,8 +118,8 @@ fn settings_lines_and_line_ends() {
 /// 16,384 words pass and 16,385 do not.
 #[test]
 fn the_program_takes_books_up_to_16384_words() {
-    let most = [2, 1, 96, 1, 1, 1, 2, 50, 81, 1, 1];
-    let over = [2, 1, 96, 1, 1, 1, 1, 51, 81, 1];
+    let most = [2, 1, 96, 1, 1, 1, 1, 50, 81, 0, 1];
+    let over = [2, 1, 96, 1, 1, 1, 2, 50, 81, 95, 1, 1];
     assert_eq!((book_len(&most), book_len(&over)), (16_384, 16_385));
     assert_eq!(frames(&words_line(&most)), b"");
     assert_eq!(frames(&words_line(&over)), b"000000190000000000000000\n");

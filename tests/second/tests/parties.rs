@@ -23,7 +23,7 @@ fn example() -> Vec<u32> {
         [8, 1, 0, 3, 3, 0, 0],
         [10, 1, 0, 3, 3, 0, 0],
     ];
-    words(&state_after(&[2, 2, 1, 4, 2, 1, 1, 1, 1, 4], &requests))
+    words(&state_after(&[2, 2, 1, 4, 2, 1, 1, 1, 1, 0, 4], &requests))
 }
 
 /// The words of the answer to a party, and the book after it.
@@ -40,15 +40,15 @@ fn refused(book: &[u32], meeting: u32, guests: &[[u32; 3]]) -> [u32; 3] {
     answer
 }
 
-/// Attend begins at word 10 + 2 × 1 + 2 × 1 + 4 × 1 = 18: four sessions of four visitors.
+/// Attend begins at word 11 + 2 × 1 + 2 × 1 + 4 × 1 = 19: four sessions of four visitors.
 #[test]
 fn a_party_that_is_done() {
     let book = example();
-    assert_eq!(book[18..34], [0, 0, 0, 0, 0, 0, 0, 0, 0, 0, 0, 0, 2, 0, 0, 0], "visitor 0 is at meeting 1");
+    assert_eq!(book[19..35], [0, 0, 0, 0, 0, 0, 0, 0, 0, 0, 0, 0, 2, 0, 0, 0], "visitor 0 is at meeting 1");
     let (answer, after) = asked(&book, 0, &[[1, 1, 2], [2, 2, 3], [1, 3, 3], [0, 1, 2]]);
     assert_eq!(answer, [0, 0, 0]);
-    assert_eq!(after[18..34], [0, 0, 0, 0, 1, 1, 0, 0, 1, 1, 1, 0, 2, 1, 1, 0], "visitor 1 is two of the guests");
-    assert_eq!((&after[..18], &after[34..]), (&book[..18], &book[34..]), "no other word has changed");
+    assert_eq!(after[19..35], [0, 0, 0, 0, 1, 1, 0, 0, 1, 1, 1, 0, 2, 1, 1, 0], "visitor 1 is two of the guests");
+    assert_eq!((&after[..19], &after[35..]), (&book[..19], &book[35..]), "no other word has changed");
 }
 
 #[test]
@@ -84,7 +84,7 @@ fn the_questions_before_the_guests() {
     assert_eq!(refused(&book, 0, &[[9, 9, 9]; 64]), [6, 0, 0], "64 guests are not too many");
     assert_eq!(refused(&book[1..], 0, &[]), [1, 0, 0]);
     let mut unlawful = book.clone();
-    unlawful[11] = 0;
+    unlawful[12] = 0;
     assert_eq!(refused(&unlawful, 0, &[]), [2, 0, 0], "visitor 0 has no leave on date 1; 2 comes before 27");
 }
 
@@ -98,14 +98,14 @@ fn the_example_of_the_rules() {
         [8, 1, 0, 1, 3, 0, 0],
         [8, 0, 0, 3, 3, 0, 0],
     ];
-    let book = words(&state_after(&[2, 2, 2, 3, 2, 2, 1, 2, 1, 4], &requests));
+    let book = words(&state_after(&[2, 2, 2, 3, 2, 2, 1, 2, 1, 0, 4], &requests));
     assert_eq!(refused(&book, 1, &[]), [27, 0, 0]);
     assert_eq!(refused(&book, 2, &[[0, 1, 2], [1, 1, 1]]), [5, 0, 0]);
     assert_eq!(refused(&book, 1, &[[0, 1, 2], [2, 1, 3]]), [9, 1, 0]);
     assert_eq!(refused(&book, 1, &[[0, 1, 2], [1, 0, 3], [9, 1, 1]]), [10, 0, 0]);
     assert_eq!(refused(&book, 1, &[[0, 1, 2], [1, 3, 3], [0, 2, 3]]), [11, 2, 0]);
     let (answer, after) = asked(&book, 1, &[[0, 1, 2], [1, 1, 3], [2, 2, 3], [0, 3, 3]]);
-    assert_eq!((answer, &after[20..32]), ([0, 0, 0], &[0, 0, 0, 2, 2, 0, 2, 2, 2, 2, 2, 2][..]));
+    assert_eq!((answer, &after[21..33]), ([0, 0, 0], &[0, 0, 0, 2, 2, 0, 2, 2, 2, 2, 2, 2][..]));
     assert_eq!(refused(&after, 0, &[[1, 3, 3]]), [13, 3, 0]);
 }
 
@@ -114,7 +114,7 @@ fn the_example_of_the_rules() {
 fn a_party_of_64_is_done_and_of_65_is_not() {
     let leave = (0..17).map(|visitor| [1, 0, visitor, 0, 1, 0, 0]);
     let opening: Vec<[u32; 7]> = leave.chain([[8, 0, 0, 0, 3, 0, 0]]).collect();
-    let state = state_after(&[2, 2, 1, 17, 1, 1, 1, 1, 1, 4], &opening);
+    let state = state_after(&[2, 2, 1, 17, 1, 1, 1, 1, 1, 0, 4], &opening);
     let mut guests: Vec<[u32; 3]> = (0..64).map(|at| [at % 16, at / 16, at / 16]).collect();
     let (answer, after) = asked(&words(&state), 0, &guests);
     assert_eq!((answer, check(&after)), ([0, 0, 0], Answer::Done(0)));

@@ -5,6 +5,7 @@ use second::book::{self, check, lay, length, words, Rule};
 use second::frames::{frames, lines};
 use second::gen::cases::{self, Case};
 use second::gen::conflicts::{conflicts_of, edges, CONFLICTS};
+use second::gen::early;
 use second::gen::endings::Ending;
 use second::gen::orders::{self, Sent};
 use second::gen::pages::{Lent, Sort};
@@ -230,9 +231,14 @@ fn tables_have_enough_steps_of_every_sort() {
     for seed in [1, 2, 3, 20_261_115] {
         let (mut done, mut refused, mut conflicts) = (BTreeMap::new(), BTreeMap::new(), BTreeMap::new());
         let (mut endings, mut admitted, mut ordered) = (BTreeMap::new(), BTreeMap::new(), BTreeMap::new());
+        let (mut of_times, mut sites) = (BTreeMap::new(), BTreeMap::new());
         let all = tables::tables(seed);
         for table in &all {
             let mut state = State::empty(table.settings.clone());
+            count(
+                &mut sites,
+                (table.settings.dates == 1, table.settings.times_per_date == 1, table.settings.early > 0),
+            );
             for (call, answer) in &table.steps {
                 let before = state.clone();
                 assert_eq!(perform(&mut state, call), *answer);
@@ -240,6 +246,7 @@ fn tables_have_enough_steps_of_every_sort() {
                     Call::Request(request) => {
                         conflicts_of(&before, request).into_iter().for_each(|decided| count(&mut conflicts, decided));
                         Ending::of(&before, request).into_iter().for_each(|sort| count(&mut endings, sort));
+                        early::Sort::of(&before, request).into_iter().for_each(|sort| count(&mut of_times, sort));
                         count_answer(&mut done, &mut refused, request.kind, answer);
                     }
                     Call::Order { order, request } => {
@@ -260,6 +267,8 @@ fn tables_have_enough_steps_of_every_sort() {
         want(&refused, 3..=22, 1);
         want(&conflicts, CONFLICTS, 1);
         want(&endings, Ending::ALL, 1);
+        want(&of_times, early::Sort::ALL, 1);
+        want(&sites, [(true, false, true), (false, true, false), (false, false, true), (false, false, false)], 1);
         want(&admitted, tables::parties_wanted(), 1);
         want(&ordered, tables::orders_wanted(), 1);
     }

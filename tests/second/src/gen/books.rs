@@ -1,12 +1,12 @@
 //! Books for checking: lawful and full ones, books in which one rule alone is broken, and junk.
 
-use super::requests::deep_state;
+use super::requests::{deep_state, time_on};
 use super::rng::Rng;
 use super::sites::{bad_settings, site, Size};
 use crate::book::regions::{address, Name};
 use crate::book::{length, pool_words, ring_base, words, Rule, ENTRY_WORDS, RING_WORDS};
 use crate::machine::ring::PLACES;
-use crate::machine::site::{GREATEST, LIMITS};
+use crate::machine::site::{GREATEST, HEAD, LIMITS};
 use crate::machine::{Date, Session, Settings, State, Time};
 
 /// A book that breaks this rule and no other, made from a lawful state; None when the site cannot
@@ -145,7 +145,7 @@ fn break_law(rng: &mut Rng, state: &mut State, rule: Rule) -> Option<()> {
     let visitor = rng.below(s.visitors);
     let meeting = rng.below(s.meetings);
     let session = Session(date.0 * s.sessions_per_date + rng.below(s.sessions_per_date));
-    let time = Time(date.0 * s.times_per_date + rng.below(s.times_per_date));
+    let time = time_on(rng, &s, date);
     match rule {
         Rule::VisitorHasOneHotelRoom => two_hotel_rooms(rng, state, date, visitor)?,
         Rule::VisitorHasOneTransport => two_transports(rng, state, time, visitor)?,
@@ -248,6 +248,7 @@ fn guest_without_leave(rng: &mut Rng, state: &mut State, rule: Rule, session: Se
         }
         Rule::RideGuestHasLeave => {
             let transport = rng.below(s.transports);
+            leave_beside(rng, state, time, visitor);
             state.ride.retain(|(at, a, _)| !(*at == time && *a == transport));
             state.ride.insert((time, transport, visitor));
         }
@@ -259,26 +260,36 @@ fn guest_without_leave(rng: &mut Rng, state: &mut State, rule: Rule, session: Se
     }
 }
 
+/// Mostly gives the visitor leave on the dates beside that of the time, which must not count for a ride then.
+fn leave_beside(rng: &mut Rng, state: &mut State, time: Time, visitor: u32) {
+    let date = state.settings.date_of_time(time).0;
+    let beside = (date.saturating_sub(1)..=date + 1).filter(|other| *other != date && *other < state.settings.dates);
+    if rng.percent(75) {
+        state.leave.extend(beside.map(|other| (Date(other), visitor)));
+    }
+}
+
 /// A book that is mostly wrong: random words, junk limits, products that overflow, a wrong length,
-/// flipped words of a lawful book.
+/// other early times, flipped words of a lawful book.
 pub fn junk_book(rng: &mut Rng) -> Vec<u32> {
     let settings = site(rng, Size::Small);
     let mut book = words(&deep_state(rng, settings, 30));
-    match rng.below(12) {
+    match rng.below(13) {
         0 => return (0..rng.below(80)).map(|_| rng.junk(2)).collect(),
         1 => book.truncate(rng.below(book.len() as u32) as usize),
         2 => book.extend((0..rng.between(1, 9)).map(|_| rng.pick(&[0, 0, 1, u32::MAX]))),
         3 => {
-            let which = rng.below(9) as usize;
+            let which = rng.below(LIMITS as u32) as usize;
             book[which] = rng.junk(GREATEST[which]);
         }
-        4 => book[..9].fill(rng.pick(&[u32::MAX, 0x8000_0000, 0x0001_0000, 0])),
-        5 => book[..9].copy_from_slice(&GREATEST),
+        4 => book[..HEAD].fill(rng.pick(&[u32::MAX, 0x8000_0000, 0x0001_0000, 0])),
+        5 => book[..LIMITS].copy_from_slice(&GREATEST),
         6 => {
             let bad = bad_settings(rng);
             let common = bad.len().min(book.len());
             book[..common].copy_from_slice(&bad[..common]);
         }
+        7 => book[LIMITS] = if rng.percent(50) { rng.below(book[2]) } else { rng.junk(book[2]) },
         _ => flip_words(rng, &mut book),
     }
     book
@@ -313,7 +324,7 @@ pub fn full_book(rng: &mut Rng, settings: &Settings, percent: u32) -> Vec<u32> {
             fill_session(rng, &mut book, s, date, session, percent);
         }
         fill_lunches(rng, &mut book, s, date, percent);
-        for time in date * s.times_per_date..(date + 1) * s.times_per_date {
+        for Time(time) in s.times_of(Date(date)) {
             fill_guests(rng, &mut book, s, (Name::Ride, time, s.transports), date, percent);
         }
     }

@@ -190,7 +190,7 @@ fn some_party(rng: &mut Rng, raw: bool) -> Case {
 
 /// So many guests, every one of whom could be added: up to sixteen visitors in each of four sessions, then one more.
 fn large_party(guests: usize) -> Case {
-    let settings = Settings::from_words(&[2, 2, 1, 17, 1, 1, 1, 1, 1, 4]).expect("limits in range");
+    let settings = Settings::from_words(&[2, 2, 1, 17, 1, 1, 1, 1, 1, 0, 4]).expect("limits in range");
     let mut state = State::empty(settings);
     let leave = (0..17).map(|visitor| Request::from_words([1, 0, visitor, 0, 1, 0, 0]));
     let opening: Vec<Request> = leave.chain([Request::from_words([8, 0, 0, 0, 3, 0, 0])]).collect();

@@ -1,9 +1,10 @@
 //! Seeded test material: settings, request lists, damaged books, damaged byte streams, calls for a
-//! page, parties, orders. The same seed gives the same material on every machine.
+//! page, parties, orders, rides at early times. The same seed gives the same material on every machine.
 
 pub mod books;
 pub mod cases;
 pub mod conflicts;
+pub mod early;
 pub mod endings;
 pub mod orders;
 pub mod pages;

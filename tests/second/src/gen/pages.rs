@@ -113,7 +113,7 @@ fn large_site(rng: &mut Rng) -> (State, u32) {
     let (dates, sessions) = if many { (rng.between(300, 400), rng.between(4, 5)) } else { (2, 3) };
     let visitors = if many { rng.between(1, 4) } else { rng.between(150, 512) };
     let [meetings, rooms, capacity] = [3, 3, 9].map(|most| rng.between(1, most));
-    let words = [dates, sessions, 1, visitors, meetings, rooms, 1, 1, 1, capacity];
+    let words = [dates, sessions, 1, visitors, meetings, rooms, 1, 1, 1, 0, capacity];
     let mut state = State::empty(Settings::from_words(&words).expect("limits in range"));
     let date = if many && rng.percent(70) { rng.between(250, dates - 1) } else { rng.below(dates) };
     make_busy(rng, &mut state, Date(date));

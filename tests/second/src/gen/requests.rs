@@ -3,6 +3,7 @@
 //! that was aimed at, and some are junk. So lists reach deep states.
 
 use super::conflicts::{conflict, CONFLICTS};
+use super::early::{self, early};
 use super::endings::{ending, Ending};
 use super::orders::some_ring;
 use super::Rng;
@@ -10,19 +11,20 @@ use crate::machine::kinds::{uses, Unit, Uses, LAST_KIND};
 use crate::machine::questions::first_no;
 use crate::machine::{run, step, Answer, Date, Request, Session, Settings, State, Time};
 
-/// How many of a hundred requests are junk, aimed at two refusals at once, and aimed at one; the
-/// rest aim to be done.
+/// How many of a hundred requests are junk, aimed at what hangs on the date of a time, at two refusals at once, and
+/// at one; the rest aim to be done.
 #[derive(Clone, Copy, Debug)]
 pub struct Mix {
     pub junk: u32,
+    pub early: u32,
     pub conflicting: u32,
     pub aimed: u32,
 }
 
 impl Mix {
-    pub const USUAL: Mix = Mix { junk: 6, conflicting: 6, aimed: 26 };
+    pub const USUAL: Mix = Mix { junk: 6, early: 4, conflicting: 6, aimed: 24 };
     /// Nearly everything is accepted, for filling a book.
-    pub const FILLING: Mix = Mix { junk: 0, conflicting: 0, aimed: 2 };
+    pub const FILLING: Mix = Mix { junk: 0, early: 0, conflicting: 0, aimed: 2 };
 }
 
 /// How many candidates are drawn before the last one is taken as it is.
@@ -102,14 +104,19 @@ fn over_slots(rng: &mut Rng, kind: u32, slots: u32) -> Request {
 /// The next request for this state.
 pub fn one(rng: &mut Rng, state: &State, mix: Mix) -> Request {
     let turn = rng.below(100);
+    let conflicting = mix.junk + mix.early + mix.conflicting;
     if turn < mix.junk {
         return junk(rng, state);
     }
-    if turn < mix.junk + mix.conflicting {
+    if turn < mix.junk + mix.early {
+        let wanted = rng.pick(&early::Sort::ALL);
+        return early(rng, state, wanted).unwrap_or_else(|| aim(rng, state, 0));
+    }
+    if turn < conflicting {
         let wanted = rng.pick(&CONFLICTS);
         return conflict(rng, state, wanted).unwrap_or_else(|| aim(rng, state, wanted.1));
     }
-    let wanted = if turn < mix.junk + mix.conflicting + mix.aimed { rng.between(8, 22) } else { 0 };
+    let wanted = if turn < conflicting + mix.aimed { rng.between(8, 22) } else { 0 };
     if wanted == 20 {
         let sort = rng.pick(&Ending::ALL);
         return ending(rng, state, sort).unwrap_or_else(|| aim(rng, state, 20));
@@ -204,11 +211,15 @@ fn seats(rng: &mut Rng, capacity: u32) -> u32 {
 /// entry that an erasure can name, or that gives an addition what it needs.
 fn near(rng: &mut Rng, state: &State, kind: u32) -> Option<(u32, Option<u32>, Option<u32>)> {
     match kind {
+        2 | 3 if rng.percent(40) => ride_near(rng, state).map(|(time, _, visitor)| {
+            let date = state.settings.date_of_time(time).0;
+            (beside(rng, date, state.settings.dates), None, Some(visitor))
+        }),
         2 | 4 | 18 => leave_near(rng, state).map(|(date, visitor)| (date.0, None, Some(visitor))),
         3 | 5 => hotel_near(rng, state).map(|(date, room, visitor)| (date.0, Some(room), Some(visitor))),
         6 => leave_near(rng, state).map(|(date, visitor)| {
-            let offset = rng.below(state.settings.times_per_date);
-            (date.0 * state.settings.times_per_date + offset, None, Some(visitor))
+            let time = time_on(rng, &state.settings, date).0;
+            (beside(rng, time, state.settings.times()), None, Some(visitor))
         }),
         7 => ride_near(rng, state).map(|(time, transport, visitor)| (time.0, Some(transport), Some(visitor))),
         9 if rng.percent(50) => standing_near(rng, state).map(|(session, meeting)| (session.0, Some(meeting), None)),
@@ -225,6 +236,25 @@ fn near(rng: &mut Rng, state: &State, kind: u32) -> Option<(u32, Option<u32>, Op
             .map(|(session, meeting)| (state.settings.date_of_session(session).0, None, Some(meeting))),
         15 | 19 => lunch_near(rng, state).map(|(date, room, meeting)| (date.0, Some(room), Some(meeting))),
         _ => None,
+    }
+}
+
+/// A time of the date: its first or last, or any.
+pub fn time_on(rng: &mut Rng, s: &Settings, date: Date) -> Time {
+    let times: Vec<Time> = s.times_of(date).collect();
+    match rng.below(4) {
+        0 => times[0],
+        1 => times[times.len() - 1],
+        _ => rng.pick(&times),
+    }
+}
+
+/// The slot, or now and then one beside it.
+fn beside(rng: &mut Rng, slot: u32, slots: u32) -> u32 {
+    match rng.below(10) {
+        0 => slot.saturating_sub(1),
+        1 => (slot + 1).min(slots - 1),
+        _ => slot,
     }
 }
 

@@ -2,6 +2,7 @@
 //! orders and parties, with their answers, and the whole book at the end.
 
 use super::conflicts::{conflict, conflicts_of, edges, Conflict, CONFLICTS};
+use super::early::{self, early};
 use super::endings::{ending, Ending};
 use super::orders::{self, Plan, Sent};
 use super::parties::{a_party, Sort, Where, OF_GUESTS};
@@ -30,6 +31,7 @@ struct Seen {
     numbers: BTreeSet<u32>,
     conflicts: BTreeSet<Conflict>,
     endings: BTreeSet<Ending>,
+    early: BTreeSet<early::Sort>,
     parties: BTreeSet<Sort>,
     orders: BTreeSet<orders::Sort>,
 }
@@ -38,9 +40,10 @@ impl Seen {
     fn everything(&self) -> bool {
         let numbers = (3..=22).all(|number| self.numbers.contains(&number));
         let sorts = self.conflicts.len() == CONFLICTS.len() && self.endings.len() == Ending::ALL.len();
+        let early = self.early.len() == early::Sort::ALL.len();
         let parties = parties_wanted().iter().all(|sort| self.parties.contains(sort));
         let orders = orders_wanted().iter().all(|sort| self.orders.contains(sort));
-        self.kinds_done.len() == 20 && numbers && sorts && parties && orders
+        self.kinds_done.len() == 20 && numbers && sorts && early && parties && orders
     }
 }
 
@@ -63,12 +66,13 @@ pub fn orders_wanted() -> Vec<orders::Sort> {
 }
 
 /// Tables of the seed: among them every kind is done, every number 3 to 22 is reached, every
-/// conflict of two questions, every sort of kind 9, every sort of a small party and of an order occurs,
-/// and every kind has every fault of its form.
+/// conflict of two questions, every sort of kind 9, of early times, of a small party and of an order occurs,
+/// every kind has every fault of its form, and small sites have a ride at every time.
 pub fn tables(seed: u64) -> Vec<Table> {
     let mut rng = Rng::new(seed);
     let mut seen = Seen::default();
     let mut all = vec![edge_table(&mut rng, &mut seen), ring_table(&mut rng, &mut seen)];
+    all.extend(EDGES.map(|edges| ride_table(&mut seen, edges)));
     while all.len() < SITES || !seen.everything() {
         let round = all.len() % SITES == 0;
         all.push(if round { ring_table(&mut rng, &mut seen) } else { table(&mut rng, &mut seen) });
@@ -109,6 +113,33 @@ fn edge_table(rng: &mut Rng, seen: &mut Seen) -> Table {
     table
 }
 
+/// Dates, times of a date and early times of the sites that have a ride at every time: one date, one time a date, the
+/// most early times, and one.
+const EDGES: [[u32; 3]; 4] = [[1, 3, 2], [3, 1, 0], [3, 3, 2], [2, 3, 1]];
+
+/// A site whose visitors have leave on one date each: every visitor at every time, then over all times, and ends and
+/// removals of leave on every date.
+fn ride_table(seen: &mut Seen, [dates, times, early]: [u32; 3]) -> Table {
+    let limits = [dates, 1, times, dates, 1, 1, 1, 1, dates, early, 1];
+    let settings = Settings::from_words(&limits).expect("limits in range");
+    let mut state = State::empty(settings.clone());
+    let mut table = Table { settings, steps: Vec::new(), book: Vec::new() };
+    let mut requests: Vec<[u32; 7]> = (0..dates).map(|visitor| [1, 0, visitor, visitor, visitor, 0, 0]).collect();
+    for visitor in 0..dates {
+        requests.push([6, visitor, visitor, 0, dates * times - 1, 0, 0]);
+        requests.extend((0..dates * times).map(|time| [6, visitor, visitor, time, time, 0, 0]));
+    }
+    for visitor in 0..dates {
+        requests.extend((0..dates).map(|date| [2, 0, visitor, date, date, 0, 0]));
+        requests.extend((0..dates).map(|date| [3, 0, visitor, date, date, 0, 0]));
+    }
+    for request in requests {
+        add_step(&mut table, &mut state, seen, Call::Request(Request::from_words(request)));
+    }
+    table.book = words(&state);
+    table
+}
+
 /// How many orders a table has that fills the ring and goes round it.
 const ROUND: usize = 150;
 
@@ -136,6 +167,7 @@ fn add_step(table: &mut Table, state: &mut State, seen: &mut Seen, call: Call) {
         Call::Request(request) => {
             seen.conflicts.extend(conflicts_of(&before, request));
             seen.endings.extend(Ending::of(&before, request));
+            seen.early.extend(early::Sort::of(&before, request));
             match answer {
                 Answer::Done(_) => seen.kinds_done.insert(request.kind),
                 Answer::Refused { number, .. } => seen.numbers.insert(number),
@@ -179,10 +211,11 @@ fn few_guests(rng: &mut Rng, state: &State) -> Call {
     }
 }
 
-/// Every third request aims at what is still missing: conflicts, then sorts of kind 9, then numbers.
+/// Requests aim in turn at what is still missing: conflicts, sorts of kind 9, early times, then numbers.
 fn next(rng: &mut Rng, state: &State, seen: &Seen, turn: usize) -> Request {
     let missing: Vec<Conflict> = CONFLICTS.into_iter().filter(|wanted| !seen.conflicts.contains(wanted)).collect();
     let sort = Ending::ALL.into_iter().find(|sort| !seen.endings.contains(sort));
+    let of_times = early::Sort::ALL.into_iter().find(|sort| !seen.early.contains(sort));
     let number = (8..=22).find(|number| !seen.numbers.contains(number));
     if turn.is_multiple_of(3) && !missing.is_empty() {
         let wanted = rng.pick(&missing);
@@ -191,6 +224,9 @@ fn next(rng: &mut Rng, state: &State, seen: &Seen, turn: usize) -> Request {
         }
     }
     if let Some(request) = sort.filter(|_| turn % 3 == 1).and_then(|sort| ending(rng, state, sort)) {
+        return request;
+    }
+    if let Some(request) = of_times.filter(|_| turn % 3 == 2).and_then(|sort| early(rng, state, sort)) {
         return request;
     }
     match number {
