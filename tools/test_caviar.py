@@ -769,6 +769,16 @@ class Documents(Tested):
         self.assertIn(f"    $ head -n 3 lines\n{head}", (ROOT / "README.md").read_text())
         self.assertIn(f"    {SETTINGS_LINE}\n", (ROOT / "docs" / "RULES.md").read_text())
 
+    def test_the_early_times_of_the_rules(self):
+        """The table of rule 13.5."""
+        rule = (ROOT / "docs" / "RULES.md").read_text().partition("**13.5** Settings ")[2].partition("\n## ")[0]
+        settings = rules.settings_of([int(word) for word in rule.partition(":")[0].split()])
+        rows = re.findall(r"^\| ((?:\d+ ){6}\d+) \| (\d+) (\d+) (\d+) \|", rule, re.MULTILINE)
+        self.assertEqual((settings.early, len(rows)), (1, 11))
+        requests = [Request(*map(int, words.split())) for words, *_ in rows]
+        expected = [tuple(map(int, answer)) for _, *answer in rows]
+        self.assertEqual(main.answered([settings, *requests])[1], expected)
+
     def test_the_orders_of_the_rules(self):
         """The table of rule 18.8."""
         rows = self.rows("docs/RULES.md", r"^\| (\d+) \| ((?:\d+ ){6}\d+) \| (\d+) (\d+) (\d+) \|")
