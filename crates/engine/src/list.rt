@@ -219,12 +219,7 @@ pub fn serve(words: &[u32], book: &mut [u32], list: &[u32], answers: &mut [u32])
     serve_list(words, book, list, REQUEST_WORDS, answers)
 }
 
-pub fn serve_orders(
-    words: &[u32],
-    book: &mut [u32],
-    list: &[u32],
-    answers: &mut [u32],
-) -> Answer
+pub fn serve_orders(words: &[u32], book: &mut [u32], list: &[u32], answers: &mut [u32]) -> Answer
     ensures { λ r. ⌜
         asListed r (now (book .exit)) (now (answers .exit))
         ≡ serveList orderLength (now (words .entry)) (now (book .entry)) (now (list .entry)) (now (answers .entry))

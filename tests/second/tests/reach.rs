@@ -4,7 +4,7 @@
 use second::book::{self, check, lay, length, words, Rule};
 use second::frames::{frames, lines};
 use second::gen::cases::{self, Case};
-use second::gen::conflicts::{conflicts_of, edges, CONFLICTS};
+use second::gen::conflicts::{conflicts_of, edges, Conflict, CONFLICTS};
 use second::gen::early;
 use second::gen::endings::Ending;
 use second::gen::orders::{self, Sent};
@@ -226,50 +226,69 @@ fn cases_hold_every_sort() {
     want(&rules, Rule::breakable(), 2);
 }
 
+/// What the steps of the tables reach, each sort counted.
+#[derive(Default)]
+struct Steps {
+    done: BTreeMap<u32, u32>,
+    refused: BTreeMap<u32, u32>,
+    conflicts: BTreeMap<Conflict, u32>,
+    endings: BTreeMap<Ending, u32>,
+    times: BTreeMap<early::Sort, u32>,
+    admitted: BTreeMap<parties::Sort, u32>,
+    ordered: BTreeMap<orders::Sort, u32>,
+}
+
+impl Steps {
+    fn count(&mut self, before: &State, call: &Call, answer: &Answer) {
+        match call {
+            Call::Request(request) => {
+                conflicts_of(before, request).into_iter().for_each(|decided| count(&mut self.conflicts, decided));
+                Ending::of(before, request).into_iter().for_each(|sort| count(&mut self.endings, sort));
+                early::Sort::of(before, request).into_iter().for_each(|sort| count(&mut self.times, sort));
+                count_answer(&mut self.done, &mut self.refused, request.kind, answer);
+            }
+            Call::Order { order, request } => {
+                let sorts = orders::Sort::of(before, &Sent { order: *order, request: *request });
+                sorts.into_iter().for_each(|sort| count(&mut self.ordered, sort));
+            }
+            Call::Party { meeting, guests } => {
+                let sorts = parties::Sort::of_party(before, *meeting, guests, answer.words());
+                sorts.into_iter().for_each(|sort| count(&mut self.admitted, sort));
+            }
+        }
+    }
+
+    fn want_all(&self) {
+        want(&self.done, 1..=20, 1);
+        want(&self.refused, 3..=22, 1);
+        want(&self.conflicts, CONFLICTS, 1);
+        want(&self.endings, Ending::ALL, 1);
+        want(&self.times, early::Sort::ALL, 1);
+        want(&self.admitted, tables::parties_wanted(), 1);
+        want(&self.ordered, tables::orders_wanted(), 1);
+    }
+}
+
 #[test]
 fn tables_have_enough_steps_of_every_sort() {
     for seed in [1, 2, 3, 20_261_115] {
-        let (mut done, mut refused, mut conflicts) = (BTreeMap::new(), BTreeMap::new(), BTreeMap::new());
-        let (mut endings, mut admitted, mut ordered) = (BTreeMap::new(), BTreeMap::new(), BTreeMap::new());
-        let (mut of_times, mut sites) = (BTreeMap::new(), BTreeMap::new());
+        let (mut steps, mut sites) = (Steps::default(), BTreeMap::new());
         let all = tables::tables(seed);
         for table in &all {
-            let mut state = State::empty(table.settings.clone());
-            count(
-                &mut sites,
-                (table.settings.dates == 1, table.settings.times_per_date == 1, table.settings.early > 0),
-            );
+            let settings = &table.settings;
+            let mut state = State::empty(settings.clone());
+            count(&mut sites, (settings.dates == 1, settings.times_per_date == 1, settings.early > 0));
             for (call, answer) in &table.steps {
                 let before = state.clone();
                 assert_eq!(perform(&mut state, call), *answer);
-                match call {
-                    Call::Request(request) => {
-                        conflicts_of(&before, request).into_iter().for_each(|decided| count(&mut conflicts, decided));
-                        Ending::of(&before, request).into_iter().for_each(|sort| count(&mut endings, sort));
-                        early::Sort::of(&before, request).into_iter().for_each(|sort| count(&mut of_times, sort));
-                        count_answer(&mut done, &mut refused, request.kind, answer);
-                    }
-                    Call::Order { order, request } => {
-                        let sorts = orders::Sort::of(&before, &Sent { order: *order, request: *request });
-                        sorts.into_iter().for_each(|sort| count(&mut ordered, sort));
-                    }
-                    Call::Party { meeting, guests } => {
-                        let sorts = parties::Sort::of_party(&before, *meeting, guests, answer.words());
-                        sorts.into_iter().for_each(|sort| count(&mut admitted, sort));
-                    }
-                }
+                steps.count(&before, call, answer);
             }
             assert_eq!(table.book, words(&state));
             assert_eq!(check(&table.book), Answer::Done(0));
         }
+        let (done, refused) = (&steps.done, &steps.refused);
         println!("seed {seed}: {} sites, done by kind {done:?}, refused by number {refused:?}", all.len());
-        want(&done, 1..=20, 1);
-        want(&refused, 3..=22, 1);
-        want(&conflicts, CONFLICTS, 1);
-        want(&endings, Ending::ALL, 1);
-        want(&of_times, early::Sort::ALL, 1);
+        steps.want_all();
         want(&sites, [(true, false, true), (false, true, false), (false, false, true), (false, false, false)], 1);
-        want(&admitted, tables::parties_wanted(), 1);
-        want(&ordered, tables::orders_wanted(), 1);
     }
 }
