@@ -240,25 +240,29 @@ list-same f g n e =
     ext-getD 0 (list f n) (list g n) (length-list f n ∙ sym (length-list g n))
     (λ k h. let i : k < n = omega (arith, length-list f n) in getD-list f n k i ∙ e k i ∙ sym (getD-list g n k i))
 
--- eight bytes of a list, joined
-pub bytes-joined : (s : List ℕ) (at : ℕ) {x : ℕ} → at + 8 ≤ length s → ((k : ℕ) → k < 8 → getD s (at + k) 0 < 256)
-    → x
-    ≡ ((((((((getD s at 0) * 256 + getD s (at + 1) 0) * 256 + getD s (at + 2) 0) * 256 + getD s (at + 3) 0) * 256 + getD s (at + 4) 0) * 256
-    + getD s (at + 5) 0) * 256 + getD s (at + 6) 0) * 256 + getD s (at + 7) 0)
-    → eightBytes x ≡ take 8 (drop at s)
-bytes-joined s at {x} long l e =
-    ext-getD 0 (eightBytes x) (take 8 (drop at s)) (length-list (byteAt x) 8 ∙ sym (length-take-le 8 (drop at s) (simp length-drop (omega arith))))
-    (λ k h.
-    let i : k < 8 = omega (arith, length-list (byteAt x) 8) in
-    getD-list (byteAt x) 8 k i
-    ∙ ap (λ (x : ℕ). byteAt x k) (e ∙ first)
-    ∙ byte-of (λ k. getD s (at + k) 0) l k i
-    ∙ sym (getD-take 8 (drop at s) k 0 i ∙ getD-drop at s k 0))
-  where
-    first : ((((((((getD s at 0) * 256 + getD s (at + 1) 0) * 256 + getD s (at + 2) 0) * 256 + getD s (at + 3) 0) * 256 + getD s (at + 4) 0) * 256
-        + getD s (at + 5) 0) * 256 + getD s (at + 6) 0) * 256 + getD s (at + 7) 0)
-        ≡ numeral 256 (λ k. getD s (at + k) 0) 8
-    first = let z = ap (λ (i : ℕ). getD s i 0) (add-zero at) in omega arith
+-- eight bytes of a list, joined one by one
+module _ (s : List ℕ) (at : ℕ) (long : at + 8 ≤ length s) (l : (k : ℕ) → k < 8 → getD s (at + k) 0 < 256) where
+  pub bytes-joined : {a b c d e f g h : ℕ} → a ≡ 0 * 256 + getD s at 0 → b ≡ a * 256 + getD s (at + 1) 0 → c ≡ b * 256 + getD s (at + 2) 0
+      → d ≡ c * 256 + getD s (at + 3) 0 → e ≡ d * 256 + getD s (at + 4) 0 → f ≡ e * 256 + getD s (at + 5) 0 → g ≡ f * 256 + getD s (at + 6) 0
+      → h ≡ g * 256 + getD s (at + 7) 0 → eightBytes h ≡ take 8 (drop at s)
+  bytes-joined ea eb ec ed ee ef eg eh =
+      ap eightBytes (eh ∙ more 7 (eg ∙ more 6 (ef ∙ more 5 (ee ∙ more 4 (ed ∙ more 3 (ec ∙ more 2 (eb ∙ more 1 (ea ∙ first))))))))
+      ∙ ext-getD 0 (eightBytes x) (take 8 (drop at s)) (length-list (byteAt x) 8 ∙ sym (length-take-le 8 (drop at s) (simp length-drop (omega arith))))
+      (λ k h.
+      let i : k < 8 = omega (arith, length-list (byteAt x) 8) in
+      getD-list (byteAt x) 8 k i ∙ byte-of byte l k i ∙ sym (getD-take 8 (drop at s) k 0 i ∙ getD-drop at s k 0))
+    where
+      byte : ℕ → ℕ
+      byte k = getD s (at + k) 0
+
+      x : ℕ
+      x = numeral 256 byte 8
+
+      more : (k : ℕ) {y : ℕ} → y ≡ numeral 256 byte k → y * 256 + byte k ≡ numeral 256 byte (suc k)
+      more k q = ap (λ (y : ℕ). y * 256 + byte k) q
+
+      first : 0 * 256 + getD s at 0 ≡ numeral 256 byte 1
+      first = ap (λ (i : ℕ). 0 * 256 + getD s i 0) (sym (add-zero at))
 
 -- the digits of a word
 pub digits-shown : (w : ℕ) {v r : ℕ} → v ≡ numeral 256 (nibble w) 8 → r ≡ numeral 256 (λ k. digit (byteAt v k)) 8 → eightBytes r ≡ wordDigits w

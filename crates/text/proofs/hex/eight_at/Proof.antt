@@ -79,7 +79,15 @@ joined-requires-8 c κs = search needs
 returns : tie.Need-returns
 returns c =
     let a = c .before .before .before .before .before .before .before .before .before .before .before .before .before .before .before .before .before .args in
-    bytes-joined (a .s .now) (a .at) (omega arith) (λ k h. omega (arith, c .before .shared-slice-known9 .given (a .at + k))) (omega arith)
+    bytes-joined (a .s .now) (a .at) (omega arith) (λ k h. omega (arith, c .before .shared-slice-known9 .given (a .at + k)))
+    (c .before .before .before .before .before .before .before .before .before .before .before .before .before .before .joined .ensures .0)
+    (c .before .before .before .before .before .before .before .before .before .before .before .before .joined2 .ensures .0)
+    (c .before .before .before .before .before .before .before .before .before .before .joined3 .ensures .0)
+    (c .before .before .before .before .before .before .before .before .joined4 .ensures .0)
+    (c .before .before .before .before .before .before .joined5 .ensures .0)
+    (c .before .before .before .before .joined6 .ensures .0)
+    (c .before .before .joined7 .ensures .0)
+    (c .joined8 .ensures .0)
 
 pub eight-at-spec : {M : Type 1} → statement M
 eight-at-spec =
