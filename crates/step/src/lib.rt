@@ -54,18 +54,66 @@ pub fn step(book: &mut [u32], s: Settings, r: Request) -> Answer
     }
 }
 
-// A request on a whole book, with the number of its order, 0 for none. The first `diary` words are the diary, the ring stands behind
-// them. An order that is kept is answered from the ring; else the request is carried out, and an order is kept with its answer. There
-// is one call of `step`, so that the compiler puts it into the loops above.
+// Whether a kind counts as a change: 1 to 16 do, 17 to 20 only ask.
+fn is_change(kind: u32) -> bool
+    ensures { λ r. ⌜ r ≡ within 1 16 kind ⌝ }
+{
+    (1 <= kind) & (kind <= 16)
+}
+
+// The answer that a request without an order would get on a whole book, by reading alone. Question 30 comes last: a change that all others
+// let pass is refused where the count cannot rise.
+pub fn foresee(book: &[u32], s: Settings, diary: usize, r: Request) -> Answer
+    requires { ⌜ GoodBook s (now book) ⌝ }
+    requires { ⌜ diary ≡ diaryLength s ⌝ }
+    ensures { λ a. ⌜ a ≡ countedStep (ledgerOf (now (book .entry)) .diary) (ledgerOf (now (book .entry)) .changes) r .answer ⌝ }
+{
+    let answer = judge(&book[..diary], s, r);
+    if let Answer::Refused { number, place } = answer {
+        return Answer::Refused { number, place };
+    }
+    if is_change(r.kind) && count(book) == MOST_CHANGES {
+        return Answer::Refused {
+            number: 30,
+            place: 0,
+        };
+    }
+    answer
+}
+
+// A request without an order on a whole book. A change that is done raises the count; where it cannot rise nothing is written, and the
+// answer is had by reading.
+fn counted_step(book: &mut [u32], s: Settings, diary: usize, r: Request) -> Answer
+    requires { ⌜ GoodBook s (now book) ⌝ }
+    requires { ⌜ diary ≡ diaryLength s ⌝ }
+    ensures { λ a. ⌜ answered a (now (book .exit)) ≡ called (Machine.perform (ledgerOf (now (book .entry))) (ordered 0 r)) ⌝ }
+{
+    if !is_change(r.kind) {
+        return step(&mut book[..diary], s, r);
+    }
+    if count(book) == MOST_CHANGES {
+        return foresee(book, s, diary, r);
+    }
+    let answer = step(&mut book[..diary], s, r);
+    if let Answer::Done(_) = answer {
+        raise(book);
+    }
+    answer
+}
+
+// A request on a whole book, with the number of its order, 0 for none. The first `diary` words are the diary; the ring stands behind them,
+// and the change count is the last word. An order that is kept is answered from the ring; else the request is carried out, and an order
+// is kept with its answer. There is one call of `step`, so that the compiler puts it into the loops above.
 pub fn book_step(book: &mut [u32], s: Settings, diary: usize, order: u32, r: Request) -> Answer
     requires { ⌜ GoodBook s (now book) ⌝ }
     requires { ⌜ diary ≡ diaryLength s ⌝ }
     ensures { λ a. ⌜ answered a (now (book .exit)) ≡ called (Machine.perform (ledgerOf (now (book .entry))) (ordered order r)) ⌝ }
 {
-    if let Found::At(place) = find(&book[diary..], order) {
-        return answer_to(&book[diary..], place, r);
+    let last = book.len() - 1;
+    if let Found::At(place) = find(&book[diary..last], order) {
+        return answer_to(&book[diary..last], place, r);
     }
-    let answer = step(&mut book[..diary], s, r);
-    note(&mut book[diary..], order, r, answer);
+    let answer = counted_step(book, s, diary, r);
+    note(&mut book[diary..last], order, r, answer);
     answer
 }
