@@ -120,3 +120,13 @@ done-counted x n r v e = go (isChange r) refl e
         let h = done-raised x n (step x r) (step x r .answer) v (rw q at e) in
         (h .0, rw q (h .1))
     go false q e = (rw q at e, rw q)
+
+-- at the greatest count a change leaves diary and count, whatever its answer
+pub full-stays : (x : State) (n : ℕ) (r : Request) → isChange r ≡ true → n ≡ mostChanges
+    → countedStep x n r ≡ record { answer = countedStep x n r .answer; state = x; changes = n }
+unfolding countedStep raise
+full-stays x n r c e = rw (c, e) (go (step x r .answer))
+  where
+    go : (a : Answer) → raise x mostChanges (step x r) a ≡ record { answer = raise x mostChanges (step x r) a .answer; state = x; changes = mostChanges }
+    go (Done v) = refl
+    go (Refused k p) = refl

@@ -179,7 +179,7 @@ module _ (b : List ℕ) (one : wellLaid b ≡ true) where
     lawful-tail = and-right (diaryLawful (diaryOf b)) _ two
 
     -- what stands behind the diary has the words of the tail and the count that it shows
-    behind-shown : behindWords (ledgerOf b .tail) (ledgerOf b .changes) ≡ behindOf b
+    pub behind-shown : behindWords (ledgerOf b .tail) (ledgerOf b .changes) ≡ behindOf b
     unfolding behindWords ledgerOf
     behind-shown =
         ap (λ (w : List ℕ). w ++ (countIn (behindOf b) ∷ [])) (tail-shown (tailIn (behindOf b)) (tail-in-long (behindOf b) behind-long) lawful-tail)
@@ -208,15 +208,15 @@ module _ (l : Ledger) (s : LedgerSound l) where
   behind : List ℕ
   behind = behindWords (l .tail) (l .changes)
 
-  first-long : length (words (l .diary)) ≡ diaryLength (l .diary .settings)
-  first-long = length-words (l .diary) (seated seats)
+  pub diary-words : length (words (l .diary)) ≡ diaryLength (l .diary .settings)
+  diary-words = length-words (l .diary) (seated seats)
 
   pub book-settings : settingsOf (bookWords l) ≡ l .diary .settings
   unfolding bookWords behind
   book-settings =
       let back : settingsOf (words (l .diary)) ≡ l .diary .settings = settings-back (l .diary) seats in
       let room : settingsLength (settingsOf (words (l .diary))) ≤ length (words (l .diary))
-      = rw (back, first-long) (settings-in (l .diary .settings)) in
+      = rw (back, diary-words) (settings-in (l .diary .settings)) in
       same-head (words (l .diary) ++ behind) (words (l .diary)) (length (words (l .diary))) room
       (λ i h. List·getD-append (words (l .diary)) behind 0 i h) ∙ back
 
@@ -225,17 +225,17 @@ module _ (l : Ledger) (s : LedgerSound l) where
   unfolding diaryOf bookWords behind
   book-diary =
       ap (λ (S : Settings). take (diaryLength S) (bookWords l)) book-settings
-      ∙ take-at (words (l .diary)) behind (diaryLength (l .diary .settings)) first-long
+      ∙ take-at (words (l .diary)) behind (diaryLength (l .diary .settings)) diary-words
 
   pub book-behind : behindOf (bookWords l) ≡ behindWords (l .tail) (l .changes)
   unfolding behindOf bookWords behind
   book-behind =
       ap (λ (S : Settings). drop (diaryLength S) (bookWords l)) book-settings
-      ∙ drop-at (words (l .diary)) behind (diaryLength (l .diary .settings)) first-long
+      ∙ drop-at (words (l .diary)) behind (diaryLength (l .diary .settings)) diary-words
 
   pub book-long : length (bookWords l) ≡ bookLength (l .diary .settings)
   unfolding bookWords bookLength behind
-  book-long = length-append (words (l .diary)) behind ∙ omega (arith, first-long, behind-words-long (l .tail) (s .tail) (l .changes))
+  book-long = length-append (words (l .diary)) behind ∙ omega (arith, diary-words, behind-words-long (l .tail) (s .tail) (l .changes))
 
   -- they pass questions 1 and 2, and show the ledger
   pub well-laid : wellLaid (bookWords l) ≡ true
@@ -270,7 +270,7 @@ module _ (l : Ledger) (s : LedgerSound l) where
   recounted v =
       let front : List ℕ = words (l .diary) ++ tailWords (l .tail) in
       let n : length front ≡ length (bookWords l) - 1
-      = length-append (words (l .diary)) (tailWords (l .tail)) ∙ omega (arith, book-long, first-long, tail-long (l .tail) (s .tail)) in
+      = length-append (words (l .diary)) (tailWords (l .tail)) ∙ omega (arith, book-long, diary-words, tail-long (l .tail) (s .tail)) in
       ap (λ (b : List ℕ). set b (length (bookWords l) - 1) v) (sym (append-assoc (words (l .diary)) (tailWords (l .tail)) (l .changes ∷ [])))
       ∙ set-at front (l .changes) [] v (length (bookWords l) - 1) n
       ∙ append-assoc (words (l .diary)) (tailWords (l .tail)) (v ∷ [])
