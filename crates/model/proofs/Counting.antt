@@ -12,8 +12,13 @@ use Rattle.model.specs.declared.Guest.{Guest}
 use Rattle.model.specs.declared.Answer.{Answer}
 use Rattle.model.specs.declared.Answer.the-variants.{Done, Refused}
 use Rattle.model.specs.State.{State}
+use Rattle.model.specs.Ledger.{Ledger}
 use Rattle.model.specs.Machine.{Outcome, step, admit, Counted, mostChanges, raise, isChange, countedStep, countedParty}
 use Rattle.model.proofs.Told.{Tellable, done-tellable, refused-tellable, step-tellable}
+
+-- the answer of a ledger to a request without an order
+abbrev pub answerTo : Ledger → Request → Answer
+answerTo l r = countedStep (l .diary) (l .changes) r .answer
 
 refused-done : {k p v : ℕ} → Refused k p ≡ Done v → ⊥
 refused-done e = let z : _≡_ {A = ℕ} 0 1 = cc in omega arith
