@@ -37,14 +37,12 @@ use Rattle.model.specs.Before.{stepBy, joinedBy, admitBy, countedStepBy,
 use Rattle.model.specs.Before.{guestsBy, lawsBy, validThen, bookThen, lengthThen, withZero, shownThen}
 use Rattle.model.proofs.Frame.{step-settings}
 use Rattle.model.proofs.Party.{admit-settings}
-use Rattle.model.proofs.Counting.{counted-state, counted-party-state}
+use Rattle.model.proofs.Counting.{counted-party-state}
+use Rattle.model.proofs.Effect.{counted-settings}
 use Rattle.model.proofs.Search.{within-true}
 use Rattle.model.proofs.Shows.{Shows, shown-calls, fresh-shows}
 
 -- a call leaves the settings
-counted-settings : (x : State) (n : ℕ) (r : Request) → countedStep x n r .state .settings ≡ x .settings
-counted-settings x n r = counted-state (λ (z : State). z .settings ≡ x .settings) x n r refl (step-settings x r)
-
 perform-settings : (l : Ledger) (c : Call) → perform l c .ledger .diary .settings ≡ l .diary .settings
 perform-settings l (ordered n r) = order (keptAt (l .tail) n)
   where
