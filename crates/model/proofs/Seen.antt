@@ -20,17 +20,17 @@ use Rattle.model.specs.declared.Answer.the-variants.{Done, Refused}
 use Rattle.model.specs.Bounded.{isSome, one}
 use Rattle.model.specs.Site.{validSettings}
 use Rattle.model.specs.State.{State}
-use Rattle.model.specs.Kinds.{Kind, kindOf}
-use Rattle.model.specs.Questions.{Question, number, always, further, judge, refusal, Refusal}
 use Rattle.model.specs.Tail.{keptAt, noted}
 use Rattle.model.specs.Ledger.{Ledger, emptyLedger, bookWords, ledgerOf}
 use Rattle.model.specs.Laws.{wellLaid, lawful}
-use Rattle.model.specs.Machine.{Outcome, stepKind, finish, step, admit, Counted, mostChanges, raise, isChange, countedStep, countedParty}
+use Rattle.model.specs.Machine.{Outcome, step, partyFits, admit, Counted, mostChanges, raise, isChange, countedStep, countedParty}
 use Rattle.model.specs.Machine.{Call, ordered, request, party, ask, commit, Reply, told, asked, Performed, answerOrder, answerCommit, perform, Run, run}
 use Rattle.model.specs.Calls.{Called, called, refusing, gate, callOn, call, callParty, callAsk, callCommit, Calls, calls, freshBook}
 use Rattle.model.specs.Seen.{lastWord, nth, ledgerAt, isDone, saysDone, counts, changesIn}
+use Rattle.model.proofs.Told.{refused-most}
 use Rattle.model.proofs.Counting.{answerTo, counted-refused, done-raised, refused-raised}
 use Rattle.model.proofs.Effect.{Effect, onlyAsks, isRefused, isFull, raises, effect, only-asked, full, raised-by, counted-by-one}
+use Rattle.model.proofs.Raised.{last-changes, count-last}
 use Rattle.model.proofs.Shows.{Shows, Passes, passes-shows, shown-call, shown-calls, fresh-shows}
 
 -- ---- one call
@@ -145,6 +145,9 @@ reply-at l (d ∷ cs) zero c e =
     ap (λ (d : Call). some (perform l d .reply)) q
 reply-at l (d ∷ cs) (suc i) c e = reply-at (perform l d .ledger) cs i c e
 
+same-told : {a a′ : Answer} → told a ≡ told a′ → a ≡ a′
+same-told e = cc
+
 -- a commit that 29 does not refuse names the count of the ledger, and gets the answer of the request
 pub not-refused : (l : Ledger) (n : ℕ) (r : Request) (a : Answer) → perform l (commit n r) .reply ≡ told a → (a ≡ Refused 29 0 → ⊥)
     → (n ≡ l .changes) × (a ≡ answerTo l r)
@@ -171,3 +174,264 @@ seen l cs i j r a b n ci ri cj rj h =
     let g = not-refused lj n r b t h in
     let same : li .changes ≡ lj .changes = at ∙ g .0 in
     g .1 ∙ sym (ap₂ (λ (x : State) (k : ℕ). countedStep x k r .answer) (same-count l cs i j same) same) ∙ shown
+
+-- ---- on every list of words
+
+-- a book passes questions 1 and 2, or one of them refuses every call and the book stays
+pub record Unfit (b : List ℕ) : Type 0 where
+  pub number : ℕ
+  pub refused : (c : Call) → callOn b c ≡ record { reply = refusing c (Refused number 0); book = b }
+
+pub fit-or-not : (b : List ℕ) → Passes b ⊎ Unfit b
+unfolding callOn
+fit-or-not b = go (wellLaid b) refl (lawful b) refl
+  where
+    go : (o : Bool) → wellLaid b ≡ o → (t : Bool) → lawful b ≡ t → Passes b ⊎ Unfit b
+    go true e true f = inl (record { one = e; two = f })
+    go true e false f = inr (record { number = 2; refused = λ c. rw (e, f) })
+    go false e t f = inr (record { number = 1; refused = λ c. rw e })
+
+-- the replies of a list on a book that does not pass
+reply-unfit : (b : List ℕ) (u : Unfit b) (cs : List Call) (i : ℕ) (c : Call) → nth cs i ≡ some c
+    → nth (calls b cs .replies) i ≡ some (refusing c (Refused (u .number) 0))
+unfolding calls
+reply-unfit b u [] i c e = absurd (let z : _≡_ {A = ℕ} 0 1 = cc in omega arith)
+reply-unfit b u (d ∷ cs) zero c e =
+    let q : d ≡ c = cc in
+    ap (λ (k : Called). some (k .reply)) (u .refused d) ∙ ap (λ (d : Call). some (refusing d (Refused (u .number) 0))) q
+reply-unfit b u (d ∷ cs) (suc i) c e =
+    ap (λ (k : Called). nth (calls (k .book) cs .replies) i) (u .refused d) ∙ reply-unfit b u cs i c e
+
+-- the claim on every list of words, one that questions 1 and 2 refuse included: there all answers are that refusal
+pub seen-words : (w : List ℕ) (cs : List Call) (i j : ℕ) (r : Request) (a b : Answer) (n : ℕ) → nth cs i ≡ some (ask r)
+    → nth (calls w cs .replies) i ≡ some (asked a n) → nth cs j ≡ some (commit n r) → nth (calls w cs .replies) j ≡ some (told b)
+    → (b ≡ Refused 29 0 → ⊥) → b ≡ a
+seen-words w cs i j r a b n ci ri cj rj h = go (fit-or-not w)
+  where
+    go : Passes w ⊎ Unfit w → b ≡ a
+    go (inl q) =
+        let e : calls w cs .replies ≡ run (ledgerOf w) cs .replies = ap (λ (k : Calls). k .replies) (shown-calls w (ledgerOf w) (passes-shows w q) cs) in
+        seen (ledgerOf w) cs i j r a b n ci (rw e at ri) cj (rw e at rj) h
+    go (inr u) =
+        let p : some (asked (Refused (u .number) 0) 0) ≡ some (asked a n) = sym (reply-unfit w u cs i (ask r) ci) ∙ ri in
+        let t : some (told (Refused (u .number) 0)) ≡ some (told b) = sym (reply-unfit w u cs j (commit n r) cj) ∙ rj in
+        let x : Refused (u .number) 0 ≡ a = cc in
+        let y : Refused (u .number) 0 ≡ b = cc in
+        sym y ∙ x
+
+-- and so from a fresh book on
+pub seen-fresh : (S : Settings) → validSettings S ≡ true → (cs : List Call) (i j : ℕ) (r : Request) (a b : Answer) (n : ℕ) → nth cs i ≡ some (ask r)
+    → nth (calls (freshBook S) cs .replies) i ≡ some (asked a n) → nth cs j ≡ some (commit n r)
+    → nth (calls (freshBook S) cs .replies) j ≡ some (told b) → (b ≡ Refused 29 0 → ⊥) → b ≡ a
+seen-fresh S e cs i j r a b n = seen-words (freshBook S) cs i j r a b n
+
+-- ---- asking
+
+-- asking changes nothing, whatever the words are
+pub ask-keeps : (b : List ℕ) (r : Request) → callAsk b r .book ≡ b
+ask-keeps b r = go (fit-or-not b)
+  where
+    go : Passes b ⊎ Unfit b → callAsk b r .book ≡ b
+    go (inl q) = ap (λ (k : Called). k .book) (shown-call b (ledgerOf b) (passes-shows b q) (ask r)) ∙ sym (passes-shows b q .is)
+    go (inr u) = ap (λ (k : Called). k .book) (u .refused (ask r))
+
+-- it says what the request without an order would be told, and beside it the last word; beside a refusal by 1 or 2 it says 0
+pub ask-tells : (b : List ℕ) → Passes b → (r : Request) (a : Answer) → call b r .reply ≡ told a → callAsk b r .reply ≡ asked a (lastWord b)
+ask-tells b q r a e =
+    let h : Shows b (ledgerOf b) = passes-shows b q in
+    let t : told (answerTo (ledgerOf b) r) ≡ told a = sym (ap (λ (k : Called). k .reply) (shown-call b (ledgerOf b) h (request r))) ∙ e in
+    let z : answerTo (ledgerOf b) r ≡ a = cc in
+    ap (λ (k : Called). k .reply) (shown-call b (ledgerOf b) h (ask r)) ∙ ap₂ asked z (count-last b q)
+
+pub ask-fails : (b : List ℕ) → (Passes b → ⊥) → (r : Request) (a : Answer) → call b r .reply ≡ told a → callAsk b r .reply ≡ asked a 0
+ask-fails b f r a e = go (fit-or-not b)
+  where
+    go : Passes b ⊎ Unfit b → callAsk b r .reply ≡ asked a 0
+    go (inl q) = absurd (f q)
+    go (inr u) =
+        let t : told (Refused (u .number) 0) ≡ told a = sym (ap (λ (k : Called). k .reply) (u .refused (request r))) ∙ e in
+        let z : Refused (u .number) 0 ≡ a = cc in
+        ap (λ (k : Called). k .reply) (u .refused (ask r)) ∙ ap (λ (a : Answer). asked a 0) z
+
+-- it never looks into the ring: two ledgers of one diary and one count say the same
+pub ask-ringless : (l m : Ledger) (r : Request) → l .diary ≡ m .diary → l .changes ≡ m .changes → perform l (ask r) .reply ≡ perform m (ask r) .reply
+ask-ringless l m r d n = ap₂ (λ (x : State) (k : ℕ). asked (countedStep x k r .answer) k) d n
+
+-- ---- committing
+
+commit-at : (l : Ledger) (n : ℕ) (r : Request) → n ≡ l .changes → perform l (commit n r) ≡ perform l (request r)
+commit-at l n r e = ap (λ (t : Bool). answerCommit l t r) (eq-eqb n (l .changes) e)
+
+commit-off : (l : Ledger) (n : ℕ) (r : Request) → (n ≡ l .changes → ⊥) → perform l (commit n r) ≡ record { reply = told (Refused 29 0); ledger = l }
+commit-off l n r h = ap (λ (t : Bool). answerCommit l t r) (ne-eqb n (l .changes) h)
+
+-- committed at its last word, a request is the request without an order, whatever the words are
+pub commit-is-request : (b : List ℕ) (r : Request) → callCommit b (lastWord b) r ≡ call b r
+commit-is-request b r = go (fit-or-not b)
+  where
+    go : Passes b ⊎ Unfit b → callCommit b (lastWord b) r ≡ call b r
+    go (inl q) =
+        let h : Shows b (ledgerOf b) = passes-shows b q in
+        shown-call b (ledgerOf b) h (commit (lastWord b) r)
+        ∙ ap called (commit-at (ledgerOf b) (lastWord b) r (sym (count-last b q)))
+        ∙ sym (shown-call b (ledgerOf b) h (request r))
+    go (inr u) = u .refused (commit (lastWord b) r) ∙ sym (u .refused (request r))
+
+-- at any other count it is refused by 29, before all questions of the request, and the book stays
+pub commit-refused : (b : List ℕ) → Passes b → (n : ℕ) (r : Request) → (n ≡ lastWord b → ⊥)
+    → callCommit b n r ≡ record { reply = told (Refused 29 0); book = b }
+commit-refused b q n r h =
+    let s : Shows b (ledgerOf b) = passes-shows b q in
+    shown-call b (ledgerOf b) s (commit n r)
+    ∙ ap called (commit-off (ledgerOf b) n r (λ e. h (e ∙ count-last b q)))
+    ∙ ap (λ (w : List ℕ). record { reply = told (Refused 29 0); book = w }) (sym (s .is))
+
+-- asked and committed at once at the count that it was told, a request gets the answer that it was told, whatever the words are
+pub ask-commit : (b : List ℕ) (r : Request) (a : Answer) (n : ℕ) → callAsk b r .reply ≡ asked a n → callCommit (callAsk b r .book) n r .reply ≡ told a
+ask-commit b r a n e = ap (λ (w : List ℕ). callCommit w n r .reply) (ask-keeps b r) ∙ go (fit-or-not b)
+  where
+    go : Passes b ⊎ Unfit b → callCommit b n r .reply ≡ told a
+    go (inl q) =
+        let h : Shows b (ledgerOf b) = passes-shows b q in
+        let t : asked (answerTo (ledgerOf b) r) (ledgerOf b .changes) ≡ asked a n
+        = sym (ap (λ (k : Called). k .reply) (shown-call b (ledgerOf b) h (ask r))) ∙ e in
+        let y : answerTo (ledgerOf b) r ≡ a = cc in
+        let z : ledgerOf b .changes ≡ n = cc in
+        ap (λ (k : Called). k .reply) (shown-call b (ledgerOf b) h (commit n r))
+        ∙ ap (λ (p : Performed). p .reply) (commit-at (ledgerOf b) n r (sym z))
+        ∙ ap told y
+    go (inr u) =
+        let t : asked (Refused (u .number) 0) 0 ≡ asked a n = sym (ap (λ (k : Called). k .reply) (u .refused (ask r))) ∙ e in
+        let z : Refused (u .number) 0 ≡ a = cc in
+        ap (λ (k : Called). k .reply) (u .refused (commit n r)) ∙ ap told z
+
+-- committing leaves the ring
+pub commit-ringless : (l : Ledger) (n : ℕ) (r : Request) → perform l (commit n r) .ledger .tail ≡ l .tail
+commit-ringless l n r = go (eqb n (l .changes))
+  where
+    go : (t : Bool) → answerCommit l t r .ledger .tail ≡ l .tail
+    go true = refl
+    go false = refl
+
+-- ---- which refusals are 29 and 30
+
+module _ (x : State) (n : ℕ) (r : Request) where
+  -- 30 is asked last: it refuses exactly the change that every other question passes, where the count is the greatest
+  pub thirty-last : (countedStep x n r .answer ≡ Refused 30 0) ↔ ((isChange r ≡ true) × ((n ≡ mostChanges) × ((v : ℕ) × (step x r .answer ≡ Done v))))
+  thirty-last = (to (effect x n r), λ h. ap (λ (o : Counted). o .answer) (full x n r (h .1 .1 .0) (h .0) (h .1 .1 .1) (h .1 .0)))
+    where
+      -- the step gives no 30
+      other : (p : ℕ) → step x r .answer ≡ Refused 30 p → ⊥
+      other p e = let h : 30 < 23 = refused-most x r 30 p e in omega (arith, h)
+
+      to : Effect x n r → countedStep x n r .answer ≡ Refused 30 0 → (isChange r ≡ true) × ((n ≡ mostChanges) × ((v : ℕ) × (step x r .answer ≡ Done v)))
+      to (onlyAsks c) e = absurd (other 0 (sym (ap (λ (o : Counted). o .answer) (only-asked x n r c)) ∙ e))
+      to (isRefused k p c f) e =
+          let z : Refused k p ≡ Refused 30 0 = sym (ap (λ (o : Counted). o .answer) (counted-refused x n r k p c f)) ∙ e in
+          absurd (other 0 (f ∙ z))
+      to (isFull v c f q) e = (c, (q, (v, f)))
+      to (raises v c f h) e =
+          absurd (let z : Done v ≡ Refused 30 0 = sym (ap (λ (o : Counted). o .answer) (raised-by x n r v c f h)) ∙ e in
+          let w : _≡_ {A = ℕ} 0 1 = cc in omega arith)
+
+  -- nothing but a commit is refused by 29
+  pub never-29 : (p : ℕ) → countedStep x n r .answer ≡ Refused 29 p → ⊥
+  never-29 p e = go (effect x n r)
+    where
+      other : step x r .answer ≡ Refused 29 p → ⊥
+      other e = let h : 29 < 23 = refused-most x r 29 p e in omega (arith, h)
+
+      go : Effect x n r → ⊥
+      go (onlyAsks c) = other (sym (ap (λ (o : Counted). o .answer) (only-asked x n r c)) ∙ e)
+      go (isRefused k i c f) =
+          let z : Refused k i ≡ Refused 29 p = sym (ap (λ (o : Counted). o .answer) (counted-refused x n r k i c f)) ∙ e in
+          other (f ∙ z)
+      go (isFull v c f q) =
+          let z : Refused 30 0 ≡ Refused 29 p = sym (ap (λ (o : Counted). o .answer) (full x n r v c f q)) ∙ e in
+          let w : _≡_ {A = ℕ} 30 29 = cc in omega (arith, w)
+      go (raises v c f h) =
+          let z : Done v ≡ Refused 29 p = sym (ap (λ (o : Counted). o .answer) (raised-by x n r v c f h)) ∙ e in
+          let w : _≡_ {A = ℕ} 0 1 = cc in omega arith
+
+-- on a book that passes: 29 exactly where the count that is named is not the last word
+pub twenty-nine : (b : List ℕ) → Passes b → (n : ℕ) (r : Request) → (callCommit b n r .reply ≡ told (Refused 29 0)) ↔ (n ≡ lastWord b → ⊥)
+twenty-nine b q n r = (λ e at. no-more e at, λ h. ap (λ (k : Called). k .reply) (commit-refused b q n r h))
+  where
+    no-more : callCommit b n r .reply ≡ told (Refused 29 0) → n ≡ lastWord b → ⊥
+    no-more e at =
+        let t : told (answerTo (ledgerOf b) r) ≡ told (Refused 29 0)
+        = sym (ap (λ (k : Called). k .reply) (shown-call b (ledgerOf b) (passes-shows b q) (request r)))
+        ∙ sym (ap (λ (k : Called). k .reply) (commit-is-request b r))
+        ∙ ap (λ (m : ℕ). callCommit b m r .reply) (sym at) ∙ e in
+        let z : answerTo (ledgerOf b) r ≡ Refused 29 0 = cc in
+        never-29 (ledgerOf b .diary) (ledgerOf b .changes) r 0 z
+
+-- and 30 exactly where the last word is the greatest and the request a change that every other question passes
+pub thirty : (b : List ℕ) → Passes b → (r : Request) → (call b r .reply ≡ told (Refused 30 0))
+    ↔ ((isChange r ≡ true) × ((lastWord b ≡ mostChanges) × ((v : ℕ) × (step (ledgerOf b .diary) r .answer ≡ Done v))))
+thirty b q r =
+    let l : Ledger = ledgerOf b in
+    let s : call b r .reply ≡ told (answerTo l r) = ap (λ (k : Called). k .reply) (shown-call b l (passes-shows b q) (request r)) in
+    let t = thirty-last (l .diary) (l .changes) r in (
+      λ e. (let h = t .0 (same-told (sym s ∙ e)) in (h .0, (sym (count-last b q) ∙ h .1 .0, h .1 .1))),
+      λ h. s ∙ ap told (t .1 (h .0, (count-last b q ∙ h .1 .0, h .1 .1))),
+    )
+
+-- ---- how far the count rises
+
+-- a call raises the count by one or not at all, and by one exactly where it counts as a change
+order-counts : (l : Ledger) (n : ℕ) (r : Request) (o : Option ℕ)
+    → answerOrder l n r o .ledger .changes ≡ l .changes + one (not (isSome o) && isChange r && saysDone (answerOrder l n r o .reply))
+order-counts l n r none = counted-by-one (l .diary) (l .changes) r
+order-counts l n r (some i) = omega arith
+
+pub call-counts : (l : Ledger) (c : Call) → perform l c .ledger .changes ≡ l .changes + one (counts l c)
+unfolding countedParty
+call-counts l (ordered n r) = order-counts l n r (keptAt (l .tail) n)
+call-counts l (party m gs) = go (countedParty (l .diary) (l .changes) m gs .answer) refl
+  where
+    o : Outcome
+    o = admit (l .diary) m gs
+
+    p : Counted
+    p = raise (l .diary) (l .changes) o (o .answer)
+
+    go : (a : Answer) → p .answer ≡ a → p .changes ≡ l .changes + one (isDone (p .answer))
+    go (Done v) e =
+        let n : suc (l .changes) ≡ l .changes + 1 = omega arith in
+        done-raised (l .diary) (l .changes) o (o .answer) v e .changes ∙ n ∙ ap (λ (a : Answer). l .changes + one (isDone a)) (sym e)
+    go (Refused k i) e =
+        let n : l .changes ≡ l .changes + 0 = omega arith in
+        ap (λ (c : Counted). c .changes) (refused-raised (l .diary) (l .changes) o (o .answer) k i e) ∙ n
+        ∙ ap (λ (a : Answer). l .changes + one (isDone a)) (sym e)
+call-counts l (ask r) = omega arith
+call-counts l (commit n r) = go (eqb n (l .changes))
+  where
+    off : (c : Bool) → l .changes ≡ l .changes + one (c && false)
+    off true = omega arith
+    off false = omega arith
+
+    go : (t : Bool) → answerCommit l t r .ledger .changes ≡ l .changes + one (isChange r && saysDone (answerCommit l t r .reply))
+    go true = counted-by-one (l .diary) (l .changes) r
+    go false = off (isChange r)
+
+-- "The count after a list of calls is the count before it and one for each call that counts as a change."
+pub run-counts : (l : Ledger) (cs : List Call) → run l cs .ledger .changes ≡ l .changes + changesIn l cs
+unfolding run
+run-counts l [] = omega arith
+run-counts l (c ∷ cs) = omega (arith, run-counts (perform l c .ledger) cs, call-counts l c)
+
+-- on books that pass, and from a fresh one on: the last word is how many changes there have been
+pub calls-count : (b : List ℕ) → Passes b → (cs : List Call) → lastWord (calls b cs .book) ≡ lastWord b + changesIn (ledgerOf b) cs
+calls-count b q cs =
+    ap (λ (k : Calls). lastWord (k .book)) (shown-calls b (ledgerOf b) (passes-shows b q) cs)
+    ∙ last-changes (run (ledgerOf b) cs .ledger) ∙ run-counts (ledgerOf b) cs
+    ∙ ap (λ (n : ℕ). n + changesIn (ledgerOf b) cs) (count-last b q)
+
+pub fresh-count : (S : Settings) → validSettings S ≡ true → (cs : List Call) → lastWord (calls (freshBook S) cs .book) ≡ changesIn (emptyLedger S) cs
+unfolding emptyLedger
+fresh-count S e cs =
+    let l : Ledger = emptyLedger S in
+    let n : 0 + changesIn l cs ≡ changesIn l cs = omega arith in
+    ap (λ (k : Calls). lastWord (k .book)) (shown-calls (freshBook S) l (fresh-shows S e) cs)
+    ∙ last-changes (run l cs .ledger) ∙ run-counts l cs ∙ n
