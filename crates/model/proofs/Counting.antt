@@ -1,12 +1,12 @@
 -- The change count (section 19): what raises it, what question 30 refuses, and that what is counted is otherwise the step or the party.
 -- Assumes nothing.
-use Prim.Native.Nat.{ℕ, suc, _≤_, _<_}
-use mathlib.Core.Path.{_≡_, refl, sym, _∙_, ap}
-use mathlib.Core.Bool.{Bool, true, false, cond, false≢true}
+use Prim.Native.Nat.{ℕ, suc, _<_}
+use mathlib.Core.Path.{_≡_, refl, _∙_, ap}
+use mathlib.Core.Bool.{Bool, true, false, cond}
 use mathlib.Core.List.{List}
 use native.Mathlib.Omega.{arith}
 use lib.Dec.{eqb}
-use borrow.Author.Tests.{eq-eqb, ne-eqb}
+use borrow.Author.Tests.{ne-eqb}
 use Rattle.model.specs.declared.Request.{Request}
 use Rattle.model.specs.declared.Guest.{Guest}
 use Rattle.model.specs.declared.Answer.{Answer}
@@ -20,7 +20,7 @@ use Rattle.model.proofs.Told.{Tellable, done-tellable, refused-tellable
 abbrev pub answerTo : Ledger → Request → Answer
 answerTo l r = countedStep (l .diary) (l .changes) r .answer
 
-refused-done : {k p v : ℕ} → Refused k p ≡ Done v → ⊥
+pub refused-done : {k p v : ℕ} → Refused k p ≡ Done v → ⊥
 refused-done e = let z : _≡_ {A = ℕ} 0 1 = cc in omega arith
 
 -- a diary after what is counted is the one before or the outcome's: what holds of both holds of it
@@ -105,36 +105,15 @@ pub counted-full : (x : State) (r : Request) (v : ℕ) → isChange r ≡ true �
 unfolding countedStep raise
 counted-full x r v c e = rw (c, e)
 
--- what is done, counted, is done by the step or the party; the diary is the one it leaves, and the count one more, which it could be
-pub record Risen (x : State) (n : ℕ) (o : Outcome) (a : Answer) (v : ℕ) : Type 0 where
-  pub done : a ≡ Done v
-  pub state : raise x n o a .state ≡ o .state
-  pub changes : raise x n o a .changes ≡ suc n
-  pub room : n ≡ mostChanges → ⊥
-
-pub done-raised : (x : State) (n : ℕ) (o : Outcome) (a : Answer) (v : ℕ) → raise x n o a .answer ≡ Done v → Risen x n o a v
+-- what is done, counted, is done by the step, and the diary is the step's
+done-raised : (x : State) (n : ℕ) (o : Outcome) (a : Answer) (v : ℕ) → raise x n o a .answer ≡ Done v → (a ≡ Done v) × (raise x n o a .state ≡ o .state)
 unfolding raise
 done-raised x n o (Done w) v e = go (eqb n mostChanges) refl e
   where
-    go : (t : Bool) → eqb n mostChanges ≡ t → raise x n o (Done w) .answer ≡ Done v → Risen x n o (Done w) v
+    go : (t : Bool) → eqb n mostChanges ≡ t → raise x n o (Done w) .answer ≡ Done v → (Done w ≡ Done v) × (raise x n o (Done w) .state ≡ o .state)
     go true q e = absurd (let z : Refused 30 0 ≡ Done v = rw q at e in refused-done z)
-    go false q e =
-        record { done = rw q at e; state = rw q; changes = rw q; room = λ z. false≢true (sym q ∙ eq-eqb n mostChanges z) }
+    go false q e = (rw q at e, rw q)
 done-raised x n o (Refused k p) v e = absurd (refused-done e)
-
--- what is refused, counted, leaves diary and count
-pub refused-raised : (x : State) (n : ℕ) (o : Outcome) (a : Answer) (k p : ℕ) → raise x n o a .answer ≡ Refused k p
-    → raise x n o a ≡ record { answer = Refused k p; state = x; changes = n }
-unfolding raise
-refused-raised x n o (Done w) k p e = go (eqb n mostChanges) refl e
-  where
-    go : (t : Bool) → eqb n mostChanges ≡ t → raise x n o (Done w) .answer ≡ Refused k p
-        → raise x n o (Done w) ≡ record { answer = Refused k p; state = x; changes = n }
-    go true q e =
-        let z : Refused 30 0 ≡ Refused k p = rw q at e in
-        rw q (ap (λ (a : Answer). record { answer = a; state = x; changes = n }) z)
-    go false q e = absurd (let z : Done w ≡ Refused k p = rw q at e in refused-done (sym z))
-refused-raised x n o (Refused j i) k p e = ap (λ (a : Answer). record { answer = a; state = x; changes = n }) e
 
 pub done-counted : (x : State) (n : ℕ) (r : Request) (v : ℕ) → countedStep x n r .answer ≡ Done v
     → (step x r .answer ≡ Done v) × (countedStep x n r .state ≡ step x r .state)
@@ -144,5 +123,5 @@ done-counted x n r v e = go (isChange r) refl e
     go : (t : Bool) → isChange r ≡ t → countedStep x n r .answer ≡ Done v → (step x r .answer ≡ Done v) × (countedStep x n r .state ≡ step x r .state)
     go true q e =
         let h = done-raised x n (step x r) (step x r .answer) v (rw q at e) in
-        (h .done, rw q (h .state))
+        (h .0, rw q (h .1))
     go false q e = (rw q at e, rw q)

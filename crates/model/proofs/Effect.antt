@@ -1,7 +1,7 @@
 -- What a request does to a diary with a change count: it leaves both, or it is a change that is done and raises the count by one. From
 -- this: sending again, two requests exchanged, and lists whose requests are all done.
 -- Assumes nothing.
-use Prim.Native.Nat.{ℕ, zero, suc, _+_, _-_, _≤_, _<_}
+use Prim.Native.Nat.{ℕ, zero, suc, _+_, _-_, _≤_}
 use mathlib.Core.Path.{_≡_, refl, sym, _∙_, ap, ap₂, subst}
 use mathlib.Core.Bool.{Bool, true, false, _&&_, false≢true}
 use mathlib.Core.Option.{Option, none, some}
@@ -19,11 +19,11 @@ use Rattle.model.specs.Bounded.{within, every, one}
 use Rattle.model.specs.State.{State}
 use Rattle.model.specs.Kinds.{Kind, kinds, kindOf, Kind.whichMeeting, Kind.countLeave, Kind.seatsLeft, Kind.freeRoom}
 use Rattle.model.specs.Questions.{Refusal, judge, always, further}
-use Rattle.model.specs.Machine.{change, finish, stepKind, step, steps, mostChanges, isChange, Counted, raise, countedStep}
+use Rattle.model.specs.Machine.{change, finish, stepKind, step, Outcome, steps, mostChanges, isChange, Counted, raise, countedStep}
 use Rattle.model.specs.Seen.{isDone}
 use Rattle.model.proofs.Search.{never, both, and-true, and-left, and-right}
 use Rattle.model.proofs.Frame.{Group, stays, removal, meetings, queries, group, step-settings}
-use Rattle.model.proofs.Counting.{counted-state, uncounted, counted-refused, counted-full}
+use Rattle.model.proofs.Counting.{refused-done, counted-state, uncounted, counted-refused, counted-full}
 use Rattle.model.proofs.Runs.{CountedSteps, countedSteps}
 use Rattle.model.proofs.Done.{refused-keeps}
 use Rattle.model.proofs.Repeat.{repeat-state}
@@ -62,6 +62,39 @@ module _ (x : State) (r : Request) where
           ap (λ (m : ℕ). stepKind x r (getD kinds m none) .state) (sym (past-changes n e))
           ∙ ap (λ (o : Option Kind). stepKind x r o .state) (sym (getD-drop 17 kinds (suc n - 17) none))
           ∙ only-asks (suc n - 17)
+
+-- ---- what is counted, by its answer
+
+-- what is done, counted, is done by the step or the party; the diary is the one it leaves, and the count one more, which it could be
+pub record Risen (x : State) (n : ℕ) (o : Outcome) (a : Answer) (v : ℕ) : Type 0 where
+  pub done : a ≡ Done v
+  pub state : raise x n o a .state ≡ o .state
+  pub changes : raise x n o a .changes ≡ suc n
+  pub room : n ≡ mostChanges → ⊥
+
+pub risen : (x : State) (n : ℕ) (o : Outcome) (a : Answer) (v : ℕ) → raise x n o a .answer ≡ Done v → Risen x n o a v
+unfolding raise
+risen x n o (Done w) v e = go (eqb n mostChanges) refl e
+  where
+    go : (t : Bool) → eqb n mostChanges ≡ t → raise x n o (Done w) .answer ≡ Done v → Risen x n o (Done w) v
+    go true q e = absurd (let z : Refused 30 0 ≡ Done v = rw q at e in refused-done z)
+    go false q e =
+        record { done = rw q at e; state = rw q; changes = rw q; room = λ z. false≢true (sym q ∙ eq-eqb n mostChanges z) }
+risen x n o (Refused k p) v e = absurd (refused-done e)
+
+-- what is refused, counted, leaves diary and count
+pub refused-raised : (x : State) (n : ℕ) (o : Outcome) (a : Answer) (k p : ℕ) → raise x n o a .answer ≡ Refused k p
+    → raise x n o a ≡ record { answer = Refused k p; state = x; changes = n }
+unfolding raise
+refused-raised x n o (Done w) k p e = go (eqb n mostChanges) refl e
+  where
+    go : (t : Bool) → eqb n mostChanges ≡ t → raise x n o (Done w) .answer ≡ Refused k p
+        → raise x n o (Done w) ≡ record { answer = Refused k p; state = x; changes = n }
+    go true q e =
+        let z : Refused 30 0 ≡ Refused k p = rw q at e in
+        rw q (ap (λ (a : Answer). record { answer = a; state = x; changes = n }) z)
+    go false q e = absurd (let z : Done w ≡ Refused k p = rw q at e in refused-done (sym z))
+refused-raised x n o (Refused j i) k p e = ap (λ (a : Answer). record { answer = a; state = x; changes = n }) e
 
 -- ---- what a request does
 

@@ -1,7 +1,7 @@
 -- The change count is the last word of a book, and any count is lawful: a book with another last word passes questions 1 and 2 as before,
 -- and shows the same diary and the same tail.
 -- Assumes nothing.
-use Prim.Native.Nat.{ℕ, suc, _+_, _-_}
+use Prim.Native.Nat.{ℕ, _+_, _-_}
 use mathlib.Core.Path.{_≡_, refl, sym, _∙_, ap}
 use mathlib.Core.Logic.{_↔_}
 use mathlib.Core.List.{List, [], _∷_, _++_, append-assoc}
@@ -12,7 +12,7 @@ use Rattle.model.specs.Words.{words}
 use Rattle.model.specs.Tail.{tailWords}
 use Rattle.model.specs.Ledger.{Ledger, behindWords, bookWords, ledgerOf}
 use Rattle.model.specs.Seen.{lastWord, withLast, lastRaised, withChanges, raised}
-use Rattle.model.proofs.Shows.{Shows, Passes, passes-shows, shows-passes, shown-is}
+use Rattle.model.proofs.Shows.{Shows, Passes, passes-shows, shows-passes}
 
 -- the words of a ledger, the count last
 module _ (l : Ledger) where

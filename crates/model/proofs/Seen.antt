@@ -4,13 +4,12 @@
 use Prim.Native.Nat.{ℕ, zero, suc, _+_, _≤_, _<_}
 use mathlib.Core.Path.{_≡_, refl, sym, _∙_, ap, ap₂}
 use mathlib.Core.Logic.{_↔_, _⊎_, inl, inr}
-use mathlib.Core.Bool.{Bool, true, false, not, _&&_, cond, false≢true}
+use mathlib.Core.Bool.{Bool, true, false, not, _&&_, false≢true}
 use mathlib.Core.Option.{Option, none, some}
-use mathlib.Core.List.{List, [], _∷_, _++_, map}
+use mathlib.Core.List.{List, [], _∷_}
 use native.Mathlib.Nat.{le-refl, le-trans}
 use native.Mathlib.Omega.{arith}
 use lib.Dec.{leb, eqb}
-use lib.ListN.{length}
 use borrow.Author.Tests.{eqb-true, eq-eqb, ne-eqb, leb-true, leb-false}
 use Rattle.model.specs.declared.Settings.{Settings}
 use Rattle.model.specs.declared.Request.{Request}
@@ -20,16 +19,21 @@ use Rattle.model.specs.declared.Answer.the-variants.{Done, Refused}
 use Rattle.model.specs.Bounded.{isSome, one}
 use Rattle.model.specs.Site.{validSettings}
 use Rattle.model.specs.State.{State}
-use Rattle.model.specs.Tail.{keptAt, noted}
-use Rattle.model.specs.Ledger.{Ledger, emptyLedger, bookWords, ledgerOf}
+use Rattle.model.specs.Tail.{keptAt}
+use Rattle.model.specs.Ledger.{Ledger, emptyLedger, ledgerOf}
 use Rattle.model.specs.Laws.{wellLaid, lawful}
-use Rattle.model.specs.Machine.{Outcome, step, partyFits, admit, Counted, mostChanges, raise, isChange, countedStep, countedParty}
-use Rattle.model.specs.Machine.{Call, ordered, request, party, ask, commit, Reply, told, asked, Performed, answerOrder, answerCommit, perform, Run, run}
-use Rattle.model.specs.Calls.{Called, called, refusing, gate, callOn, call, callParty, callAsk, callCommit, Calls, calls, freshBook}
+use Rattle.model.specs.Machine.{Outcome, step, joining, partyFits, admit, Counted, mostChanges, raise, isChange, countedStep, countedParty}
+use Rattle.model.specs.Machine.{Call, ordered, request, party, ask, commit, told, asked, Performed, answerOrder, answerCommit, perform, run}
+use Rattle.model.specs.Calls.{Called, called, refusing, callOn, call, callAsk, callCommit, Calls, calls, freshBook}
+use Rattle.model.specs.Page.{page}
 use Rattle.model.specs.Seen.{lastWord, nth, ledgerAt, isDone, saysDone, counts, changesIn}
-use Rattle.model.proofs.Told.{refused-most}
-use Rattle.model.proofs.Counting.{answerTo, counted-refused, done-raised, refused-raised}
-use Rattle.model.proofs.Effect.{Effect, onlyAsks, isRefused, isFull, raises, effect, only-asked, full, raised-by, counted-by-one}
+use Rattle.model.proofs.Told.{same-told, refused-most}
+use Rattle.model.proofs.Counting.{answerTo, counted-refused}
+use Rattle.model.proofs.Effect.{Effect, onlyAsks, isRefused, isFull, raises, effect, only-asked, full, raised-by, counted-by-one, risen}
+use Rattle.model.proofs.Effect.{refused-raised}
+use Rattle.model.proofs.Locality.{onDate}
+use Rattle.model.proofs.Page.{other-date-book}
+use Rattle.model.proofs.Party.{admit-unfit, party-refused}
 use Rattle.model.proofs.Raised.{last-changes, count-last}
 use Rattle.model.proofs.Shows.{Shows, Passes, passes-shows, shown-call, shown-calls, fresh-shows}
 
@@ -84,7 +88,7 @@ party-later x n m gs = go (countedParty x n m gs .answer) refl
 
     go : (a : Answer) → raise x n o (o .answer) .answer ≡ a
         → ((raise x n o (o .answer) .state ≡ x) × (raise x n o (o .answer) .changes ≡ n)) ⊎ (raise x n o (o .answer) .changes ≡ suc n)
-    go (Done v) e = inr (done-raised x n o (o .answer) v e .changes)
+    go (Done v) e = inr (risen x n o (o .answer) v e .changes)
     go (Refused k p) e =
         let h = refused-raised x n o (o .answer) k p e in
         inl (ap (λ (c : Counted). c .state) h, ap (λ (c : Counted). c .changes) h)
@@ -144,9 +148,6 @@ reply-at l (d ∷ cs) zero c e =
     let q : d ≡ c = cc in
     ap (λ (d : Call). some (perform l d .reply)) q
 reply-at l (d ∷ cs) (suc i) c e = reply-at (perform l d .ledger) cs i c e
-
-same-told : {a a′ : Answer} → told a ≡ told a′ → a ≡ a′
-same-told e = cc
 
 -- a commit that 29 does not refuse names the count of the ledger, and gets the answer of the request
 pub not-refused : (l : Ledger) (n : ℕ) (r : Request) (a : Answer) → perform l (commit n r) .reply ≡ told a → (a ≡ Refused 29 0 → ⊥)
@@ -313,6 +314,30 @@ commit-ringless l n r = go (eqb n (l .changes))
     go true = refl
     go false = refl
 
+-- a commit leaves the book that the request leaves, or the book as it was; so on other dates it leaves the page as it is
+pub commit-book : (b : List ℕ) (n : ℕ) (r : Request) → (callCommit b n r .book ≡ call b r .book) ⊎ (callCommit b n r .book ≡ b)
+commit-book b n r = go (fit-or-not b)
+  where
+    at : Passes b → (t : Bool) → eqb n (ledgerOf b .changes) ≡ t → (callCommit b n r .book ≡ call b r .book) ⊎ (callCommit b n r .book ≡ b)
+    at q true e =
+        let m : n ≡ lastWord b = eqb-true n (ledgerOf b .changes) e ∙ count-last b q in
+        inl (ap (λ (k : ℕ). callCommit b k r .book) m ∙ ap (λ (k : Called). k .book) (commit-is-request b r))
+    at q false e =
+        inr (ap (λ (k : Called). k .book)
+        (commit-refused b q n r (λ m. false≢true (sym e ∙ eq-eqb n (ledgerOf b .changes) (m ∙ sym (count-last b q))))))
+
+    go : Passes b ⊎ Unfit b → (callCommit b n r .book ≡ call b r .book) ⊎ (callCommit b n r .book ≡ b)
+    go (inl q) = at q (eqb n (ledgerOf b .changes)) refl
+    go (inr u) = inr (ap (λ (k : Called). k .book) (u .refused (commit n r)))
+
+pub other-date-commit : (b : List ℕ) (n : ℕ) (r : Request) (d : ℕ) → onDate (ledgerOf b .diary .settings) r d ≡ false → (p : List ℕ)
+    → page (callCommit b n r .book) d p ≡ page b d p
+other-date-commit b n r d h p = go (commit-book b n r)
+  where
+    go : (callCommit b n r .book ≡ call b r .book) ⊎ (callCommit b n r .book ≡ b) → page (callCommit b n r .book) d p ≡ page b d p
+    go (inl e) = ap (λ (w : List ℕ). page w d p) e ∙ other-date-book b r d h p
+    go (inr e) = ap (λ (w : List ℕ). page w d p) e
+
 -- ---- which refusals are 29 and 30
 
 module _ (x : State) (n : ℕ) (r : Request) where
@@ -352,6 +377,47 @@ module _ (x : State) (n : ℕ) (r : Request) where
       go (raises v c f h) =
           let z : Done v ≡ Refused 29 p = sym (ap (λ (o : Counted). o .answer) (raised-by x n r v c f h)) ∙ e in
           let w : _≡_ {A = ℕ} 0 1 = cc in omega arith
+
+-- of a party 30 is asked once, behind all its guests
+pub party-thirty : (x : State) (n m : ℕ) (gs : List Guest)
+    → (countedParty x n m gs .answer ≡ Refused 30 0) ↔ ((n ≡ mostChanges) × ((v : ℕ) × (admit x m gs .answer ≡ Done v)))
+unfolding countedParty raise
+party-thirty x n m gs = (to (admit x m gs .answer) refl, λ h. rw (h .1 .1, eq-eqb n mostChanges (h .0)))
+  where
+    o : Outcome
+    o = admit x m gs
+
+    -- no guest is refused by 30, and no party for its size
+    other : (p : ℕ) → admit x m gs .answer ≡ Refused 30 p → ⊥
+    other p e = go (partyFits gs) refl
+      where
+        go : (f : Bool) → partyFits gs ≡ f → ⊥
+        go true f =
+            let out = party-refused x m gs f 30 p e in
+            let h : 30 < 23 = refused-most (out .reached) (joining m (out .guest)) 30 p (out .refused) in
+            omega (arith, h)
+        go false f =
+            let z : Refused 27 0 ≡ Refused 30 p = sym (ap (λ (o : Outcome). o .answer) (admit-unfit x m gs f)) ∙ e in
+            let w : _≡_ {A = ℕ} 27 30 = cc in omega (arith, w)
+
+    to : (a : Answer) → admit x m gs .answer ≡ a → raise x n o (o .answer) .answer ≡ Refused 30 0
+        → (n ≡ mostChanges) × ((v : ℕ) × (admit x m gs .answer ≡ Done v))
+    to (Refused k p) e h =
+        absurd (let z : Refused k p ≡ Refused 30 0 = sym (ap (λ (a : Answer). raise x n o a .answer) e) ∙ h in
+        other 0 (e ∙ z))
+    to (Done v) e h = (full-by (eqb n mostChanges) refl, (v, e))
+      where
+        full-by : (t : Bool) → eqb n mostChanges ≡ t → n ≡ mostChanges
+        full-by true q = eqb-true n mostChanges q
+        full-by false q =
+            absurd (let z : Done v ≡ Refused 30 0 = sym (ap (λ (o : Counted). o .answer) (raise-free v q)) ∙ h′ in
+            let w : _≡_ {A = ℕ} 0 1 = cc in omega arith)
+          where
+            h′ : raise x n o (Done v) .answer ≡ Refused 30 0
+            h′ = sym (ap (λ (a : Answer). raise x n o a .answer) e) ∙ h
+
+            raise-free : (v : ℕ) → eqb n mostChanges ≡ false → raise x n o (Done v) ≡ record { answer = Done v; state = o .state; changes = suc n }
+            raise-free v q = rw q
 
 -- on a book that passes: 29 exactly where the count that is named is not the last word
 pub twenty-nine : (b : List ℕ) → Passes b → (n : ℕ) (r : Request) → (callCommit b n r .reply ≡ told (Refused 29 0)) ↔ (n ≡ lastWord b → ⊥)
@@ -399,7 +465,7 @@ call-counts l (party m gs) = go (countedParty (l .diary) (l .changes) m gs .answ
     go : (a : Answer) → p .answer ≡ a → p .changes ≡ l .changes + one (isDone (p .answer))
     go (Done v) e =
         let n : suc (l .changes) ≡ l .changes + 1 = omega arith in
-        done-raised (l .diary) (l .changes) o (o .answer) v e .changes ∙ n ∙ ap (λ (a : Answer). l .changes + one (isDone a)) (sym e)
+        risen (l .diary) (l .changes) o (o .answer) v e .changes ∙ n ∙ ap (λ (a : Answer). l .changes + one (isDone a)) (sym e)
     go (Refused k i) e =
         let n : l .changes ≡ l .changes + 0 = omega arith in
         ap (λ (c : Counted). c .changes) (refused-raised (l .diary) (l .changes) o (o .answer) k i e) ∙ n

@@ -17,7 +17,7 @@ use Rattle.model.specs.Kinds.{Kind, kindOf}
 use Rattle.model.specs.Questions.{Question, number, always, further, ask, judge, refusal, Refusal}
 use Rattle.model.specs.Messages.{answerWords, toldBy}
 use Rattle.model.specs.Tail.{entryAt, keptAt}
-use Rattle.model.specs.Machine.{step, stepKind, finish, countedStep, ordered, keptAnswer, answerOrder, perform, replyWords}
+use Rattle.model.specs.Machine.{step, stepKind, finish, countedStep, ordered, keptAnswer, answerOrder, perform, told, replyWords}
 use Rattle.model.specs.Ledger.{Ledger}
 use Rattle.model.proofs.Search.{never}
 
@@ -50,6 +50,10 @@ reply-long l n r = go (keptAt (l .tail) n)
     go : (o : Option ℕ) → length (replyWords (answerOrder l n r o .reply)) ≡ 3
     go none = answer-long (countedStep (l .diary) (l .changes) r .answer)
     go (some i) = answer-long (keptAnswer (entryAt (l .tail) i) r)
+
+-- replies that tell the same tell the same answer
+pub same-told : {a a′ : Answer} → told a ≡ told a′ → a ≡ a′
+same-told e = cc
 
 -- what three words tell can be told, and is told by them
 pub told-tellable : (n p v : ℕ) → Tellable (toldBy n p v)
