@@ -74,13 +74,16 @@ unfolding run countedStep raise step change value kindOf ask test emptyLedger em
     bookWords behindWords tailWords ringWords emptyTail words settingsWords region word size
 two-offices-count = refl
 
--- calls of every sort: an order that is new counts and one that is kept does not, a party counts once, a query, a refusal, asking and a
--- commit at another count do not count, and 29 comes before 3
+-- calls of every sort: an order that is new counts if it is done, and one that is kept does not; asking does not look at what is kept; a
+-- party counts once; a query, a refusal and a commit at another count do not count; 29 comes before 3; a removal of nobody counts
 abbrev sorts : List Call
 sorts =
-    ordered 7 (row 1 0 1 0 1 0 0)
-    ∷ ordered 7 (row 1 0 1 0 1 0 0)
-    ∷ ordered 7 (row 1 0 2 1 1 0 0)
+    ordered 7 (row 4 0 1 0 1 0 0)
+    ∷ ordered 8 (row 1 0 1 0 1 0 0)
+    ∷ ordered 8 (row 1 0 1 0 1 0 0)
+    ∷ ordered 7 (row 4 0 1 0 1 0 0)
+    ∷ Call.ask (row 4 0 1 0 1 0 0)
+    ∷ ordered 8 (row 1 0 2 1 1 0 0)
     ∷ send 1 0 2 1 1 0 0
     ∷ send 8 0 0 1 2 0 0
     ∷ party 0 (guest 1 1 2 ∷ guest 2 2 2 ∷ [])
@@ -94,11 +97,16 @@ sorts =
     ∷ commit 5 (row 21 0 0 0 0 0 0)
     ∷ commit 6 (row 21 0 0 0 0 0 0)
     ∷ send 3 0 1 0 1 0 0
+    ∷ send 12 0 0 1 1 0 9
+    ∷ send 16 0 0 1 1 0 0
     ∷ []
 
 pub every-sort : run (emptyLedger site) sorts .replies
-    ≡ told (Done 0)
+    ≡ told (Refused 9 0)
     ∷ told (Done 0)
+    ∷ told (Done 0)
+    ∷ told (Refused 9 0)
+    ∷ asked (Done 0) 1
     ∷ told (Refused 28 0)
     ∷ told (Done 0)
     ∷ told (Done 0)
@@ -113,22 +121,24 @@ pub every-sort : run (emptyLedger site) sorts .replies
     ∷ told (Refused 29 0)
     ∷ told (Refused 3 0)
     ∷ told (Done 0)
+    ∷ told (Done 0)
+    ∷ told (Done 0)
     ∷ []
 unfolding run countedStep countedParty raise admit joined step change value kindOf ask test emptyLedger emptyState reserved bookings standsOn confHeld
     lunchHeld meetingOf lowestFree keep emptyTail sameRequest
 every-sort = refl
 
 pub every-sort-counts : countsAfter (emptyLedger site) sorts
-    ≡ 1 ∷ 1 ∷ 1 ∷ 2 ∷ 3 ∷ 4 ∷ 4 ∷ 4 ∷ 4 ∷ 4 ∷ 5 ∷ 5 ∷ 6 ∷ 6 ∷ 6 ∷ 7 ∷ []
+    ≡ 0 ∷ 1 ∷ 1 ∷ 1 ∷ 1 ∷ 1 ∷ 2 ∷ 3 ∷ 4 ∷ 4 ∷ 4 ∷ 4 ∷ 4 ∷ 5 ∷ 5 ∷ 6 ∷ 6 ∷ 6 ∷ 7 ∷ 8 ∷ 9 ∷ []
 unfolding run countedStep countedParty raise admit joined step change value kindOf ask test emptyLedger emptyState reserved bookings standsOn confHeld
     lunchHeld meetingOf lowestFree keep emptyTail sameRequest
 every-sort-counts = refl
 
--- After the first five of them, with the count right before the greatest: one change more is done, and from then on 30 refuses what would
+-- After the first eight of them, with the count right before the greatest: one change more is done, and from then on 30 refuses what would
 -- be done as a change, with an order or without, committed or as a party. What another question refuses is refused by that, what only asks
 -- is answered, and an order that is kept is told its answer.
 abbrev nearlyFull : Ledger
-nearlyFull = withChanges (run (emptyLedger site) (take 5 sorts) .ledger) 4294967294
+nearlyFull = withChanges (run (emptyLedger site) (take 8 sorts) .ledger) 4294967294
 
 abbrev last : List Call
 last =
@@ -137,9 +147,9 @@ last =
     ∷ send 1 0 1 0 1 0 0
     ∷ send 15 0 0 0 0 0 0
     ∷ send 18 0 0 0 0 0 0
-    ∷ ordered 7 (row 1 0 1 0 1 0 0)
-    ∷ ordered 8 (row 3 0 1 0 1 0 0)
-    ∷ ordered 8 (row 3 0 1 0 1 0 0)
+    ∷ ordered 8 (row 1 0 1 0 1 0 0)
+    ∷ ordered 9 (row 3 0 1 0 1 0 0)
+    ∷ ordered 9 (row 3 0 1 0 1 0 0)
     ∷ party 0 (guest 1 1 2 ∷ guest 2 2 2 ∷ [])
     ∷ party 0 (guest 1 1 2 ∷ guest 2 3 3 ∷ [])
     ∷ Call.ask (row 3 0 1 0 1 0 0)

@@ -24,7 +24,7 @@ module _ (l : Ledger) where
   count-behind = sym (append-assoc (words (l .diary)) (tailWords (l .tail)) (l .changes ∷ []))
 
   last-place : length (bookWords l) - 1 ≡ length front
-  last-place = 
+  last-place =
       let e : length (bookWords l) ≡ length front + 1 = ap length count-behind ∙ length-append front (l .changes ∷ []) in
       omega (arith, e)
 

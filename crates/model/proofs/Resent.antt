@@ -488,7 +488,8 @@ pub record ResentWords (ss : List Sending) (n : ℕ) (all-listed once-listed : L
   pub book : all-listed .book ≡ once-listed .book
   pub answers : onceAnswered ss (all-listed .answers) ≡ take (3 * n) (once-listed .answers)
 
-resent-listed : (l : Ledger) (ss : List Sending) → WhileKept l ss → AllOrders (allSent ss) → AllOrders (onceSent ss) → (m n : ℕ) → length (onceSent ss) ≡ n → (a c : List ℕ)
+resent-listed : (l : Ledger) (ss : List Sending) → WhileKept l ss → AllOrders (allSent ss) → AllOrders (onceSent ss) → (m n : ℕ)
+    → length (onceSent ss) ≡ n → (a c : List ℕ)
     → ResentWords ss n (listed m a (shownBy (run l (allSent ss)))) (listed n c (shownBy (run l (onceSent ss))))
 resent-listed l ss k all-o once-o m n e a c =
     let r = resent l ss k in
@@ -496,8 +497,10 @@ resent-listed l ss k all-o once-o m n e a c =
     record {
       book = ap bookWords (r .0);
       answers =
-          words-once ss (run l (allSent ss) .replies) (all-told l (allSent ss) all-o) (run-long l (allSent ss) ∙ sent-long ss) (drop (3 * m) a) ∙ ap repliesWords (r .1)
-          ∙ sym (take-at (repliesWords rs) (drop (3 * n) c) (3 * n) (omega (arith, replies-long rs (all-told l (onceSent ss) once-o), run-long l (onceSent ss), e)));
+          words-once ss (run l (allSent ss) .replies) (all-told l (allSent ss) all-o) (run-long l (allSent ss) ∙ sent-long ss) (drop (3 * m) a)
+          ∙ ap repliesWords (r .1)
+          ∙ sym (take-at (repliesWords rs) (drop (3 * n) c) (3 * n)
+          (omega (arith, replies-long rs (all-told l (onceSent ss) once-o), run-long l (onceSent ss), e)));
     }
 
 -- on a book that passes questions 1 and 2, and on a book laid anew
