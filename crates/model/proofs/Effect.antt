@@ -65,12 +65,11 @@ module _ (x : State) (r : Request) where
 
 -- ---- what is counted, by its answer
 
--- what is done, counted, is done by the step or the party; the diary is the one it leaves, and the count one more, which it could be
+-- what is done, counted, is done by the step or the party; the diary is the one that it leaves, and the count one more
 pub record Risen (x : State) (n : ℕ) (o : Outcome) (a : Answer) (v : ℕ) : Type 0 where
   pub done : a ≡ Done v
   pub state : raise x n o a .state ≡ o .state
   pub changes : raise x n o a .changes ≡ suc n
-  pub room : n ≡ mostChanges → ⊥
 
 pub risen : (x : State) (n : ℕ) (o : Outcome) (a : Answer) (v : ℕ) → raise x n o a .answer ≡ Done v → Risen x n o a v
 unfolding raise
@@ -78,8 +77,7 @@ risen x n o (Done w) v e = go (eqb n mostChanges) refl e
   where
     go : (t : Bool) → eqb n mostChanges ≡ t → raise x n o (Done w) .answer ≡ Done v → Risen x n o (Done w) v
     go true q e = absurd (let z : Refused 30 0 ≡ Done v = rw q at e in refused-done z)
-    go false q e =
-        record { done = rw q at e; state = rw q; changes = rw q; room = λ z. false≢true (sym q ∙ eq-eqb n mostChanges z) }
+    go false q e = record { done = rw q at e; state = rw q; changes = rw q }
 risen x n o (Refused k p) v e = absurd (refused-done e)
 
 -- what is refused, counted, leaves diary and count
@@ -98,7 +96,7 @@ refused-raised x n o (Refused j i) k p e = ap (λ (a : Answer). record { answer 
 
 -- ---- what a request does
 
--- It only asks; it is refused; it would be done, but the count is the greatest; or it is done.
+-- It is of a kind that only asks, or of none; it is refused; it would be done, but the count is the greatest; or it is done and raises it.
 pub data Effect (x : State) (n : ℕ) (r : Request) : Type 0 where
   onlyAsks : isChange r ≡ false → Effect x n r
   isRefused : (k p : ℕ) → isChange r ≡ true → step x r .answer ≡ Refused k p → Effect x n r
