@@ -248,7 +248,7 @@ module _ (l : Ledger) (s : LedgerSound l) where
 
   pub lawful-words : lawful (bookWords l) ≡ true
   unfolding lawful
-  lawful-words = 
+  lawful-words =
       rw (book-diary, book-behind, tail-in-words (l .tail) (s .tail) (l .changes))
       (and-true (diary-lawful (l .diary) (s .diary)) (tail-kept (l .tail) (s .tail)))
 
