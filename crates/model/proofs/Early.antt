@@ -14,7 +14,7 @@ use Rattle.model.specs.Site.{dateOfTime}
 use Rattle.model.specs.State.{State, emptyState, reserved}
 use Rattle.model.specs.Kinds.{kindOf}
 use Rattle.model.specs.Questions.{bookings, standsOn, ask, test}
-use Rattle.model.specs.Machine.{withLeave, withRide, change, value, step, Call, told, run}
+use Rattle.model.specs.Machine.{withLeave, withRide, change, value, step, raise, countedStep, Call, told, run}
 use Rattle.model.specs.Ledger.{emptyLedger}
 use Rattle.model.specs.Laws.{laws}
 use Rattle.model.proofs.Rehearsal.{send}
@@ -65,7 +65,7 @@ answers =
     ∷ []
 
 pub early-rides : run (emptyLedger site) requests .replies ≡ map told answers
-unfolding run step change value kindOf ask test emptyLedger emptyState reserved bookings standsOn
+unfolding run countedStep raise step change value kindOf ask test emptyLedger emptyState reserved bookings standsOn
 early-rides = refl
 
 -- the law of rides: a ride at 4 is kept by leave on date 0 and broken by leave on date 1 alone

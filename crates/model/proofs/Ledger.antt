@@ -1,22 +1,22 @@
--- A whole book and its two parts: what questions 1 and 2 say of the book they say of its diary and of its tail, and the book's words
--- and the ledger that it shows are read from each other.
+-- A whole book and its parts: what questions 1 and 2 say of the book they say of its diary and of its tail, and the book's words and the
+-- ledger that it shows are read from each other.
 -- Assumes nothing.
-use Prim.Native.Nat.{ℕ, _+_, _-_, _≤_, _<_}
+use Prim.Native.Nat.{ℕ, suc, _+_, _-_, _≤_, _<_}
 use mathlib.Core.Path.{_≡_, refl, sym, _∙_, ap, ap₂}
 use mathlib.Core.Bool.{Bool, true, false, _&&_, cond}
-use mathlib.Core.List.{List, _++_}
+use mathlib.Core.List.{List, [], _∷_, _++_}
 use native.Mathlib.Omega.{arith}
 use lib.Dec.{leb, ltb, eqb}
 use lib.ListN.{length, getD, take, drop, length-append, length-take, length-drop, take-append-drop, List·getD-append}
-use lib.Seq.{getD-take, take-all, take-at, drop-at}
+use lib.Seq.{getD-take, getD-at, take-all, take-at, take-suc, drop-at, length-take-le}
 use borrow.Author.Tests.{ltb-true, le-leb, eqb-true, eq-eqb}
 use Rattle.model.specs.declared.Settings.{Settings}
 use Rattle.model.specs.Bounded.{list}
 use Rattle.model.specs.Site.{validSettings, fixedWords, settingsLength}
 use Rattle.model.specs.Words.{diaryLength, words}
 use Rattle.model.specs.Reading.{settingsOf, stateOf}
-use Rattle.model.specs.Tail.{tailLength, tailWords, tailOf, tailKept}
-use Rattle.model.specs.Ledger.{Ledger, bookLength, bookWords, diaryOf, behindOf, ledgerOf}
+use Rattle.model.specs.Tail.{Tail, tailLength, tailWords, tailOf, tailKept}
+use Rattle.model.specs.Ledger.{Ledger, behindLength, behindWords, bookLength, bookWords, diaryOf, behindOf, tailIn, countIn, ledgerOf}
 use Rattle.model.specs.Laws.{wellLaid, diaryLaid, lawful, diaryLawful}
 use Rattle.model.proofs.Search.{and-left, and-right, and-true}
 use Rattle.model.proofs.Laws.{Sound}
@@ -76,6 +76,29 @@ pub diary-behind : (b : List ℕ) → diaryOf b ++ behindOf b ≡ b
 unfolding diaryOf behindOf
 diary-behind b = take-append-drop (diaryLength (settingsOf b)) b
 
+-- of what stands behind a diary, the tail and the count
+module _ (w : List ℕ) (n : length w ≡ behindLength) where
+  pub tail-in-long : length (tailIn w) ≡ tailLength
+  unfolding tailIn behindLength
+  tail-in-long = length-take-le tailLength w (omega (arith, n))
+
+  pub behind-whole : tailIn w ++ (countIn w ∷ []) ≡ w
+  unfolding tailIn countIn behindLength
+  behind-whole = sym (take-suc w tailLength 0 (omega (arith, n))) ∙ take-all (suc tailLength) w (omega (arith, n))
+
+module _ (t : Tail) (s : TailSound t) (n : ℕ) where
+  pub behind-words-long : length (behindWords t n) ≡ behindLength
+  unfolding behindWords behindLength
+  behind-words-long = length-append (tailWords t) (n ∷ []) ∙ omega (arith, tail-long t s)
+
+  pub tail-in-words : tailIn (behindWords t n) ≡ tailWords t
+  unfolding tailIn behindWords
+  tail-in-words = take-at (tailWords t) (n ∷ []) tailLength (tail-long t s)
+
+  pub count-in-words : countIn (behindWords t n) ≡ n
+  unfolding countIn behindWords
+  count-in-words = getD-at (tailWords t) n [] 0 tailLength (tail-long t s)
+
 -- the two parts by the number of the diary's words
 module _ (b : List ℕ) {S : Settings} {n : ℕ} (is : S ≡ settingsOf b) (e : n ≡ diaryLength S) where
   pub first-part : diaryOf b ≡ take n b
@@ -104,7 +127,7 @@ module _ (b : List ℕ) (one : wellLaid b ≡ true) where
   unfolding diaryOf bookLength
   diary-long = length-take (diaryLength (settingsOf b)) b ∙ omega (arith, laid-long)
 
-  pub behind-long : length (behindOf b) ≡ tailLength
+  pub behind-long : length (behindOf b) ≡ behindLength
   unfolding behindOf bookLength
   behind-long = length-drop (diaryLength (settingsOf b)) b ∙ omega (arith, laid-long)
 
@@ -124,17 +147,24 @@ module _ (b : List ℕ) (one : wellLaid b ≡ true) where
   module _ (two : lawful b ≡ true) where
     pub lawful-diary : diaryLawful (diaryOf b) ≡ true
     unfolding lawful
-    lawful-diary = and-left _ (tailKept (behindOf b)) two
+    lawful-diary = and-left _ (tailKept (tailIn (behindOf b))) two
 
-    pub lawful-behind : tailKept (behindOf b) ≡ true
+    pub lawful-tail : tailKept (tailIn (behindOf b)) ≡ true
     unfolding lawful
-    lawful-behind = and-right (diaryLawful (diaryOf b)) _ two
+    lawful-tail = and-right (diaryLawful (diaryOf b)) _ two
+
+    -- what stands behind the diary has the words of the tail and the count that it shows
+    behind-shown : behindWords (ledgerOf b .tail) (ledgerOf b .changes) ≡ behindOf b
+    unfolding behindWords ledgerOf
+    behind-shown =
+        ap (λ (w : List ℕ). w ++ (countIn (behindOf b) ∷ [])) (tail-shown (tailIn (behindOf b)) (tail-in-long (behindOf b) behind-long) lawful-tail)
+        ∙ behind-whole (behindOf b) behind-long
 
     -- the book has the words of the ledger that it shows
     pub words-ledgerOf : bookWords (ledgerOf b) ≡ b
     unfolding bookWords ledgerOf
     words-ledgerOf =
-        ap₂ (λ (l r : List ℕ). l ++ r) (words-stateOf (diaryOf b) laid-diary lawful-diary) (tail-shown (behindOf b) behind-long lawful-behind)
+        ap₂ (λ (l r : List ℕ). l ++ r) (words-stateOf (diaryOf b) laid-diary lawful-diary) behind-shown
         ∙ diary-behind b
 
     pub ledger-sound : LedgerSound (ledgerOf b)
@@ -142,7 +172,7 @@ module _ (b : List ℕ) (one : wellLaid b ≡ true) where
     ledger-sound =
         record {
           diary = book-sound (diaryOf b) laid-diary lawful-diary;
-          tail = tail-read (behindOf b) behind-long lawful-behind;
+          tail = tail-read (tailIn (behindOf b)) (tail-in-long (behindOf b) behind-long) lawful-tail;
         }
 
 -- the words of a ledger
@@ -150,34 +180,37 @@ module _ (l : Ledger) (s : LedgerSound l) where
   seats : Valid (l .diary .settings)
   seats = valid-is (l .diary .settings) (s .diary .valid)
 
+  behind : List ℕ
+  behind = behindWords (l .tail) (l .changes)
+
   first-long : length (words (l .diary)) ≡ diaryLength (l .diary .settings)
   first-long = length-words (l .diary) (seated seats)
 
   pub book-settings : settingsOf (bookWords l) ≡ l .diary .settings
-  unfolding bookWords
+  unfolding bookWords behind
   book-settings =
       let back : settingsOf (words (l .diary)) ≡ l .diary .settings = settings-back (l .diary) seats in
       let room : settingsLength (settingsOf (words (l .diary))) ≤ length (words (l .diary))
       = rw (back, first-long) (settings-in (l .diary .settings)) in
-      same-head (words (l .diary) ++ tailWords (l .tail)) (words (l .diary)) (length (words (l .diary))) room
-      (λ i h. List·getD-append (words (l .diary)) (tailWords (l .tail)) 0 i h) ∙ back
+      same-head (words (l .diary) ++ behind) (words (l .diary)) (length (words (l .diary))) room
+      (λ i h. List·getD-append (words (l .diary)) behind 0 i h) ∙ back
 
   -- its two parts
   pub book-diary : diaryOf (bookWords l) ≡ words (l .diary)
-  unfolding diaryOf bookWords
+  unfolding diaryOf bookWords behind
   book-diary =
       ap (λ (S : Settings). take (diaryLength S) (bookWords l)) book-settings
-      ∙ take-at (words (l .diary)) (tailWords (l .tail)) (diaryLength (l .diary .settings)) first-long
+      ∙ take-at (words (l .diary)) behind (diaryLength (l .diary .settings)) first-long
 
-  pub book-behind : behindOf (bookWords l) ≡ tailWords (l .tail)
-  unfolding behindOf bookWords
+  pub book-behind : behindOf (bookWords l) ≡ behindWords (l .tail) (l .changes)
+  unfolding behindOf bookWords behind
   book-behind =
       ap (λ (S : Settings). drop (diaryLength S) (bookWords l)) book-settings
-      ∙ drop-at (words (l .diary)) (tailWords (l .tail)) (diaryLength (l .diary .settings)) first-long
+      ∙ drop-at (words (l .diary)) behind (diaryLength (l .diary .settings)) first-long
 
   pub book-long : length (bookWords l) ≡ bookLength (l .diary .settings)
-  unfolding bookWords bookLength
-  book-long = length-append (words (l .diary)) (tailWords (l .tail)) ∙ omega (arith, first-long, tail-long (l .tail) (s .tail))
+  unfolding bookWords bookLength behind
+  book-long = length-append (words (l .diary)) behind ∙ omega (arith, first-long, behind-words-long (l .tail) (s .tail) (l .changes))
 
   -- they pass questions 1 and 2, and show the ledger
   pub well-laid : wellLaid (bookWords l) ≡ true
@@ -190,12 +223,17 @@ module _ (l : Ledger) (s : LedgerSound l) where
 
   pub lawful-words : lawful (bookWords l) ≡ true
   unfolding lawful
-  lawful-words = rw (book-diary, book-behind) (and-true (diary-lawful (l .diary) (s .diary)) (tail-kept (l .tail) (s .tail)))
+  lawful-words = 
+      rw (book-diary, book-behind, tail-in-words (l .tail) (s .tail) (l .changes))
+      (and-true (diary-lawful (l .diary) (s .diary)) (tail-kept (l .tail) (s .tail)))
 
   pub ledgerOf-words : ledgerOf (bookWords l) ≡ l
   unfolding ledgerOf
   ledgerOf-words =
       λ i. record {
         diary = (ap stateOf book-diary ∙ stateOf-words (l .diary) (s .diary)) i;
-        tail = (ap tailOf book-behind ∙ tail-back (l .tail) (s .tail)) i;
+        tail =
+            (ap (λ (w : List ℕ). tailOf (tailIn w)) book-behind ∙ ap tailOf (tail-in-words (l .tail) (s .tail) (l .changes))
+            ∙ tail-back (l .tail) (s .tail)) i;
+        changes = (ap countIn book-behind ∙ count-in-words (l .tail) (s .tail) (l .changes)) i;
       }

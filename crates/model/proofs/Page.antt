@@ -19,7 +19,7 @@ use Rattle.model.specs.Words.{infoOf}
 use Rattle.model.specs.Text.{decimalField}
 use Rattle.model.specs.Kinds.{kindOf}
 use Rattle.model.specs.Questions.{bookings, standsOn, confHeld, lunchHeld, meetingOf, lowestFree, ask, test}
-use Rattle.model.specs.Machine.{step, change, value, Call, request, perform, run}
+use Rattle.model.specs.Machine.{step, change, value, raise, countedStep, Call, request, perform, run}
 use Rattle.model.specs.Ledger.{Ledger, emptyLedger, ledgerOf}
 use Rattle.model.specs.Laws.{wellLaid, lawful}
 use Rattle.model.specs.Calls.{callOn, call}
@@ -59,7 +59,7 @@ pub example-page : pageBytes (pageLines (run (emptyLedger site) orders .ledger .
     ∷ 32 ∷ 32 ∷ 32 ∷ 32 ∷ 50 ∷ 32 ∷ 32 ∷ 32 ∷ 49 ∷ 32 ∷ 32 ∷ 32 ∷ 48 ∷ 32 ∷ 32 ∷ 32 ∷ 32 ∷ 32 ∷ 49
     ∷ 32 ∷ 32 ∷ 32 ∷ 32 ∷ 32 ∷ 32 ∷ 32 ∷ 32 ∷ 32 ∷ 49 ∷ 50 ∷ 10
     ∷ []
-unfolding run step change value kindOf ask test emptyLedger emptyState reserved bookings standsOn confHeld lunchHeld meetingOf lowestFree
+unfolding run countedStep raise step change value kindOf ask test emptyLedger emptyState reserved bookings standsOn confHeld lunchHeld meetingOf lowestFree
     pageLines sessionLines attending holder pageBytes decimalField
 example-page = refl
 
@@ -68,7 +68,7 @@ pub unattended-page : pageBytes (pageLines (run (emptyLedger site) orders .ledge
     ≡ 32 ∷ 32 ∷ 32 ∷ 32 ∷ 49 ∷ 32 ∷ 32 ∷ 32 ∷ 48 ∷ 32 ∷ 32 ∷ 32 ∷ 48 ∷ 32 ∷ 32 ∷ 32 ∷ 32 ∷ 32 ∷ 48
     ∷ 32 ∷ 32 ∷ 32 ∷ 32 ∷ 32 ∷ 32 ∷ 32 ∷ 32 ∷ 32 ∷ 32 ∷ 48 ∷ 10
     ∷ []
-unfolding run step change value kindOf ask test emptyLedger emptyState reserved bookings standsOn confHeld lunchHeld meetingOf lowestFree
+unfolding run countedStep raise step change value kindOf ask test emptyLedger emptyState reserved bookings standsOn confHeld lunchHeld meetingOf lowestFree
     pageLines sessionLines attending holder pageBytes decimalField
 unattended-page = refl
 
@@ -93,7 +93,7 @@ pub session-first : pageBytes (pageLines (run (emptyLedger site) others .ledger 
     ∷ 32 ∷ 32 ∷ 32 ∷ 32 ∷ 49 ∷ 32 ∷ 32 ∷ 32 ∷ 48 ∷ 32 ∷ 32 ∷ 32 ∷ 48 ∷ 32 ∷ 32 ∷ 32 ∷ 32 ∷ 32 ∷ 48
     ∷ 32 ∷ 32 ∷ 32 ∷ 32 ∷ 32 ∷ 32 ∷ 32 ∷ 32 ∷ 32 ∷ 32 ∷ 48 ∷ 10
     ∷ []
-unfolding run step change value kindOf ask test emptyLedger emptyState reserved bookings standsOn confHeld lunchHeld meetingOf lowestFree
+unfolding run countedStep raise step change value kindOf ask test emptyLedger emptyState reserved bookings standsOn confHeld lunchHeld meetingOf lowestFree
     pageLines sessionLines attending holder pageBytes decimalField
 session-first = refl
 

@@ -16,7 +16,9 @@ use Rattle.model.specs.State.{State}
 use Rattle.model.specs.Kinds.{Kind, kindOf}
 use Rattle.model.specs.Questions.{Question, number, always, further, ask, judge, refusal, Refusal}
 use Rattle.model.specs.Messages.{answerWords, toldBy}
-use Rattle.model.specs.Machine.{step, stepKind, finish, Reply, told, replyWords}
+use Rattle.model.specs.Tail.{entryAt, keptAt}
+use Rattle.model.specs.Machine.{step, stepKind, finish, countedStep, ordered, keptAnswer, answerOrder, perform, replyWords}
+use Rattle.model.specs.Ledger.{Ledger}
 use Rattle.model.proofs.Search.{never}
 
 -- an answer that three words can tell: a refusal has a number other than 0
@@ -37,10 +39,17 @@ refused-tellable n p h q e =
     let z : numberOf (Refused n p) ≡ numberOf (Refused 0 q) = ap numberOf e in
     omega (arith, h, z)
 
--- a reply has three words
-pub reply-long : (p : Reply) → length (replyWords p) ≡ 3
-reply-long (told (Done v)) = refl
-reply-long (told (Refused n p)) = refl
+-- an answer has three words, and so has the reply to a request, with an order or without
+pub answer-long : (a : Answer) → length (answerWords a) ≡ 3
+answer-long (Done v) = refl
+answer-long (Refused n p) = refl
+
+pub reply-long : (l : Ledger) (n : ℕ) (r : Request) → length (replyWords (perform l (ordered n r) .reply)) ≡ 3
+reply-long l n r = go (keptAt (l .tail) n)
+  where
+    go : (o : Option ℕ) → length (replyWords (answerOrder l n r o .reply)) ≡ 3
+    go none = answer-long (countedStep (l .diary) (l .changes) r .answer)
+    go (some i) = answer-long (keptAnswer (entryAt (l .tail) i) r)
 
 -- what three words tell can be told, and is told by them
 pub told-tellable : (n p v : ℕ) → Tellable (toldBy n p v)

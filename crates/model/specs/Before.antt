@@ -4,7 +4,7 @@
 -- answers of then, is proved (proofs/Before).
 -- Assumes nothing.
 use Prim.Native.Nat.{ℕ, _+_, _/_}
-use mathlib.Core.Bool.{Bool, _&&_, cond}
+use mathlib.Core.Bool.{Bool, true, false, _&&_, cond}
 use mathlib.Core.Option.{Option, none, some}
 use mathlib.Core.List.{List, [], _∷_, _++_}
 use lib.Dec.{ltb, eqb}
@@ -19,10 +19,11 @@ use Rattle.model.specs.State.{State, Pairs, hotels, rides, attends}
 use Rattle.model.specs.Kinds.{Kind, kindOf, Unit, dates, sessions, times, row}
 use Rattle.model.specs.Questions.{Question, Scope, whole, eachSlot, eachDate, scope, number, test, Refusal, refusal, always, further}
 use Rattle.model.specs.Machine.{withLeave, withHotel, withRide, withAttend, slot, minus, change, value, Outcome, joining, ifDone}
-use Rattle.model.specs.Machine.{allOrNone, partyFits, Call, ordered, party, Performed, stepped, keptAnswer, Run, told}
+use Rattle.model.specs.Machine.{allOrNone, partyFits, Call, ordered, party, ask, commit, Performed, Counted, raise, isChange, stepped}
+use Rattle.model.specs.Machine.{keptAnswer, Run, told, asked}
 use Rattle.model.specs.Words.{total, order, blocks}
-use Rattle.model.specs.Tail.{keptAt, entryAt, noted, tailLength, tailWords}
-use Rattle.model.specs.Ledger.{Ledger}
+use Rattle.model.specs.Tail.{keptAt, entryAt, noted}
+use Rattle.model.specs.Ledger.{Ledger, behindLength, behindWords}
 use Rattle.model.specs.Laws.{unitOf, eachEntry, Law.seatsWithin, allLaws, law}
 use Rattle.model.specs.Calls.{Calls}
 
@@ -96,15 +97,31 @@ module _ (date : Settings → ℕ → ℕ) where
   unfoldable pub admitBy : State → ℕ → List Guest → Outcome
   admitBy x m gs = cond (partyFits gs) (allOrNone x (joinedBy x m gs)) (record { answer = Refused 27 0; state = x })
 
+  unfoldable pub countedStepBy : State → ℕ → Request → Counted
+  countedStepBy x n r =
+      let o = stepBy x r in
+      cond (isChange r) (raise x n o (o .answer)) (record { answer = o .answer; state = o .state; changes = n })
+
+  unfoldable pub countedPartyBy : State → ℕ → ℕ → List Guest → Counted
+  countedPartyBy x n m gs =
+      let o = admitBy x m gs in
+      raise x n o (o .answer)
+
   abbrev pub answerOrderBy : Ledger → ℕ → Request → Option ℕ → Performed
   answerOrderBy l n r none =
-      let o = stepBy (l .diary) r in
+      let o = countedStepBy (l .diary) (l .changes) r in
       stepped (noted (l .tail) n r (o .answer)) o
   answerOrderBy l n r (some i) = record { reply = told (keptAnswer (entryAt (l .tail) i) r); ledger = l }
 
+  abbrev pub answerCommitBy : Ledger → Bool → Request → Performed
+  answerCommitBy l true r = answerOrderBy l 0 r none
+  answerCommitBy l false r = record { reply = told (Refused 29 0); ledger = l }
+
   abbrev pub performBy : Ledger → Call → Performed
   performBy l (ordered n r) = answerOrderBy l n r (keptAt (l .tail) n)
-  performBy l (party m gs) = stepped (l .tail) (admitBy (l .diary) m gs)
+  performBy l (party m gs) = stepped (l .tail) (countedPartyBy (l .diary) (l .changes) m gs)
+  performBy l (ask r) = record { reply = asked (countedStepBy (l .diary) (l .changes) r .answer) (l .changes); ledger = l }
+  performBy l (commit n r) = answerCommitBy l (eqb n (l .changes)) r
 
   unfoldable pub runBy : Ledger → List Call → Run
   runBy l [] = record { replies = []; ledger = l }
@@ -143,10 +160,10 @@ validThen S =
 unfoldable pub bookThen : Ledger → List ℕ
 bookThen l =
     let S = l .diary .settings in
-    ((limitsOf S ++ take (S .dining) (S .capacities)) ++ blocks (l .diary) order) ++ tailWords (l .tail)
+    ((limitsOf S ++ take (S .dining) (S .capacities)) ++ blocks (l .diary) order) ++ behindWords (l .tail) (l .changes)
 
 unfoldable pub lengthThen : Settings → ℕ
-lengthThen S = 9 + S .dining + total S order + tailLength
+lengthThen S = 9 + S .dining + total S order + behindLength
 
 -- a 0 put in behind nine words
 abbrev pub withZero : List ℕ → List ℕ

@@ -11,7 +11,7 @@ use Rattle.model.specs.declared.Answer.{Answer}
 use Rattle.model.specs.Bounded.{isSome}
 use Rattle.model.specs.Tail.{entryAt, keptAt}
 use Rattle.model.specs.Ledger.{Ledger}
-use Rattle.model.specs.Machine.{Call, ordered, party, Reply, perform}
+use Rattle.model.specs.Machine.{Call, ordered, party, ask, commit, Reply, perform}
 
 -- a ledger keeps order n: its number stands in the ring
 abbrev pub IsKept : Ledger → ℕ → Type 0
@@ -34,6 +34,8 @@ abbrev pub isNew : Ledger → Call → Bool
 isNew l (ordered zero r) = false
 isNew l (ordered (suc n) r) = not (isSome (keptAt (l .tail) (suc n)))
 isNew l (party m gs) = false
+isNew l (ask r) = false
+isNew l (commit n r) = false
 
 abbrev pub newOrders : Ledger → List Call → ℕ
 newOrders l [] = 0
