@@ -107,7 +107,7 @@ fn table(rng: &mut Rng, seen: &mut Seen) -> Table {
             None if turn % 5 == 4 => small_party(rng, &state, seen),
             None if turn % 5 == 1 => some_order(rng, &state, turn),
             None if turn % 10 == 2 => Call::Ask(fitting(rng, &state)),
-            None if turn % 10 == 3 || turn % 10 == 7 => a_commit(rng, &state, &seen.asked),
+            None if turn % 10 == 7 => a_commit(rng, &state, &seen.asked),
             None => Call::Request(next(rng, &state, seen, turn)),
         };
         add_step(&mut table, &mut state, seen, call);
