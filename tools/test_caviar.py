@@ -664,16 +664,18 @@ class Asking(Tested):
             if call.startswith(("ask ", "commit ")):
                 status, out, _ = caviar(*call.split(), given="\n".join(site))
                 self.assertEqual((status, out.decode()), (0, f"{call}\n{sentence}"))
-                kinds.append((call.split()[0], re.match(r" +(Done|Would be done|Refused by 29|\S+)", sentence).group(1)))
+                told_so = re.match(r" +(Done|Would be done|Refused by 29|\S+)", sentence).group(1)
+                kinds.append((call.split()[0], told_so))
             site.append(call)
-        self.assertLessEqual({("ask", "Would be done"), ("ask", "Would"), ("commit", "Done"), ("commit", "Refused by 29"),
-                              ("commit", "Refused")}, set(kinds))
+        wanted = {("ask", "Would be done"), ("ask", "Would"), ("commit", "Done"), ("commit", "Refused by 29"),
+                  ("commit", "Refused")}
+        self.assertLessEqual(wanted, set(kinds))
         entries = typed.parse_text("\n".join(site), calls=True)
         self.assertEqual([typed.typed(entry) for entry in entries], site)
         self.assertEqual("".join(line + "\n" for line in explain.explained(entries, main.answered(entries)[1])), told)
 
     def test_asks_leave_no_mark(self):
-        """The page of a site with asks, also refused ones, is that of the site without them; a commit joins the site."""
+        """The page of a site with asks, also refused ones, is that of the site without; a commit joins the site."""
         site = [SETTINGS, "add-standing meeting 1 sessions 2..3"]
         asks = ["ask add-conf room 0 meeting 1 session 2", "ask add-conf room 9 meeting 1 session 2"]
         self.assertEqual(caviar("page", "1", given="\n".join(site + asks)), (0, b"", ""))
@@ -693,7 +695,8 @@ class Asking(Tested):
         leave, query, attend = Request(1, 0, 1, 0, 0), Request(18), Request(10, 1, 1, 0, 0)
         cannot = "the change count is 4294967295 and cannot rise"
         self.assertEqual(library.answered(book, [leave, query]), [(30, 0, 0), (0, 0, 1)])
-        self.assertEqual(explain.sentence(settings, leave, (30, 0, 0)), f"Refused by 30: {cannot}. {explain.question(30)}")
+        told = explain.sentence(settings, leave, (30, 0, 0))
+        self.assertEqual(told, f"Refused by 30: {cannot}. {explain.question(30)}")
         told = explain.sentence(settings, Ask(leave), library.asked(book, Ask(leave)))
         self.assertEqual(told, f"Would be refused by 30 at count 4294967295: {cannot}. {explain.question(30)}")
         told = explain.sentence(settings, Ask(attend), library.asked(book, Ask(attend)))
@@ -714,8 +717,8 @@ class Asking(Tested):
                 self.assertEqual(typed.parse_line(typed.typed(call), False, calls=True), call)
 
     def test_seeded_sites(self):
-        """What asking tells on sites of all sizes is what the second program answers to the request as a further line, and
-        a commit at the count that was told is answered so. The book, its count included, is the second program's."""
+        """What asking tells on sites of all sizes is what the second program answers to the request as a further line,
+        and a commit at the count that was told is answered so. The book, its count included, is the second program's."""
         rng, numbers = random.Random(20_261_119), []
         for seed in SEEDS:
             stream = subprocess.run([built("gen"), str(seed), "300"], capture_output=True, check=True).stdout
@@ -756,7 +759,8 @@ class Asking(Tested):
             for words, message in cases.items():
                 self.complains(message, command, *words.split(), given=SETTINGS)
                 self.complains(f"line 2: {message}", "page", "0", given=f"{SETTINGS}\n{command} {words}")
-        self.complains(f"line 2: asking is about a request, as in: {typed.AN_ASK}", "page", "0", given=f"{SETTINGS}\nask")
+        lacking = f"line 2: asking is about a request, as in: {typed.AN_ASK}"
+        self.complains(lacking, "page", "0", given=f"{SETTINGS}\nask")
 
 
 class Commands(Tested):

@@ -39,8 +39,8 @@ where one is refused none; the sentence says which one and why.
 
     caviar party meeting 3 visitor 1 sessions 4..5, visitor 2 session 4 < site.txt
 
-The site is settings and requests, typed or in the program's lines, and parties and commits where it is typed. What of it
-is refused is told on standard error. The same words as a line of a typed site let the party join it.
+The site is settings and requests, typed or in the program's lines, and parties and commits where it is typed. What of
+it is refused is told on standard error. The same words as a line of a typed site let the party join it.
 """
 
 ASK = """
@@ -52,8 +52,8 @@ kinds 1 to 16 that is done raises the count by one, and so does each party.
 """
 
 COMMIT = """
-The request at a change count: what `caviar ask` told at that count is what it is answered. If the site's count is another
-by now, the commit is refused by 29, and nothing changes. As a line of a typed site it joins the site.
+The request at a change count: what `caviar ask` told at that count is what it is answered. If the site's count is
+another by now, the commit is refused by 29, and nothing changes. As a line of a typed site it joins the site.
 """
 
 
@@ -185,10 +185,10 @@ def table(_):
         lines.append(f"{number:2}  {question}{of}")
     return lines + [
         "",
-        "A refusal has the number n of the first rule 5.n of docs/RULES.md that is not kept; 28 and 29 come after 2. Its",
-        "place is the lowest slot where it is not kept (9 to 16 and 19 to 21), a date (17 and 18) or 0. a is the hotel,",
-        "conference or dining room, the transport, or the meeting of kinds 8 to 11. b is the visitor, or the meeting of",
-        "kinds 12 to 16. 30 is for kinds 1 to 16 and for a party.",
+        "A refusal has the number n of the first rule 5.n of docs/RULES.md that is not kept; 28 and 29 come after 2.",
+        "Its place is the lowest slot where it is not kept (9 to 16 and 19 to 21), a date (17 and 18) or 0. a is the",
+        "hotel, conference or dining room, the transport, or the meeting of kinds 8 to 11. b is the visitor, or the",
+        "meeting of kinds 12 to 16. 30 is for kinds 1 to 16 and for a party.",
     ]
 
 
