@@ -4,6 +4,7 @@ use Prim.Native.Nat.{ℕ}
 use mathlib.Core.Path.{_≡_}
 use mathlib.Core.List.{List, [], _∷_}
 use Rattle.capi.specs.declared.AnswerWords.{AnswerWords}
+use Rattle.capi.specs.declared.AskedWords.{AskedWords}
 use Rattle.capi.specs.declared.RequestWords.{RequestWords}
 use Rattle.model.specs.declared.Request.{Request}
 use Rattle.model.specs.Messages.{answerWords, requestOf}
@@ -15,6 +16,10 @@ use Rattle.model.specs.Page.{Paged}
 abbrev pub wordsOf : AnswerWords → List ℕ
 wordsOf r = r .number ∷ r .place ∷ r .value ∷ []
 
+-- and the four words of what asking gives
+abbrev pub askedWordsOf : AskedWords → List ℕ
+askedWordsOf r = r .number ∷ r .place ∷ r .value ∷ r .count ∷ []
+
 -- the request that the seven words of the struct are
 abbrev pub requestBy : RequestWords → Request
 requestBy w = requestOf (w .kind ∷ w .a ∷ w .b ∷ w .first ∷ w .last ∷ w .n ∷ w .info ∷ [])
@@ -22,6 +27,11 @@ requestBy w = requestOf (w .kind ∷ w .a ∷ w .b ∷ w .first ∷ w .last ∷ 
 -- the answer r, all that the call replies, and the book b are those of the model's call
 pub record Tells (c : Called) (r : AnswerWords) (b : List ℕ) : Type 0 where
   pub answer : wordsOf r ≡ replyWords (c .reply)
+  pub book : b ≡ c .book
+
+-- the same of asking: the answer and the count, and the book
+pub record TellsAsked (c : Called) (r : AskedWords) (b : List ℕ) : Type 0 where
+  pub answer : askedWordsOf r ≡ replyWords (c .reply)
   pub book : b ≡ c .book
 
 -- the answer r, the book b and the lent words a of the answers are those of the model's list

@@ -4,18 +4,20 @@ use engine::list;
 use header::lay::lay;
 use header::settings::book_len;
 use model::Answer;
+use model::Asked;
 use model::Guest;
 use model::Request;
 use parties::party;
 ghost use mathlib.Core.Path.{_≡_};
 ghost use mathlib.Core.Bool.{cond};
 ghost use Rattle.model.specs.Messages.{answerWords, requestLength, orderLength};
+ghost use Rattle.model.specs.Machine.{asked, replyWords};
 ghost use Rattle.model.specs.Reading.{settingsOf};
 ghost use Rattle.model.specs.Ledger.{bookLength};
 ghost use Rattle.model.specs.Calls;
 ghost use Rattle.model.specs.Calls.{settingsGood};
 ghost use Rattle.model.specs.Page;
-ghost use Rattle.capi.specs.Answers.{wordsOf, requestBy, Tells, TellsList, TellsPage};
+ghost use Rattle.capi.specs.Answers.{wordsOf, askedWordsOf, requestBy, Tells, TellsAsked, TellsList, TellsPage};
 
 // An answer as three words: a number, which is 0 where the call is done, a place and a value.
 #[repr(C)]
@@ -23,6 +25,15 @@ pub struct AnswerWords {
     pub number: u32,
     pub place: u32,
     pub value: u32,
+}
+
+// What asking gives: the three words of an answer, and the change count.
+#[repr(C)]
+pub struct AskedWords {
+    pub number: u32,
+    pub place: u32,
+    pub value: u32,
+    pub count: u32,
 }
 
 // A request's seven words.
@@ -37,7 +48,7 @@ pub struct RequestWords {
     pub info: u32,
 }
 
-fn asked(w: RequestWords) -> Request
+fn request_by(w: RequestWords) -> Request
     ensures { λ r. ⌜ r ≡ requestBy w ⌝ }
 {
     Request {
@@ -65,6 +76,18 @@ fn told(a: Answer) -> AnswerWords
             place,
             value: 0,
         },
+    }
+}
+
+fn told_beside(a: Asked) -> AskedWords
+    ensures { λ r. ⌜ askedWordsOf r ≡ replyWords (asked (a .answer) (a .count)) ⌝ }
+{
+    let answer = told(a.answer);
+    AskedWords {
+        number: answer.number,
+        place: answer.place,
+        value: answer.value,
+        count: a.count,
     }
 }
 
@@ -97,7 +120,7 @@ pub extern "C" fn caviar_check(book: &[u32]) -> AnswerWords
 pub extern "C" fn caviar_request(book: &mut [u32], request: RequestWords) -> AnswerWords
     ensures { λ r. ⌜ Tells (Calls.call (now (book .entry)) (requestBy request)) r (now (book .exit)) ⌝ }
 {
-    told(engine::request(book, asked(request)))
+    told(engine::request(book, request_by(request)))
 }
 
 // A request with the number of its order, 0 for none: an order that is kept gets its first answer, and nothing changes.
@@ -105,7 +128,7 @@ pub extern "C" fn caviar_request(book: &mut [u32], request: RequestWords) -> Ans
 pub extern "C" fn caviar_order(book: &mut [u32], order: u32, request: RequestWords) -> AnswerWords
     ensures { λ r. ⌜ Tells (Calls.callOrder (now (book .entry)) order (requestBy request)) r (now (book .exit)) ⌝ }
 {
-    told(engine::order(book, order, asked(request)))
+    told(engine::order(book, order, request_by(request)))
 }
 
 // A list of requests on any words, seven a request; three words an answer.
@@ -168,6 +191,22 @@ pub extern "C" fn caviar_serve_orders(
         ⌝ }
 {
     told(list::serve_orders(settings, book, orders, answers))
+}
+
+// What a request without an order would be answered, and the change count of the book; the book is only read.
+#[no_mangle]
+pub extern "C" fn caviar_ask(book: &[u32], request: RequestWords) -> AskedWords
+    ensures { λ r. ⌜ TellsAsked (Calls.callAsk (now (book .entry)) (requestBy request)) r (now (book .entry)) ⌝ }
+{
+    told_beside(engine::ask(book, request_by(request)))
+}
+
+// A request without an order, if the change count is the one that is named.
+#[no_mangle]
+pub extern "C" fn caviar_commit(book: &mut [u32], count: u32, request: RequestWords) -> AnswerWords
+    ensures { λ r. ⌜ Tells (Calls.callCommit (now (book .entry)) count (requestBy request)) r (now (book .exit)) ⌝ }
+{
+    told(engine::commit(book, count, request_by(request)))
 }
 
 // The porter's page of a date, from any words as a book: its lines at the front of the lent page.

@@ -12,7 +12,8 @@ use Rattle.model.specs.Words.{diaryLength}
 use Rattle.model.specs.Reading.{settingsOf}
 use Rattle.model.specs.Tail.{tailLength, tailKept}
 use Rattle.model.specs.Laws.{wellLaid, diaryLaid, lawful, diaryLawful}
-use Rattle.model.proofs.Ledger.{first-part, lent-behind, behind-long, laid-diary}
+use Rattle.model.specs.Ledger.{behindOf}
+use Rattle.model.proofs.Ledger.{first-part, lent-tail, tail-in-long, behind-long, laid-diary}
 use Rattle.model.specs.Calls.{check}
 use Rattle.book.specs.Good.{GoodBook}
 
@@ -47,9 +48,9 @@ module _ (b : List ℕ) (one : wellLaid b ≡ true) (S : Settings) (is : S ≡ s
   unfolding lawful
   two-no e = rw (first-part b is here, e)
 
-  pub tail-long : length (take (length b - n) (drop n b)) ≡ tailLength
-  tail-long = ap length (lent-behind b is here) ∙ behind-long b one
+  pub tail-long : length (take (length b - 1 - n) (drop n b)) ≡ tailLength
+  tail-long = ap length (lent-tail b one is here) ∙ tail-in-long (behindOf b) (behind-long b one)
 
-  pub two-yes : diaryLawful (take n b) ≡ true → tailKept (take (length b - n) (drop n b)) ≡ lawful b
+  pub two-yes : diaryLawful (take n b) ≡ true → tailKept (take (length b - 1 - n) (drop n b)) ≡ lawful b
   unfolding lawful
-  two-yes e = rw (first-part b is here, e) (ap tailKept (lent-behind b is here))
+  two-yes e = rw (first-part b is here, e) (ap tailKept (lent-tail b one is here))

@@ -23,7 +23,7 @@ fn diary_lawful(book: &[u32]) -> bool
     dates::dates(book, site, &caps)
 }
 
-// Question 2 of a book that passes question 1: its diary, then the ring behind it.
+// Question 2 of a book that passes question 1: its diary, then the ring behind it. Of the last word, the change count, nothing is asked.
 fn book_lawful(book: &[u32]) -> bool
     requires { ⌜ wellLaid (now book) ≡ true ⌝ }
     ensures { λ r. ⌜ r ≡ lawful (now (book .entry)) ⌝ }
@@ -32,7 +32,7 @@ fn book_lawful(book: &[u32]) -> bool
     if !diary_lawful(&book[..n]) {
         return false;
     }
-    law::kept(&book[n..])
+    law::kept(&book[n..book.len() - 1])
 }
 
 // Questions 1 and 2: done with 0 for a book that passes both.

@@ -10,7 +10,7 @@ use lib.ListN.{length, getD, set, take, drop, length-append, length-take, length
 use lib.Seq.{take-at, drop-at, drop-drop, getD-take, sets-eq}
 use borrow.Author.Tests.{ltb-true, ltb-false}
 use Rattle.model.specs.declared.Settings.{Settings}
-use Rattle.model.specs.Messages.{requestOf}
+use Rattle.model.specs.Messages.{requestLength, requestOf}
 use Rattle.model.specs.Machine.{Call, callOf, replyWords, perform}
 use Rattle.model.specs.Ledger.{ledgerOf}
 use Rattle.model.specs.Calls.{Calls, calls, callsOf, repliesWords}
@@ -142,17 +142,21 @@ module _ (S : Settings) (k : ℕ) (wide : Width k) (w : List ℕ) (n : ℕ) (b�
   aw : List ℕ
   aw = replyWords (perform (ledgerOf b) c .reply)
 
+  three : length (replyWords (perform (ledgerOf b) c .reply)) ≡ 3
+  unfolding c
+  three = reply-long (ledgerOf b) (getD (take k (drop (i * k) w)) requestLength 0) (requestOf (take k (drop (i * k) w)))
+
   written : take ((i + 1) * 3) a′ ≡ take (i * 3) a ++ aw
   unfolding c aw
   written =
       ap (λ (k : ℕ). take k a′) (sym next) ∙ ap (take (i * 3 + 3)) (one .answers)
-      ∙ spliced-take a (i * 3) fits (replyWords (perform (ledgerOf b) c .reply)) (reply-long (perform (ledgerOf b) c .reply))
+      ∙ spliced-take a (i * 3) fits (replyWords (perform (ledgerOf b) c .reply)) three
 
   kept : drop ((i + 1) * 3) a′ ≡ drop ((i + 1) * 3) a₀
   unfolding c
   kept =
       ap (λ (k : ℕ). drop k a′) (sym next) ∙ ap (drop (i * 3 + 3)) (one .answers)
-      ∙ spliced-drop a (i * 3) fits (replyWords (perform (ledgerOf b) c .reply)) (reply-long (perform (ledgerOf b) c .reply))
+      ∙ spliced-drop a (i * 3) fits (replyWords (perform (ledgerOf b) c .reply)) three
       ∙ sym (drop-drop 3 (i * 3) a) ∙ ap (drop 3) (l .behind) ∙ drop-drop 3 (i * 3) a₀ ∙ ap (λ (k : ℕ). drop k a₀) next
 
   pub left-turn : Left k w n b₀ a₀ (i + 1) b′ a′
@@ -161,7 +165,7 @@ module _ (S : Settings) (k : ℕ) (wide : Width k) (w : List ℕ) (n : ℕ) (b�
       record {
         most = omega arith;
         long = ap length (one .answers)
-            ∙ spliced-length a (i * 3) fits (replyWords (perform (ledgerOf b) c .reply)) (reply-long (perform (ledgerOf b) c .reply))
+            ∙ spliced-length a (i * 3) fits (replyWords (perform (ledgerOf b) c .reply)) three
             ∙ l .long;
         book = sym (ap (λ (u : Calls). u .book) taken) ∙ l .book;
         answers =

@@ -6,23 +6,26 @@ use mathlib.Core.Bool.{Bool, true, false}
 use mathlib.Core.List.{List}
 use native.Mathlib.Omega.{arith}
 use lib.Dec.{eqb}
+use borrow.Author.Tests.{eq-eqb, ne-eqb}
 use lib.ListN.{length}
+use Rattle.model.specs.declared.Settings.{Settings}
 use Rattle.model.specs.declared.Request.{Request}
 use Rattle.model.specs.declared.Answer.{Answer}
 use Rattle.model.specs.declared.Answer.the-variants.{Done, Refused}
-use Rattle.model.specs.Machine.{Call, told}
+use Rattle.model.specs.Machine.{countedStep, Call, ordered, ask, commit, told, asked, answerCommit, perform}
 use Rattle.model.specs.Reading.{settingsOf}
 use Rattle.model.specs.Ledger.{bookLength, ledgerOf}
 use Rattle.model.specs.Laws.{wellLaid, lawful}
-use Rattle.model.specs.Calls.{Called, callOn, callOrder, calls, check, lay, freshBook, settingsGood, callsOf, answerable, listed, callList, serveList}
+use Rattle.model.specs.Calls.{Called, called, refusing, callOn, callOrder, callCommit, calls, check, lay, freshBook, settingsGood, callsOf, answerable, listed, callList, serveList}
 use Rattle.model.proofs.Calls.{from-fresh}
 use Rattle.model.proofs.Shows.{good-valid}
-use Rattle.model.specs.Removal.{Removed, OrderedRemovalKept}
-use Rattle.model.proofs.Removal.{removal}
+use Rattle.model.specs.Removal.{Removed, RemovalKept, OrderedRemovalKept}
+use Rattle.model.proofs.Removal.{removal, commit-removal}
+use Rattle.model.proofs.Ledger.{words-ledgerOf}
 use Rattle.book.specs.Good.{GoodBook, answered}
 use Rattle.engine.specs.Lists.{All, asListed}
 use Rattle.checking.proofs.Verdicts.{done-good}
-use Rattle.step.proofs.Kept.{fresh-good}
+use Rattle.step.proofs.Kept.{fresh-good, good-call}
 
 done-refused : {n p v : ℕ} {A : Type 0} → Done v ≡ Refused n p → A
 done-refused e = absurd (let z : _≡_ {A = ℕ} 0 1 = cc in omega arith)
@@ -35,20 +38,51 @@ told-listed : {a f : Answer} {b c : List ℕ} (w : List ℕ) → answered a b �
 told-listed w e = ap₂ (λ (x : Answer) (y : List ℕ). asListed x y w) (answer-is e) (ap (λ (x : Called). x .book) e)
 
 -- the book after a refusal of question 1 or 2
-pub call-refused : (b : List ℕ) (c : Call) {n p : ℕ} → check b ≡ Refused n p → answered (Refused n p) b ≡ callOn b c
+abbrev refusedBy : List ℕ → Call → Answer → Called
+refusedBy b c a = record { reply = refusing c a; book = b }
+
+pub call-refused : (b : List ℕ) (c : Call) {n p : ℕ} → check b ≡ Refused n p → refusedBy b c (Refused n p) ≡ callOn b c
 unfolding check callOn
 call-refused b c {n} {p} e = go (wellLaid b) refl (lawful b) refl e
   where
-    go : (o : Bool) → wellLaid b ≡ o → (t : Bool) → lawful b ≡ t → check b ≡ Refused n p → answered (Refused n p) b ≡ callOn b c
+    go : (o : Bool) → wellLaid b ≡ o → (t : Bool) → lawful b ≡ t → check b ≡ Refused n p → refusedBy b c (Refused n p) ≡ callOn b c
     go true q true s e = done-refused (rw (q, s) at e)
-    go true q false s e = rw (q, s) (ap (λ (x : Answer). answered x b) (sym (rw (q, s) at e)))
-    go false q t s e = rw q (ap (λ (x : Answer). answered x b) (sym (rw q at e)))
+    go true q false s e = rw (q, s) (ap (refusedBy b c) (sym (rw (q, s) at e)))
+    go false q t s e = rw q (ap (refusedBy b c) (sym (rw q at e)))
+
+-- what is asked leaves a good book, and tells what is foreseen and the count
+pub asked-good : {S : Settings} {b : List ℕ} → GoodBook S b → (r : Request) {a : Answer} {n : ℕ}
+    → a ≡ countedStep (ledgerOf b .diary) (ledgerOf b .changes) r .answer → n ≡ ledgerOf b .changes
+    → record { reply = asked a n; book = b } ≡ callOn b (ask r)
+asked-good {S} {b} good r e f =
+    ap₂ (λ (a : Answer) (n : ℕ). record { reply = asked a n; book = b }) e f
+    ∙ ap (λ (w : List ℕ). record { reply = perform (ledgerOf b) (ask r) .reply; book = w }) (sym (words-ledgerOf b (good .laid) (good .lawful)))
+    ∙ sym (good-call good (ask r))
+
+-- a commit at another count, and at the book's
+module _ {S : Settings} {b : List ℕ} (good : GoodBook S b) (m : ℕ) (r : Request) {n : ℕ} (count : n ≡ ledgerOf b .changes) where
+  pub other-count : (n ≡ m → ⊥) → answered (Refused 29 0) b ≡ callOn b (commit m r)
+  other-count f =
+      let q : eqb m (ledgerOf b .changes) ≡ false = ne-eqb m _ (λ e. f (count ∙ sym e)) in
+      ap (answered (Refused 29 0)) (sym (words-ledgerOf b (good .laid) (good .lawful)))
+      ∙ ap (λ (t : Bool). called (answerCommit (ledgerOf b) t r)) (sym q)
+      ∙ sym (good-call good (commit m r))
+
+  pub same-count : n ≡ m → {a : Answer} {c : List ℕ} → answered a c ≡ called (perform (ledgerOf b) (ordered 0 r)) → answered a c ≡ callOn b (commit m r)
+  same-count t e =
+      let q : eqb m (ledgerOf b .changes) ≡ true = eq-eqb m _ (sym t ∙ count) in
+      e ∙ ap (λ (t : Bool). called (answerCommit (ledgerOf b) t r)) (sym q) ∙ sym (good-call good (commit m r))
 
 -- an order that is not kept takes out what a removal promises
 order-removes : (b : List ℕ) (n : ℕ) (r : Request) (a : Answer) (c : List ℕ) → answered a c ≡ callOrder b n r → OrderedRemovalKept b n r a c
 order-removes b n r a c e new one two k v q =
     subst (λ (d : List ℕ). Removed (ledgerOf b .diary) (ledgerOf d .diary) (r .b) (r .first) (r .last) v) (sym (ap (λ (x : Called). x .book) e))
     (removal b (record { one = one; two = two }) n new r k v (sym (ap (λ (x : Called). x .reply) e) ∙ ap told q))
+
+pub with-commit : (b : List ℕ) (n : ℕ) (r : Request) (a : Answer) (c : List ℕ) → answered a c ≡ callCommit b n r
+    → (answered a c ≡ callCommit b n r) × RemovalKept b r a c
+with-commit b n r a c e = (e, λ one two k v q. subst (λ (d : List ℕ). Removed (ledgerOf b .diary) (ledgerOf d .diary) (r .b) (r .first) (r .last) v) (sym (ap (λ (x : Called). x .book) e))
+    (commit-removal b (record { one = one; two = two }) n r k v (sym (ap (λ (x : Called). x .reply) e) ∙ ap told q)))
 
 pub with-removal : (b : List ℕ) (n : ℕ) (r : Request) (a : Answer) (c : List ℕ) → answered a c ≡ callOrder b n r
     → (answered a c ≡ callOrder b n r) × OrderedRemovalKept b n r a c

@@ -1,13 +1,18 @@
--- Lists of requests as words: parts of the contracts by name.
+-- Lists of requests as words, and what asking gives: parts of the contracts by name.
 -- Assumes nothing.
 use Prim.Native.Nat.{ℕ, _+_, _*_}
 use mathlib.Core.Path.{_≡_}
 use mathlib.Core.List.{List, _++_}
 use lib.ListN.{take, drop}
 use Rattle.model.specs.declared.Answer.{Answer}
-use Rattle.model.specs.Machine.{callOf, replyWords, perform}
+use Rattle.model.specs.declared.Asked.{Asked}
+use Rattle.model.specs.Machine.{callOf, asked, replyWords, perform}
 use Rattle.model.specs.Ledger.{bookWords, ledgerOf}
-use Rattle.model.specs.Calls.{Listed, calls, callsOf, repliesWords}
+use Rattle.model.specs.Calls.{Called, Listed, calls, callsOf, repliesWords}
+
+-- an answer, the change count beside it, and a book
+abbrev pub asAsked : Asked → List ℕ → Called
+asAsked a b = record { reply = asked (a .answer) (a .count); book = b }
 
 -- l with the words ws in place of the three at i
 unfoldable pub spliced : List ℕ → ℕ → List ℕ → List ℕ

@@ -16,8 +16,8 @@ ghost use Rattle.model.specs.Calls.{settingsGood};
 ghost use Rattle.units.specs.Ranges.{Ranges};
 ghost use Rattle.header.specs.Heads.{seatOf, seatGood, neededLength};
 
-// How many words a book keeps behind its diary: 64 orders of eleven words, and the next place.
-pub const TAIL_WORDS: usize = 705;
+// How many words a book keeps behind its diary: 64 orders of eleven words, the next place, and the change count.
+pub const BEHIND_WORDS: usize = 706;
 
 // Word i, and 0 where there is none.
 fn word(words: &[u32], i: usize) -> u32
@@ -119,7 +119,7 @@ pub fn length_of(s: Settings) -> usize
     requires { ⌜ Ranges s ⌝ }
     ensures { λ r. ⌜ r ≡ bookLength s ⌝ }
 {
-    diary_len(s) + TAIL_WORDS
+    diary_len(s) + BEHIND_WORDS
 }
 
 // Question 24: are these words settings, of their own length and with all ranges kept?

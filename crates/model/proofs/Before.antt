@@ -22,8 +22,8 @@ use Rattle.model.specs.Questions.{Question, Scope, whole, eachSlot, each
 use Rattle.model.specs.Questions.{always, further, unusedZero, aBelow, bBelow, slotsFit, seatsFit, onLeave, stands, standsThatDate, absent}
 use Rattle.model.specs.Questions.{free, elsewhere, roomLeft, present, hasConf, hasLunch, noBookings, notHeld, standsYet, attendsOne, roomFree}
 use Rattle.model.specs.Machine.{withLeave, withHotel, withRide, withAttend, slot, minus, change, value, Outcome, finish, stepKind, step}
-use Rattle.model.specs.Machine.{joining, ifDone, joined, allOrNone, partyFits, admit, Call, ordered, party, Performed, stepped, answerOrder}
-use Rattle.model.specs.Machine.{perform, Run, run}
+use Rattle.model.specs.Machine.{joining, ifDone, joined, allOrNone, partyFits, admit, Counted, raise, isChange, countedStep, countedParty}
+use Rattle.model.specs.Machine.{Call, ordered, party, commit, asked, Performed, stepped, answerOrder, answerCommit, perform, Run, run}
 use Rattle.model.specs.Words.{diaryLength, words}
 use Rattle.model.specs.Reading.{settingsOf}
 use Rattle.model.specs.Tail.{keptAt, noted}
@@ -33,10 +33,12 @@ use Rattle.model.specs.Laws.{oneRideAVisitor, oneMeetingAVisitor, oneMee
 use Rattle.model.specs.Laws.{hotelLeave, rideLeave, attendLeave, seatsWithin}
 use Rattle.model.specs.Before.{dateThen, dateBy, bookingsBy, testBy, placedBy, judgeBy, removeBy, changeBy, valueBy, finishBy, stepKindBy}
 use Rattle.model.specs.Calls.{calls, freshBook, settingsGood}
-use Rattle.model.specs.Before.{stepBy, joinedBy, admitBy, answerOrderBy, performBy, runBy, guestsBy, lawsBy, validThen, bookThen, lengthThen}
-use Rattle.model.specs.Before.{withZero, shownThen}
+use Rattle.model.specs.Before.{stepBy, joinedBy, admitBy, countedStepBy, countedPartyBy, answerOrderBy, answerCommitBy, performBy, runBy}
+use Rattle.model.specs.Before.{guestsBy, lawsBy, validThen, bookThen, lengthThen, withZero, shownThen}
 use Rattle.model.proofs.Frame.{step-settings}
 use Rattle.model.proofs.Party.{admit-settings}
+use Rattle.model.proofs.Counting.{counted-party-state}
+use Rattle.model.proofs.Effect.{counted-settings}
 use Rattle.model.proofs.Search.{within-true}
 use Rattle.model.proofs.Shows.{Shows, shown-calls, fresh-shows}
 
@@ -45,9 +47,16 @@ perform-settings : (l : Ledger) (c : Call) → perform l c .ledger .diary .setti
 perform-settings l (ordered n r) = order (keptAt (l .tail) n)
   where
     order : (o : Option ℕ) → answerOrder l n r o .ledger .diary .settings ≡ l .diary .settings
-    order none = step-settings (l .diary) r
+    order none = counted-settings (l .diary) (l .changes) r
     order (some i) = refl
-perform-settings l (party m gs) = admit-settings (l .diary) m gs
+perform-settings l (party m gs) =
+    counted-party-state (λ (z : State). z .settings ≡ l .diary .settings) (l .diary) (l .changes) m gs refl (admit-settings (l .diary) m gs)
+perform-settings l (Call.ask r) = refl
+perform-settings l (commit n r) = go (eqb n (l .changes))
+  where
+    go : (t : Bool) → answerCommit l t r .ledger .diary .settings ≡ l .diary .settings
+    go true = counted-settings (l .diary) (l .changes) r
+    go false = refl
 
 run-settings : (l : Ledger) (cs : List Call) → run l cs .ledger .diary .settings ≡ l .diary .settings
 unfolding run
@@ -188,13 +197,29 @@ module _ (date : Settings → ℕ → ℕ) where
   admit-by x e m gs =
       ap (λ (o : Outcome). cond (partyFits gs) (allOrNone x o) (record { answer = Refused 27 0; state = x })) (joined-by x e m gs)
 
+  counted-by : (x : State) → Same x → (n : ℕ) (r : Request) → countedStepBy date x n r ≡ countedStep x n r
+  unfolding countedStepBy countedStep
+  counted-by x e n r =
+      ap (λ (o : Outcome). cond (isChange r) (raise x n o (o .answer)) (record { answer = o .answer; state = o .state; changes = n })) (step-at x e r)
+
+  counted-party-by : (x : State) → Same x → (n m : ℕ) (gs : List Guest) → countedPartyBy date x n m gs ≡ countedParty x n m gs
+  unfolding countedPartyBy countedParty
+  counted-party-by x e n m gs = ap (λ (o : Outcome). raise x n o (o .answer)) (admit-by x e m gs)
+
   order-by : (l : Ledger) → Same (l .diary) → (n : ℕ) (r : Request) (o : Option ℕ) → answerOrderBy date l n r o ≡ answerOrder l n r o
-  order-by l e n r none = ap (λ (o : Outcome). stepped (noted (l .tail) n r (o .answer)) o) (step-at (l .diary) e r)
+  order-by l e n r none = ap (λ (o : Counted). stepped (noted (l .tail) n r (o .answer)) o) (counted-by (l .diary) e (l .changes) r)
   order-by l e n r (some i) = refl
 
   perform-by : (l : Ledger) → Same (l .diary) → (c : Call) → performBy date l c ≡ perform l c
   perform-by l e (ordered n r) = order-by l e n r (keptAt (l .tail) n)
-  perform-by l e (party m gs) = ap (stepped (l .tail)) (admit-by (l .diary) e m gs)
+  perform-by l e (party m gs) = ap (stepped (l .tail)) (counted-party-by (l .diary) e (l .changes) m gs)
+  perform-by l e (Call.ask r) =
+      ap (λ (o : Counted). record { reply = asked (o .answer) (l .changes); ledger = l }) (counted-by (l .diary) e (l .changes) r)
+  perform-by l e (commit n r) = go (eqb n (l .changes))
+    where
+      go : (t : Bool) → answerCommitBy date l t r ≡ answerCommit l t r
+      go true = order-by l e 0 r none
+      go false = refl
 
   run-at : (l : Ledger) → Same (l .diary) → (cs : List Call) → runBy date l cs ≡ run l cs
   unfolding runBy run

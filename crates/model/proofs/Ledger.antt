@@ -4,11 +4,11 @@
 use Prim.Native.Nat.{ℕ, suc, _+_, _-_, _≤_, _<_}
 use mathlib.Core.Path.{_≡_, refl, sym, _∙_, ap, ap₂}
 use mathlib.Core.Bool.{Bool, true, false, _&&_, cond}
-use mathlib.Core.List.{List, [], _∷_, _++_}
+use mathlib.Core.List.{List, [], _∷_, _++_, append-assoc}
 use native.Mathlib.Omega.{arith}
 use lib.Dec.{leb, ltb, eqb}
-use lib.ListN.{length, getD, take, drop, length-append, length-take, length-drop, take-append-drop, List·getD-append}
-use lib.Seq.{getD-take, getD-at, take-all, take-at, take-suc, drop-at, length-take-le}
+use lib.ListN.{length, getD, set, take, drop, length-append, length-take, length-drop, take-append-drop, List·getD-append}
+use lib.Seq.{getD-take, getD-drop, getD-at, set-at, take-all, take-at, take-suc, drop-at, length-take-le}
 use borrow.Author.Tests.{ltb-true, le-leb, eqb-true, eq-eqb}
 use Rattle.model.specs.declared.Settings.{Settings}
 use Rattle.model.specs.Bounded.{list}
@@ -131,6 +131,31 @@ module _ (b : List ℕ) (one : wellLaid b ≡ true) where
   unfolding behindOf bookLength
   behind-long = length-drop (diaryLength (settingsOf b)) b ∙ omega (arith, laid-long)
 
+  -- what is lent of it between the diary and the last word is the tail, and the last word is the count
+  pub last-word : 0 < length b
+  unfolding bookLength behindLength
+  last-word = omega (arith, laid-long)
+
+  module _ {S : Settings} {n : ℕ} (is : S ≡ settingsOf b) (e : n ≡ diaryLength S) where
+    last-is : length b - 1 ≡ n + tailLength
+    unfolding bookLength behindLength
+    last-is = omega (arith, laid-long, ap diaryLength is, e)
+
+    pub tail-fits : n ≤ length b - 1
+    tail-fits = omega (arith, last-is)
+
+    pub lent-tail : take (length b - 1 - n) (drop n b) ≡ tailIn (behindOf b)
+    unfolding tailIn
+    lent-tail =
+        let q : length b - 1 - n ≡ tailLength = omega (arith, last-is) in
+        ap₂ (λ (k : ℕ) (w : List ℕ). take k w) q (sym (part-behind b is e))
+
+    pub count-lent : getD b (length b - 1) 0 ≡ ledgerOf b .changes
+    unfolding ledgerOf countIn
+    count-lent =
+        ap (λ (i : ℕ). getD b i 0) last-is ∙ sym (getD-drop n b tailLength 0)
+        ∙ ap (λ (w : List ℕ). getD w tailLength 0) (sym (part-behind b is e))
+
   pub diary-fits : {S : Settings} {n : ℕ} → S ≡ settingsOf b → n ≡ diaryLength S → n ≤ length b
   unfolding bookLength
   diary-fits is e = omega (arith, laid-long, ap diaryLength is, e)
@@ -154,7 +179,7 @@ module _ (b : List ℕ) (one : wellLaid b ≡ true) where
     lawful-tail = and-right (diaryLawful (diaryOf b)) _ two
 
     -- what stands behind the diary has the words of the tail and the count that it shows
-    behind-shown : behindWords (ledgerOf b .tail) (ledgerOf b .changes) ≡ behindOf b
+    pub behind-shown : behindWords (ledgerOf b .tail) (ledgerOf b .changes) ≡ behindOf b
     unfolding behindWords ledgerOf
     behind-shown =
         ap (λ (w : List ℕ). w ++ (countIn (behindOf b) ∷ [])) (tail-shown (tailIn (behindOf b)) (tail-in-long (behindOf b) behind-long) lawful-tail)
@@ -183,15 +208,15 @@ module _ (l : Ledger) (s : LedgerSound l) where
   behind : List ℕ
   behind = behindWords (l .tail) (l .changes)
 
-  first-long : length (words (l .diary)) ≡ diaryLength (l .diary .settings)
-  first-long = length-words (l .diary) (seated seats)
+  pub diary-words : length (words (l .diary)) ≡ diaryLength (l .diary .settings)
+  diary-words = length-words (l .diary) (seated seats)
 
   pub book-settings : settingsOf (bookWords l) ≡ l .diary .settings
   unfolding bookWords behind
   book-settings =
       let back : settingsOf (words (l .diary)) ≡ l .diary .settings = settings-back (l .diary) seats in
       let room : settingsLength (settingsOf (words (l .diary))) ≤ length (words (l .diary))
-      = rw (back, first-long) (settings-in (l .diary .settings)) in
+      = rw (back, diary-words) (settings-in (l .diary .settings)) in
       same-head (words (l .diary) ++ behind) (words (l .diary)) (length (words (l .diary))) room
       (λ i h. List·getD-append (words (l .diary)) behind 0 i h) ∙ back
 
@@ -200,17 +225,17 @@ module _ (l : Ledger) (s : LedgerSound l) where
   unfolding diaryOf bookWords behind
   book-diary =
       ap (λ (S : Settings). take (diaryLength S) (bookWords l)) book-settings
-      ∙ take-at (words (l .diary)) behind (diaryLength (l .diary .settings)) first-long
+      ∙ take-at (words (l .diary)) behind (diaryLength (l .diary .settings)) diary-words
 
   pub book-behind : behindOf (bookWords l) ≡ behindWords (l .tail) (l .changes)
   unfolding behindOf bookWords behind
   book-behind =
       ap (λ (S : Settings). drop (diaryLength S) (bookWords l)) book-settings
-      ∙ drop-at (words (l .diary)) behind (diaryLength (l .diary .settings)) first-long
+      ∙ drop-at (words (l .diary)) behind (diaryLength (l .diary .settings)) diary-words
 
   pub book-long : length (bookWords l) ≡ bookLength (l .diary .settings)
   unfolding bookWords bookLength behind
-  book-long = length-append (words (l .diary)) behind ∙ omega (arith, first-long, behind-words-long (l .tail) (s .tail) (l .changes))
+  book-long = length-append (words (l .diary)) behind ∙ omega (arith, diary-words, behind-words-long (l .tail) (s .tail) (l .changes))
 
   -- they pass questions 1 and 2, and show the ledger
   pub well-laid : wellLaid (bookWords l) ≡ true
@@ -223,7 +248,7 @@ module _ (l : Ledger) (s : LedgerSound l) where
 
   pub lawful-words : lawful (bookWords l) ≡ true
   unfolding lawful
-  lawful-words = 
+  lawful-words =
       rw (book-diary, book-behind, tail-in-words (l .tail) (s .tail) (l .changes))
       (and-true (diary-lawful (l .diary) (s .diary)) (tail-kept (l .tail) (s .tail)))
 
@@ -237,3 +262,15 @@ module _ (l : Ledger) (s : LedgerSound l) where
             ∙ tail-back (l .tail) (s .tail)) i;
         changes = (ap countIn book-behind ∙ count-in-words (l .tail) (s .tail) (l .changes)) i;
       }
+
+  -- another count is another last word, and nothing else
+  pub recounted : (v : ℕ)
+      → set (bookWords l) (length (bookWords l) - 1) v ≡ bookWords (record { diary = l .diary; tail = l .tail; changes = v })
+  unfolding bookWords behindWords bookLength behindLength
+  recounted v =
+      let front : List ℕ = words (l .diary) ++ tailWords (l .tail) in
+      let n : length front ≡ length (bookWords l) - 1
+      = length-append (words (l .diary)) (tailWords (l .tail)) ∙ omega (arith, book-long, diary-words, tail-long (l .tail) (s .tail)) in
+      ap (λ (b : List ℕ). set b (length (bookWords l) - 1) v) (sym (append-assoc (words (l .diary)) (tailWords (l .tail)) (l .changes ∷ [])))
+      ∙ set-at front (l .changes) [] v (length (bookWords l) - 1) n
+      ∙ append-assoc (words (l .diary)) (tailWords (l .tail)) (v ∷ [])

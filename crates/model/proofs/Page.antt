@@ -28,6 +28,7 @@ use Rattle.model.specs.Page.{pageBy, pageOf, page, lineWidth}
 use Rattle.model.proofs.Search.{lowest-same}
 use Rattle.model.proofs.Sums.{sum-agree}
 use Rattle.model.proofs.Frame.{step-settings}
+use Rattle.model.proofs.Counting.{counted-state}
 use Rattle.model.proofs.Shows.{Shows, Passes, shows-passes, shown-is, passes-shows, passes-next}
 use Rattle.model.proofs.Locality.{onDate, local-change}
 use Rattle.model.proofs.Rehearsal.{site, send}
@@ -206,8 +207,12 @@ other-date-book b r d h p = go (wellLaid b) refl (lawful b) refl
     go true e true f =
         let q : Passes b = record { one = e; two = f } in
         let x = ledgerOf b .diary in
+        let n = ledgerOf b .changes in
+        let same : (countedStep x n r .state .settings ≡ x .settings) × (pageLines (countedStep x n r .state) d ≡ pageLines x d)
+        = counted-state (λ (z : State). (z .settings ≡ x .settings) × (pageLines z d ≡ pageLines x d)) x n r (refl, refl)
+        (step-settings x r, other-date x r d h) in
         shown-page (call b r .book) (perform (ledgerOf b) (request r) .ledger) (passes-next b q (request r)) d p
-        ∙ by-lines true true (step x r .state) x d p (step-settings x r) (other-date x r d h)
+        ∙ by-lines true true (countedStep x n r .state) x d p (same .0) (same .1)
         ∙ sym (shown-page b (ledgerOf b) (passes-shows b q) d p)
     go true e false f = ap (λ (c : List ℕ). page c d p) (rw (e, f))
     go false e t f = ap (λ (c : List ℕ). page c d p) (rw e)

@@ -1,37 +1,51 @@
--- Reachable = lawful: the books of 32-bit words that pass questions 1 and 2, with an empty ring and the next place 0, are the books after
--- a list of requests of 32-bit words, without orders, on a fresh one.
+-- Reachable = lawful, but for the change count: the books of 32-bit words that pass questions 1 and 2, with an empty ring and the next
+-- place 0, are the books after a list of requests of 32-bit words, without orders, on a fresh one, with every count from the number of
+-- their entries on.
 -- Assumes nothing.
-use Prim.Native.Nat.{ℕ, zero, suc, _/_, _%_, _<_}
-use mathlib.Core.Path.{_≡_, refl, sym, _∙_, ap}
+use Prim.Native.Nat.{ℕ, zero, suc, _+_, _-_, _/_, _%_, _≤_, _<_}
+use mathlib.Core.Path.{_≡_, refl, sym, _∙_, ap, subst}
 use mathlib.Core.Logic.{_↔_}
-use mathlib.Core.Bool.{Bool, true, false, cond}
+use mathlib.Core.Bool.{Bool, true, false, _||_, cond}
 use mathlib.Core.Option.{Option, none, some}
-use mathlib.Core.List.{List, [], _∷_}
+use mathlib.Core.List.{List, [], _∷_, _++_, map}
+use native.Mathlib.Nat.{le-refl}
 use native.Mathlib.Omega.{arith}
-use lib.Dec.{ltb}
-use lib.ListN.{getD, take}
-use borrow.Author.Tests.{lt-ltb, ltb-true}
+use lib.Dec.{ltb, eqb}
+use lib.ListN.{length, getD, take, replicate, length-append, length-replicate}
+use lib.Seq.{set-getD}
+use borrow.Author.Tests.{lt-ltb, ltb-true, eqb-true}
 use Rattle.model.specs.declared.Settings.{Settings}
 use Rattle.model.specs.declared.Request.{Request}
-use Rattle.model.specs.Bounded.{every, isSome}
+use Rattle.model.specs.declared.Answer.{Answer}
+use Rattle.model.specs.declared.Answer.the-variants.{Done}
+use Rattle.model.specs.Bounded.{every, isSome, within}
 use Rattle.model.specs.Site.{validSettings}
-use Rattle.model.specs.State.{State, Lunch, Pairs, hotels, rides, attends, confs, lunches}
+use Rattle.model.specs.State.{State, emptyState, Lunch, Pairs, hotels, rides, attends, confs, lunches}
+use Rattle.model.specs.Kinds.{kindOf, Kind.removeVisitor}
+use Rattle.model.specs.Questions.{ask, test, bookings, Question.bBelow}
 use Rattle.model.specs.Words.{diaryLength, address, confPairs, lunchTriples}
-use Rattle.model.specs.Machine.{Run, run}
+use Rattle.model.specs.Machine.{Outcome, change, value, step, steps, mostChanges, isChange, told, Run, run}
 use Rattle.model.specs.Reading.{holds, readState, stateOf, settingsOf}
 use Rattle.model.specs.Tail.{emptyTail}
 use Rattle.model.specs.Ledger.{Ledger, emptyLedger, bookWords, diaryOf, ledgerOf}
 use Rattle.model.specs.Calls.{Calls, calls, freshBook}
+use Rattle.model.specs.Seen.{lastWord, withLast, withChanges}
 use Rattle.model.proofs.Search.{and-true, and-left, and-right}
 use Rattle.model.proofs.Laws.{Sound, Bounds}
 use Rattle.model.proofs.ReadBack.{Valid, valid-is}
 use Rattle.model.proofs.Lengths.{sessions-le, times-le}
-use Rattle.model.proofs.Ledger.{ledgerOf-words}
-use Rattle.model.proofs.Calls.{empty-ledger, from-fresh, run-sound}
-use Rattle.model.proofs.Runs.{sent, run-sent}
-use Rattle.model.proofs.Shows.{Shows, Passes, passes-shows, shows-passes}
+use Rattle.model.proofs.Ledger.{LedgerSound}
+use Rattle.model.proofs.Calls.{empty-sound, empty-ledger, from-fresh, run-sound}
+use Rattle.model.proofs.Done.{ask-whole}
+use Rattle.model.proofs.Removal.{removed-bookings, nothing-removed}
+use Rattle.model.proofs.Again.{fits-by, performs}
+use Rattle.model.proofs.Runs.{AllZero, zero-append, sent, stepsRun, run-sent}
+use Rattle.model.proofs.Shows.{Shows, Passes, passes-shows, shows-passes, shown-is}
+use Rattle.model.proofs.Effect.{all-done}
+use Rattle.model.proofs.Raised.{last-changes, words-with, any-count-shows, any-count}
 use Rattle.model.proofs.Reachable.{Stage, toLeave, toStanding, toHotel, toRide, toAttend, toConf, toLunch}
-use Rattle.model.proofs.Reachable.{adding, addIf, addConfIf, addLunchIf, entry, entriesOf, Made, made-each, built}
+use Rattle.model.proofs.Reachable.{adding, addIf, addConfIf, addLunchIf, entry, entriesOf, Made, made-each, built, few-entries, addsEntry}
+use Rattle.model.proofs.Reachable.{oneEntry, one-entry-each}
 
 -- a number that is a 32-bit word, and a request of seven such words
 abbrev pub isWord : ℕ → Bool
@@ -201,6 +215,74 @@ module _ (x : State) (s : Sound x) (infos : (i c m w : ℕ) → x .conf i c m �
   words-each : every ofWords (entriesOf x) ≡ true
   words-each = made-each x ofWords made
 
+-- ---- a request that is done and changes no set
+
+-- visitor 0 is removed on date 0
+abbrev pub idle : Request
+idle = record { kind = 3; a = 0; b = 0; first = 0; last = 0; n = 0; info = 0 }
+
+-- on an empty diary there is nothing to remove: it is done, and leaves every set empty
+idle-done : (S : Settings) → validSettings S ≡ true → step (emptyState S) idle ≡ record { answer = Done 0; state = emptyState S }
+unfolding kindOf ask test value emptyState
+idle-done S e =
+    let x : State = emptyState S in
+    let v : Valid S = valid-is S e in
+    let same : change x idle removeVisitor ≡ x = nothing-removed x idle (empty-sound S e) (λ d l h. refl) in
+    performs x idle removeVisitor refl (
+      refl,
+      (
+        refl,
+        (
+          ask-whole x idle removeVisitor bBelow refl (lt-ltb 0 (S .visitors) (omega (arith, v .visitors))),
+          (fits-by x idle removeVisitor (le-refl 0) (omega (arith, v .dates)) refl, tt),
+        ),
+      ),
+    )
+    tt 0 x (sym (ap (λ (z : State). bookings z 0 0 0) same) ∙ removed-bookings x idle) same
+
+idles : (S : Settings) → validSettings S ≡ true → (k : ℕ) → AllZero (steps (emptyState S) (replicate k idle)) k (emptyState S)
+unfolding steps
+idles S e zero = record { answers = refl; state = refl }
+idles S e (suc k) =
+    subst (λ (o : Outcome).
+    AllZero (record { answers = o .answer ∷ steps (o .state) (replicate k idle) .answers; state = steps (o .state) (replicate k idle) .state }) (suc k) (emptyState S))
+    (sym (idle-done S e))
+    (record { answers = ap (λ (l : List Answer). Done 0 ∷ l) (idles S e k .answers); state = idles S e k .state })
+
+every-append : {A : Type 0} (f : A → Bool) (l m : List A) → every f l ≡ true → every f m ≡ true → every f (l ++ m) ≡ true
+every-append f [] m e g = g
+every-append f (a ∷ l) m e g = and-true (and-left (f a) _ e) (every-append f l m (and-right (f a) _ e) g)
+
+every-replicate : (f : Request → Bool) (k : ℕ) (r : Request) → f r ≡ true → every f (replicate k r) ≡ true
+every-replicate f zero r e = refl
+every-replicate f (suc k) r e = and-true e (every-replicate f k r e)
+
+-- the requests for entries are changes
+entries-change : (x : State) → every isChange (entriesOf x) ≡ true
+entries-change x = go (entriesOf x) (one-entry-each x)
+  where
+    either : (a b : Bool) {A : Type 0} → a || b ≡ true → (a ≡ true → A) → (b ≡ true → A) → A
+    either true b e f g = f refl
+    either false b e f g = g e
+
+    by : (k n : ℕ) → within 1 16 n ≡ true → eqb k n ≡ true → within 1 16 k ≡ true
+    by k n w e = ap (within 1 16) (eqb-true k n e) ∙ w
+
+    adds : (k : ℕ) → addsEntry k ≡ true → within 1 16 k ≡ true
+    adds k e =
+        either _ _ e
+        (λ e. either _ _ e
+        (λ e. either _ _ e
+        (λ e. either _ _ e
+        (λ e. either _ _ e
+        (λ e. either _ _ e (by k 1 refl) (by k 8 refl)) (by k 4 refl)) (by k 6 refl)) (by k 10 refl)) (by k 12 refl)) (by k 14 refl)
+
+    go : (rs : List Request) → every oneEntry rs ≡ true → every isChange rs ≡ true
+    go [] e = refl
+    go (r ∷ rs) e = and-true (adds (r .kind) (and-right (eqb (r .first) (r .last)) _ (and-left (oneEntry r) _ e))) (go rs (and-right (oneEntry r) _ e))
+
+-- ---- books
+
 -- the book after a list of requests of 32-bit words on a fresh book of valid settings
 pub record Reached (b : List ℕ) : Type 0 where
   pub settings : Settings
@@ -209,43 +291,113 @@ pub record Reached (b : List ℕ) : Type 0 where
   pub small : every ofWords list ≡ true
   pub book : calls (freshBook settings) (sent list) .book ≡ b
 
+-- all of them are done, and the count is how many they are
+pub record Built (b : List ℕ) : Type 0 where
+  pub reached : Reached b
+  pub done : calls (freshBook (reached .settings)) (sent (reached .list)) .replies ≡ map told (replicate (length (reached .list)) (Done 0))
+  pub count : lastWord b ≡ length (reached .list)
+
+-- the requests for the entries of a sound ledger with an empty tail, behind k that change nothing
+module _ (l : Ledger) (s : LedgerSound l) (t : l .tail ≡ emptyTail) (k : ℕ) (fit : k + length (entriesOf (l .diary)) ≤ mostChanges) where
+  x : State
+  x = l .diary
+
+  S : Settings
+  S = x .settings
+
+  rs : List Request
+  rs = replicate k idle ++ entriesOf x
+
+  long : length rs ≡ k + length (entriesOf x)
+  unfolding x rs
+  long = length-append (replicate k idle) (entriesOf x) ∙ ap (λ (n : ℕ). n + length (entriesOf x)) (length-replicate {A = Request} k idle)
+
+  through : run (emptyLedger S) (sent rs)
+      ≡ record { replies = map told (replicate (length rs) (Done 0)); ledger = withChanges l (length rs) }
+  unfolding emptyLedger x S rs
+  through =
+      let a : AllZero (steps (emptyState S) rs) (k + length (entriesOf x)) x
+      = zero-append (emptyState S) (emptyState S) x (replicate k idle) (entriesOf x) k _ (idles S (s .diary .valid) k) (built x (s .diary)) in
+      let z : 0 + length rs ≡ length rs = omega arith in
+      run-sent (emptyLedger S) rs
+      ∙ ap (stepsRun emptyTail)
+      (all-done (emptyState S) 0 rs (every-append isChange (replicate k idle) (entriesOf x) (every-replicate isChange k idle refl) (entries-change x))
+      (a .answers ∙ ap (λ (n : ℕ). replicate n (Done 0)) (sym long)) (omega (arith, fit, long)))
+      ∙ (λ i. record { replies = map told (replicate (length rs) (Done 0)); ledger = record { diary = a .state i; tail = sym t i; changes = z i } })
+
+  build : every ofWords (entriesOf (l .diary)) ≡ true → Built (bookWords (withChanges l (k + length (entriesOf (l .diary)))))
+  unfolding x S rs
+  build w =
+      let f = from-fresh S (s .diary .valid) (sent rs) in
+      let e : calls (freshBook S) (sent rs) .book ≡ bookWords (withChanges l (k + length (entriesOf x)))
+      = ap (λ (c : Calls). c .book) f ∙ ap (λ (u : Run). bookWords (u .ledger)) through ∙ ap (λ (n : ℕ). bookWords (withChanges l n)) long in
+      record {
+        reached =
+            record {
+              settings = S;
+              valid = s .diary .valid;
+              list = rs;
+              small = every-append ofWords (replicate k idle) (entriesOf x) (every-replicate ofWords k idle refl) w;
+              book = e;
+            };
+        done = ap (λ (c : Calls). c .replies) f ∙ ap (λ (u : Run). u .replies) through;
+        count = last-changes (withChanges l (k + length (entriesOf x))) ∙ sym long;
+      }
+
+-- every book after a list of requests passes questions 1 and 2, and its ring is empty and the next place 0
+pub reached-passes : (b : List ℕ) → Reached b → Passes b × (ledgerOf b .tail ≡ emptyTail)
+unfolding emptyLedger
+reached-passes b h =
+    let l : Ledger = emptyLedger (h .settings) in
+    let m : Ledger = run l (sent (h .list)) .ledger in
+    let shows : Shows b m
+    = record {
+      sound = run-sound l (empty-ledger (h .settings) (h .valid)) (sent (h .list));
+      is = sym (h .book) ∙ ap (λ (c : Calls). c .book) (from-fresh (h .settings) (h .valid) (sent (h .list)));
+    } in (
+      shows-passes b m shows,
+      ap (λ (l : Ledger). l .tail) (shown-is b m shows) ∙ ap (λ (u : Run). u .ledger .tail) (run-sent l (h .list)),
+    )
+
+module _ (b : List ℕ) (w : every isWord b ≡ true) (q : Passes b) (t : ledgerOf b .tail ≡ emptyTail) where
+  entries-words : every ofWords (entriesOf (ledgerOf b .diary)) ≡ true
+  unfolding ledgerOf
+  entries-words = words-each (ledgerOf b .diary) (passes-shows b q .sound .diary) (info-word (diaryOf b) (words-in b w)) (lunch-words (diaryOf b) (words-in b w))
+
+  entries : ℕ
+  entries = length (entriesOf (ledgerOf b .diary))
+
+  few : entries ≤ mostChanges
+  unfolding entries
+  few = omega (arith, few-entries (ledgerOf b .diary) (passes-shows b q .sound .diary .valid))
+
+  -- with the count that is the number of its entries, and with every greater one, a book is built by requests that are all done, as
+  -- many as the count says: 30 comes nowhere on the way
+  pub builds : length (entriesOf (ledgerOf b .diary)) ≤ lastWord b → Built b
+  unfolding entries
+  builds h =
+      let c : lastWord b < 4294967296 = word-at b (length b - 1) w in
+      let k : lastWord b - entries + entries ≡ lastWord b = omega (arith, h) in
+      let e : bookWords (withChanges (ledgerOf b) (lastWord b - entries + entries)) ≡ b
+      = words-with b q (lastWord b - entries + entries) ∙ ap (withLast b) k ∙ set-getD b (length b - 1) 0 in
+      subst Built e
+      (build (ledgerOf b) (passes-shows b q .sound) t (lastWord b - entries) (omega (arith, c, h)) entries-words)
+
+  pub builds-with : Built (withLast b (length (entriesOf (ledgerOf b .diary))))
+  unfolding entries
+  builds-with =
+      let k : 0 + entries ≡ entries = omega arith in
+      subst Built (words-with b q (0 + entries) ∙ ap (withLast b) k)
+      (build (ledgerOf b) (passes-shows b q .sound) t 0 (omega (arith, few)) entries-words)
+
 -- "A book of 32-bit words passes questions 1 and 2, its ring is empty and the next place 0, exactly when a list of requests without orders
--- leads to it from a fresh book." Of a ring the law asks less: it may have gaps, and answers that no request got.
-pub passes-iff-reached : (b : List ℕ) → every isWord b ≡ true → (Passes b × (ledgerOf b .tail ≡ emptyTail)) ↔ Reached b
-unfolding ledgerOf emptyLedger
-passes-iff-reached b w = (λ p. to (p .0) (p .1), λ h. (from h, unordered h))
+-- leads to it from a fresh book, but for the change count": with some last word, and by `builds` with every one from the number of its
+-- entries on. Of a ring the law asks less: it may have gaps, and answers that no request got; of a count it asks nothing.
+pub passes-iff-reached : (b : List ℕ) → every isWord b ≡ true → (Passes b × (ledgerOf b .tail ≡ emptyTail)) ↔ ((n : ℕ) × Reached (withLast b n))
+passes-iff-reached b w = (λ p. (length (entriesOf (ledgerOf b .diary)), builds-with b w (p .0) (p .1) .reached), λ h. from (h .0) (h .1))
   where
-    to : Passes b → ledgerOf b .tail ≡ emptyTail → Reached b
-    to q t =
-        let l : Ledger = ledgerOf b in
-        let x : State = l .diary in
-        let h : Shows b l = passes-shows b q in
-        let e : run (emptyLedger (x .settings)) (sent (entriesOf x)) .ledger ≡ l
-        = ap (λ (u : Run). u .ledger) (run-sent (emptyLedger (x .settings)) (entriesOf x))
-        ∙ (λ i. record { diary = built x (h .sound .diary) .state i; tail = sym t i }) in
-        record {
-          settings = x .settings;
-          valid = h .sound .diary .valid;
-          list = entriesOf x;
-          small = words-each x (h .sound .diary) (info-word (diaryOf b) (words-in b w)) (lunch-words (diaryOf b) (words-in b w));
-          book =
-              ap (λ (c : Calls). c .book) (from-fresh (x .settings) (h .sound .diary .valid) (sent (entriesOf x))) ∙ ap bookWords e
-              ∙ sym (h .is);
-        }
-
-    from : Reached b → Passes b
-    from h =
-        shows-passes b (run (emptyLedger (h .settings)) (sent (h .list)) .ledger)
-        (record {
-          sound = run-sound (emptyLedger (h .settings)) (empty-ledger (h .settings) (h .valid)) (sent (h .list));
-          is = sym (h .book) ∙ ap (λ (c : Calls). c .book) (from-fresh (h .settings) (h .valid) (sent (h .list)));
-        })
-
-    unordered : Reached b → ledgerOf b .tail ≡ emptyTail
-    unordered h =
-        let l : Ledger = emptyLedger (h .settings) in
-        let s : Ledger = run l (sent (h .list)) .ledger in
-        ap (λ (b : List ℕ). ledgerOf b .tail)
-        (sym (h .book) ∙ ap (λ (c : Calls). c .book) (from-fresh (h .settings) (h .valid) (sent (h .list))))
-        ∙ ap (λ (l : Ledger). l .tail) (ledgerOf-words s (run-sound l (empty-ledger (h .settings) (h .valid)) (sent (h .list))))
-        ∙ ap (λ (u : Run). u .ledger .tail) (run-sent l (h .list))
+    from : (n : ℕ) → Reached (withLast b n) → Passes b × (ledgerOf b .tail ≡ emptyTail)
+    from n h =
+        let p = reached-passes (withLast b n) h in
+        let q : Passes b = any-count b n .1 (p .0) in
+        (q, sym (ap (λ (l : Ledger). l .tail) (shown-is (withLast b n) (withChanges (ledgerOf b) n) (any-count-shows b q n))) ∙ p .1)

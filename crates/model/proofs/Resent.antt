@@ -18,15 +18,17 @@ use Rattle.model.specs.declared.Answer.{Answer}
 use Rattle.model.specs.declared.Answer.the-variants.{Done, Refused}
 use Rattle.model.specs.Bounded.{isSome}
 use Rattle.model.specs.Site.{validSettings}
-use Rattle.model.specs.Messages.{orderLength, sameRequest}
+use Rattle.model.specs.Messages.{answerWords, orderLength, sameRequest}
 use Rattle.model.specs.Tail.{Entry, ringPlaces, entryAt, keptAt, placeAfter, keep, emptyTail}
 use Rattle.model.specs.Reading.{settingsOf}
 use Rattle.model.specs.Ledger.{Ledger, emptyLedger, bookLength, bookWords, ledgerOf}
-use Rattle.model.specs.Machine.{step, Call, ordered, party, Reply, told, replyWords, Performed, stepped, answerOrder, perform, Run, run}
+use Rattle.model.specs.Machine.{countedStep, Call, ordered, party, ask, commit, Reply, told, asked, Performed, stepped, answerOrder}
+use Rattle.model.specs.Machine.{answerCommit, perform, Run, run}
 use Rattle.model.specs.Calls.{Calls, calls, freshBook, settingsGood, callsOf, repliesWords, answerable, Listed, listed, callList, shownBy, serveList}
 use Rattle.model.specs.Resent.{IsKept, Kept, KeptThrough, isNew, newOrders, Sending, once, again, allSent, onceSent, WhileKept, onceReplied, onceAnswered}
 use Rattle.model.proofs.Search.{and-true}
-use Rattle.model.proofs.Told.{reply-long}
+use Rattle.model.proofs.Told.{answer-long}
+use Rattle.model.proofs.Counting.{answerTo}
 use Rattle.model.proofs.Tail.{empty-at, kept-there, kept-else, here-or-not, none-kept, kept-first, kept-place, kept-order, kept-by, not-kept}
 use Rattle.model.proofs.Ledger.{LedgerSound}
 use Rattle.model.proofs.Calls.{kept-leaves, perform-sound, empty-ledger}
@@ -81,7 +83,7 @@ sent-otherwise l n r q a k f =
 -- an order kept anew: its entry, and the places after it is kept
 module _ (l : Ledger) (s : LedgerSound l) (m : ℕ) (q : Request) (new : keptAt (l .tail) (suc m) ≡ none) where
   abbrev entry : Entry
-  entry = record { order = suc m; request = q; answer = step (l .diary) q .answer }
+  entry = record { order = suc m; request = q; answer = answerTo l q }
 
   there : entryAt (keep (l .tail) entry) (l .tail .next) ≡ entry
   there = kept-there (l .tail) (s .tail) entry
@@ -95,7 +97,7 @@ module _ (l : Ledger) (s : LedgerSound l) (m : ℕ) (q : Request) (new : keptAt 
       (λ j h e. none-kept (l .tail) m new j (omega (arith, h, s .tail .next)) (sym (ap (λ (e : Entry). e .order) (else j (λ z. omega (arith, h, z)))) ∙ e))
 
   -- the new one
-  pub is-first : Kept (stepped (keep (l .tail) entry) (step (l .diary) q) .ledger) (suc m) q (step (l .diary) q .answer)
+  pub is-first : Kept (stepped (keep (l .tail) entry) (countedStep (l .diary) (l .changes) q) .ledger) (suc m) q (answerTo l q)
   is-first =
       record {
         place = l .tail .next;
@@ -140,7 +142,7 @@ module _ (l : Ledger) (s : LedgerSound l) (m : ℕ) (q : Request) (new : keptAt 
 
   module _ (n : ℕ) (r : Request) (a : Answer) where
     pub others-stay : Kept l n r a
-        → (keptAt (keep (l .tail) entry) n ≡ none) ⊎ Kept (stepped (keep (l .tail) entry) (step (l .diary) q) .ledger) n r a
+        → (keptAt (keep (l .tail) entry) n ≡ none) ⊎ Kept (stepped (keep (l .tail) entry) (countedStep (l .diary) (l .changes) q) .ledger) n r a
     others-stay k =
         here-or-not (k .place) (l .tail .next) (λ e. inl (gone n (k .place) (k .at) e))
         (λ h.
@@ -153,11 +155,11 @@ module _ (l : Ledger) (s : LedgerSound l) (m : ℕ) (q : Request) (new : keptAt 
         }))
 
     -- and what is kept then was kept before, or is the new one
-    pub kept-before : Kept (stepped (keep (l .tail) entry) (step (l .diary) q) .ledger) n r a
-        → Kept l n r a ⊎ ((suc m ≡ n) × (q ≡ r) × (step (l .diary) q .answer ≡ a))
+    pub kept-before : Kept (stepped (keep (l .tail) entry) (countedStep (l .diary) (l .changes) q) .ledger) n r a
+        → Kept l n r a ⊎ ((suc m ≡ n) × (q ≡ r) × (answerTo l q ≡ a))
     kept-before k = here-or-not (k .place) (l .tail .next) (λ e. inr (this e)) (λ h. inl (before h))
       where
-        this : k .place ≡ l .tail .next → (suc m ≡ n) × (q ≡ r) × (step (l .diary) q .answer ≡ a)
+        this : k .place ≡ l .tail .next → (suc m ≡ n) × (q ≡ r) × (answerTo l q ≡ a)
         this e =
             let w : entry ≡ entryAt (keep (l .tail) entry) (k .place) = sym there ∙ ap (entryAt (keep (l .tail) entry)) (sym e) in (
               ap (λ (e : Entry). e .order) w ∙ kept-order (keep (l .tail) entry) n (k .at),
@@ -180,9 +182,9 @@ module _ (l : Ledger) (s : LedgerSound l) (m : ℕ) (q : Request) (new : keptAt 
 
 -- an order that is not kept gets the answer of its request, and is then kept with it
 pub first-kept : (l : Ledger) → LedgerSound l → (n : ℕ) (r : Request) → keptAt (l .tail) (suc n) ≡ none
-    → (perform l (ordered (suc n) r) .reply ≡ told (step (l .diary) r .answer)) × Kept (perform l (ordered (suc n) r) .ledger) (suc n) r (step (l .diary) r .answer)
+    → (perform l (ordered (suc n) r) .reply ≡ told (answerTo l r)) × Kept (perform l (ordered (suc n) r) .ledger) (suc n) r (answerTo l r)
 first-kept l s n r o =
-    subst (λ (p : Performed). (p .reply ≡ told (step (l .diary) r .answer)) × Kept (p .ledger) (suc n) r (step (l .diary) r .answer))
+    subst (λ (p : Performed). (p .reply ≡ told (answerTo l r)) × Kept (p .ledger) (suc n) r (answerTo l r))
     (sym (ap (answerOrder l (suc n) r) o))
     (refl, is-first l s n r o)
 
@@ -195,7 +197,7 @@ module _ (l : Ledger) (s : LedgerSound l) (n : ℕ) (r : Request) (a : Answer) (
   after-order zero q none e h = record { place = k .place; at = k .at; request = k .request; answer = k .answer }
   after-order (suc m) q none e h = go (others-stay l s m q e n r a k)
     where
-      go : (keptAt (keep (l .tail) (record { order = suc m; request = q; answer = step (l .diary) q .answer })) n ≡ none)
+      go : (keptAt (keep (l .tail) (record { order = suc m; request = q; answer = answerTo l q })) n ≡ none)
           ⊎ Kept (answerOrder l (suc m) q none .ledger) n r a
           → Kept (answerOrder l (suc m) q none .ledger) n r a
       go (inl z) = absurd (false≢true (sym (ap isSome z) ∙ h))
@@ -204,6 +206,12 @@ module _ (l : Ledger) (s : LedgerSound l) (n : ℕ) (r : Request) (a : Answer) (
   pub kept-after : (c : Call) → IsKept (perform l c .ledger) n → Kept (perform l c .ledger) n r a
   kept-after (ordered m q) h = after-order m q (keptAt (l .tail) m) refl h
   kept-after (party m gs) h = record { place = k .place; at = k .at; request = k .request; answer = k .answer }
+  kept-after (ask q) h = k
+  kept-after (commit m q) h = go (eqb m (l .changes)) h
+    where
+      go : (t : Bool) → IsKept (answerCommit l t q .ledger) n → Kept (answerCommit l t q .ledger) n r a
+      go true h = after-order 0 q none refl h
+      go false h = k
 
 -- so that an order kept through a list of calls gets at its end the answer that it got when it was sent
 pub kept-through : (l : Ledger) → LedgerSound l → (n : ℕ) (r : Request) (a : Answer) → Kept l n r a → (cs : List Call) → KeptThrough l n cs
@@ -228,7 +236,7 @@ module _ (n : ℕ) (r : Request) (a : Answer) where
   before-order l s zero q none e k = inl (record { place = k .place; at = k .at; request = k .request; answer = k .answer })
   before-order l s (suc m) q none e k = go (kept-before l s m q e n r a k)
     where
-      go : Kept l n r a ⊎ ((suc m ≡ n) × (q ≡ r) × (step (l .diary) q .answer ≡ a))
+      go : Kept l n r a ⊎ ((suc m ≡ n) × (q ≡ r) × (answerTo l q ≡ a))
           → Kept l n r a ⊎ ((ordered (suc m) q ≡ ordered n r) × (keptAt (l .tail) n ≡ none) × (answerOrder l (suc m) q none .reply ≡ told a))
       go (inl k) = inl k
       go (inr p) = inr (ap₂ ordered (p .0) (p .1), ap (keptAt (l .tail)) (sym (p .0)) ∙ e, ap told (p .2))
@@ -237,6 +245,12 @@ module _ (n : ℕ) (r : Request) (a : Answer) where
       → Kept l n r a ⊎ ((c ≡ ordered n r) × (keptAt (l .tail) n ≡ none) × (perform l c .reply ≡ told a))
   before-call l s (ordered m q) k = before-order l s m q (keptAt (l .tail) m) refl k
   before-call l s (party m gs) k = inl (record { place = k .place; at = k .at; request = k .request; answer = k .answer })
+  before-call l s (ask q) k = inl k
+  before-call l s (commit m q) k = inl (go (eqb m (l .changes)) k)
+    where
+      go : (t : Bool) → Kept (answerCommit l t q .ledger) n r a → Kept l n r a
+      go true k = record { place = k .place; at = k .at; request = k .request; answer = k .answer }
+      go false k = k
 
   pub kept-was-sent : (l : Ledger) → LedgerSound l → (cs : List Call) → Kept (run l cs .ledger) n r a → Kept l n r a ⊎ Sent l cs n r a
   unfolding run
@@ -322,6 +336,12 @@ module _ (n p : ℕ) where
       → (j : ℕ) × (m ≤ j) × Stands (perform l c .ledger) n p j
   unfolding keep
   after-call l s k m h (party q gs) e = (k, omega (arith, e), record { at = h .at; most = h .most; before = h .before })
+  after-call l s k m h (ask q) e = (k, omega (arith, e), h)
+  after-call l s k m h (commit i q) e = (k, omega (arith, e), go (eqb i (l .changes)))
+    where
+      go : (t : Bool) → Stands (answerCommit l t q .ledger) n p k
+      go true = record { at = h .at; most = h .most; before = h .before }
+      go false = h
   after-call l s k m h (ordered zero q) e = (k, omega (arith, e), record { at = h .at; most = h .most; before = h .before })
   after-call l s k m h (ordered (suc i) q) e = go (keptAt (l .tail) (suc i)) refl k e h
     where
@@ -364,7 +384,7 @@ unfolding run
 once-done l s n r new cs e =
     let l′ : Ledger = perform l (ordered (suc n) r) .ledger in
     let first = first-kept l s n r new in
-    let a : Answer = step (l .diary) r .answer in
+    let a : Answer = answerTo l r in
     let k : Kept (run l′ cs .ledger) (suc n) r a
     = kept-through l′ (perform-sound l s (ordered (suc n) r)) (suc n) r a (first .1) cs (kept-behind l s n r new cs e) in
     sent-again (run l′ cs .ledger) (suc n) r a k ∙ ap (λ (o : Reply). record { reply = o; ledger = run l′ cs .ledger }) (sym (first .0))
@@ -398,21 +418,54 @@ pub resent-fresh : (S : Settings) → validSettings S ≡ true → (ss : List Se
     → Resent ss (calls (freshBook S) (allSent ss)) (calls (freshBook S) (onceSent ss))
 resent-fresh S e ss k = resent-book (freshBook S) (emptyLedger S) (fresh-shows S e) ss k
 
--- the words of the replies
-replies-long : (rs : List Reply) → length (repliesWords rs) ≡ 3 * length rs
-unfolding repliesWords
-replies-long [] = refl
-replies-long (p ∷ rs) = length-append (replyWords p) (repliesWords rs) ∙ omega (arith, reply-long p, replies-long rs)
+-- The words of the replies. A list of words holds requests, with orders or without, and no other calls: each reply is an answer alone,
+-- of three words.
+abbrev AllTold : List Reply → Type 0
+AllTold [] = Unit {0}
+AllTold (told a ∷ rs) = AllTold rs
+AllTold (asked a n ∷ rs) = ⊥
 
-words-once : (ss : List Sending) (rs : List Reply) → length rs ≡ length ss → (w : List ℕ)
+abbrev AllOrders : List Call → Type 0
+AllOrders [] = Unit {0}
+AllOrders (ordered n r ∷ cs) = AllOrders cs
+AllOrders (party m gs ∷ cs) = ⊥
+AllOrders (ask r ∷ cs) = ⊥
+AllOrders (commit n r ∷ cs) = ⊥
+
+all-orders : (k n : ℕ) (w : List ℕ) → AllOrders (callsOf k n w)
+unfolding callsOf
+all-orders k zero w = tt
+all-orders k (suc n) w = all-orders k n (drop k w)
+
+all-told : (l : Ledger) (cs : List Call) → AllOrders cs → AllTold (run l cs .replies)
+unfolding run
+all-told l [] h = tt
+all-told l (ordered n r ∷ cs) h = go (keptAt (l .tail) n) (λ (m : Ledger). all-told m cs h)
+  where
+    go : (o : Option ℕ) → ((m : Ledger) → AllTold (run m cs .replies))
+        → AllTold (answerOrder l n r o .reply ∷ run (answerOrder l n r o .ledger) cs .replies)
+    go none later = later (answerOrder l n r none .ledger)
+    go (some i) later = later l
+all-told l (party m gs ∷ cs) h = absurd h
+all-told l (ask r ∷ cs) h = absurd h
+all-told l (commit n r ∷ cs) h = absurd h
+
+replies-long : (rs : List Reply) → AllTold rs → length (repliesWords rs) ≡ 3 * length rs
+unfolding repliesWords
+replies-long [] h = refl
+replies-long (told a ∷ rs) h = length-append (answerWords a) (repliesWords rs) ∙ omega (arith, answer-long a, replies-long rs h)
+replies-long (asked a n ∷ rs) h = absurd h
+
+words-once : (ss : List Sending) (rs : List Reply) → AllTold rs → length rs ≡ length ss → (w : List ℕ)
     → onceAnswered ss (repliesWords rs ++ w) ≡ repliesWords (onceReplied ss rs)
 unfolding onceAnswered repliesWords
-words-once [] rs e w = refl
-words-once (s ∷ ss) [] e w = absurd (omega (arith, e))
-words-once (once c ∷ ss) (told (Done v) ∷ rs) e w = ap (λ (v′ : List ℕ). 0 ∷ 0 ∷ v ∷ v′) (words-once ss rs (omega (arith, e)) w)
-words-once (once c ∷ ss) (told (Refused n p) ∷ rs) e w = ap (λ (v : List ℕ). n ∷ p ∷ 0 ∷ v) (words-once ss rs (omega (arith, e)) w)
-words-once (again m r ∷ ss) (told (Done v) ∷ rs) e w = words-once ss rs (omega (arith, e)) w
-words-once (again m r ∷ ss) (told (Refused n p) ∷ rs) e w = words-once ss rs (omega (arith, e)) w
+words-once [] rs h e w = refl
+words-once (s ∷ ss) [] h e w = absurd (omega (arith, e))
+words-once (s ∷ ss) (asked a n ∷ rs) h e w = absurd h
+words-once (once c ∷ ss) (told (Done v) ∷ rs) h e w = ap (λ (v′ : List ℕ). 0 ∷ 0 ∷ v ∷ v′) (words-once ss rs h (omega (arith, e)) w)
+words-once (once c ∷ ss) (told (Refused n p) ∷ rs) h e w = ap (λ (v : List ℕ). n ∷ p ∷ 0 ∷ v) (words-once ss rs h (omega (arith, e)) w)
+words-once (again m r ∷ ss) (told (Done v) ∷ rs) h e w = words-once ss rs h (omega (arith, e)) w
+words-once (again m r ∷ ss) (told (Refused n p) ∷ rs) h e w = words-once ss rs h (omega (arith, e)) w
 
 run-long : (l : Ledger) (cs : List Call) → length (run l cs .replies) ≡ length cs
 unfolding run
@@ -435,16 +488,19 @@ pub record ResentWords (ss : List Sending) (n : ℕ) (all-listed once-listed : L
   pub book : all-listed .book ≡ once-listed .book
   pub answers : onceAnswered ss (all-listed .answers) ≡ take (3 * n) (once-listed .answers)
 
-resent-listed : (l : Ledger) (ss : List Sending) → WhileKept l ss → (m n : ℕ) → length (onceSent ss) ≡ n → (a c : List ℕ)
+resent-listed : (l : Ledger) (ss : List Sending) → WhileKept l ss → AllOrders (allSent ss) → AllOrders (onceSent ss) → (m n : ℕ)
+    → length (onceSent ss) ≡ n → (a c : List ℕ)
     → ResentWords ss n (listed m a (shownBy (run l (allSent ss)))) (listed n c (shownBy (run l (onceSent ss))))
-resent-listed l ss k m n e a c =
+resent-listed l ss k all-o once-o m n e a c =
     let r = resent l ss k in
     let rs : List Reply = run l (onceSent ss) .replies in
     record {
       book = ap bookWords (r .0);
       answers =
-          words-once ss (run l (allSent ss) .replies) (run-long l (allSent ss) ∙ sent-long ss) (drop (3 * m) a) ∙ ap repliesWords (r .1)
-          ∙ sym (take-at (repliesWords rs) (drop (3 * n) c) (3 * n) (omega (arith, replies-long rs, run-long l (onceSent ss), e)));
+          words-once ss (run l (allSent ss) .replies) (all-told l (allSent ss) all-o) (run-long l (allSent ss) ∙ sent-long ss) (drop (3 * m) a)
+          ∙ ap repliesWords (r .1)
+          ∙ sym (take-at (repliesWords rs) (drop (3 * n) c) (3 * n)
+          (omega (arith, replies-long rs (all-told l (onceSent ss) once-o), run-long l (onceSent ss), e)));
     }
 
 -- on a book that passes questions 1 and 2, and on a book laid anew
@@ -453,17 +509,23 @@ module _ (w v a c : List ℕ) (ss : List Sending) (all-words : callsOf orderLeng
   count : length (onceSent ss) ≡ answerable orderLength v c
   count = sym (ap length once-words) ∙ list-long orderLength (answerable orderLength v c) v
 
+  sent-orders : AllOrders (allSent ss)
+  sent-orders = subst AllOrders all-words (all-orders orderLength (answerable orderLength w a) w)
+
+  once-orders : AllOrders (onceSent ss)
+  once-orders = subst AllOrders once-words (all-orders orderLength (answerable orderLength v c) v)
+
   pub orders-resent : (b : List ℕ) → Passes b → WhileKept (ledgerOf b) ss
       → ResentWords ss (answerable orderLength v c) (callList orderLength b w a) (callList orderLength b v c)
   unfolding callList
   orders-resent b p k =
       let h : Shows b (ledgerOf b) = passes-shows b p in
       rw (p .one, p .two, all-words, once-words, shown-calls b (ledgerOf b) h (allSent ss), shown-calls b (ledgerOf b) h (onceSent ss))
-      (resent-listed (ledgerOf b) ss k (answerable orderLength w a) (answerable orderLength v c) count a c)
+      (resent-listed (ledgerOf b) ss k sent-orders once-orders (answerable orderLength w a) (answerable orderLength v c) count a c)
 
   pub served-resent : (s b : List ℕ) → settingsGood s ≡ true → length b ≡ bookLength (settingsOf s) → WhileKept (emptyLedger (settingsOf s)) ss
       → ResentWords ss (answerable orderLength v c) (serveList orderLength s b w a) (serveList orderLength s b v c)
   unfolding serveList
   served-resent s b g f k =
       rw (g, eq-eqb (length b) (bookLength (settingsOf s)) f, all-words, once-words)
-      (resent-listed (emptyLedger (settingsOf s)) ss k (answerable orderLength w a) (answerable orderLength v c) count a c)
+      (resent-listed (emptyLedger (settingsOf s)) ss k sent-orders once-orders (answerable orderLength w a) (answerable orderLength v c) count a c)

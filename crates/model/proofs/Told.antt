@@ -17,7 +17,7 @@ use Rattle.model.specs.Kinds.{Kind, kindOf}
 use Rattle.model.specs.Questions.{Question, number, always, further, ask, judge, refusal, Refusal}
 use Rattle.model.specs.Messages.{answerWords, toldBy}
 use Rattle.model.specs.Tail.{entryAt, keptAt}
-use Rattle.model.specs.Machine.{step, stepKind, finish, countedStep, ordered, keptAnswer, answerOrder, perform, replyWords}
+use Rattle.model.specs.Machine.{step, stepKind, finish, countedStep, ordered, keptAnswer, answerOrder, perform, told, replyWords}
 use Rattle.model.specs.Ledger.{Ledger}
 use Rattle.model.proofs.Search.{never}
 
@@ -50,6 +50,10 @@ reply-long l n r = go (keptAt (l .tail) n)
     go : (o : Option ℕ) → length (replyWords (answerOrder l n r o .reply)) ≡ 3
     go none = answer-long (countedStep (l .diary) (l .changes) r .answer)
     go (some i) = answer-long (keptAnswer (entryAt (l .tail) i) r)
+
+-- replies that tell the same tell the same answer
+pub same-told : {a a′ : Answer} → told a ≡ told a′ → a ≡ a′
+same-told e = cc
 
 -- what three words tell can be told, and is told by them
 pub told-tellable : (n p v : ℕ) → Tellable (toldBy n p v)
@@ -116,3 +120,47 @@ module _ (x : State) (r : Request) where
 
 pub step-tellable : (x : State) (r : Request) → Tellable (step x r .answer)
 step-tellable x r p e = let h : 0 < 0 = refused-number x r 0 p e in omega (arith, h)
+
+-- the questions of a request have numbers up to 22
+most-number : (q : Question) → number q < 23
+most-number Question.unusedZero = omega arith
+most-number Question.aBelow = omega arith
+most-number Question.bBelow = omega arith
+most-number Question.slotsFit = omega arith
+most-number Question.seatsFit = omega arith
+most-number Question.onLeave = omega arith
+most-number (Question.stands w) = omega arith
+most-number Question.standsThatDate = omega arith
+most-number (Question.absent p) = omega arith
+most-number (Question.free p) = omega arith
+most-number (Question.elsewhere p) = omega arith
+most-number Question.roomLeft = omega arith
+most-number (Question.present p) = omega arith
+most-number Question.hasConf = omega arith
+most-number Question.hasLunch = omega arith
+most-number Question.noBookings = omega arith
+most-number Question.notHeld = omega arith
+most-number Question.standsYet = omega arith
+most-number Question.attendsOne = omega arith
+most-number Question.roomFree = omega arith
+
+module _ (x : State) (r : Request) where
+  judged-most : (k : Kind) (qs : List Question) (f : Refusal) → judge x r k qs ≡ some f → f .number < 23
+  judged-most k [] f e = absurd (let z : _≡_ {A = ℕ} 0 1 = cc in omega arith)
+  judged-most k (q ∷ qs) f e = go (ask x r k q) e (judged-most k qs f)
+    where
+      go : (o : Option ℕ) → refusal q o (judge x r k qs) ≡ some f → (judge x r k qs ≡ some f → f .number < 23) → f .number < 23
+      go none h later = later h
+      go (some p) h later = let z : number q ≡ f .number = cc in omega (arith, most-number q, z)
+
+  pub refused-most : (n p : ℕ) → step x r .answer ≡ Refused n p → n < 23
+  unfolding step
+  refused-most n p e = of-kind (kindOf (r .kind)) e
+    where
+      of-kind : (o : Option Kind) → stepKind x r o .answer ≡ Refused n p → n < 23
+      of-kind none h = let z : 3 ≡ n = cc in omega (arith, z)
+      of-kind (some k) h = go (judge x r k (always ++ further k)) refl h
+        where
+          go : (o : Option Refusal) → judge x r k (always ++ further k) ≡ o → finish x r k o .answer ≡ Refused n p → n < 23
+          go none q h = absurd (let z : _≡_ {A = ℕ} 0 1 = cc in omega arith)
+          go (some f) q h = let z : f .number ≡ n = cc in omega (arith, judged-most k (always ++ further k) f q, z)

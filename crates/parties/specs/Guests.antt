@@ -2,18 +2,21 @@
 -- Assumes nothing.
 use Prim.Native.Nat.{ℕ, zero, suc, _+_, _*_, _≤_}
 use mathlib.Core.Path.{_≡_}
+use mathlib.Core.Bool.{cond}
 use mathlib.Core.List.{List, [], _∷_}
+use lib.Dec.{eqb}
 use lib.ListN.{length, getD, set, drop}
 use Rattle.model.specs.declared.Settings.{Settings}
 use Rattle.model.specs.declared.Request.{Request}
 use Rattle.model.specs.declared.Guest.{Guest}
 use Rattle.model.specs.declared.Answer.{Answer}
-use Rattle.model.specs.declared.Answer.the-variants.{Done}
+use Rattle.model.specs.declared.Answer.the-variants.{Done, Refused}
 use Rattle.model.specs.State.{State}
-use Rattle.model.specs.Machine.{step, joined}
+use Rattle.model.specs.Machine.{Outcome, step, joined, allOrNone, mostChanges, raise, stepped}
+use Rattle.model.specs.Reading.{stateOf}
 use Rattle.model.specs.Ledger.{ledgerOf}
-use Rattle.model.specs.Calls.{callParty}
-use Rattle.book.specs.Good.{GoodBook, answered}
+use Rattle.model.specs.Calls.{Called, called, callParty}
+use Rattle.book.specs.Good.{Good, answered}
 
 -- the guest that a list of words begins with, and the first n
 abbrev pub guestOf : List ℕ → Guest
@@ -48,22 +51,34 @@ pub data Reaches (x : State) (m : ℕ) (w : List ℕ) : ℕ → State → Type 0
   oneMore : (i : ℕ) (y z : State) → Reaches x m w i y → step y (guestRequest 10 m (drop (i * 3) w)) ≡ record { answer = Done 0; state = z }
       → Reaches x m w (suc i) z
 
--- the book b is the book a with the first i guests added
+-- the diary b is the diary a with the first i guests added
 pub record Within (S : Settings) (a : List ℕ) (m : ℕ) (w : List ℕ) (i : ℕ) (b : List ℕ) : Type 0 where
-  pub good : GoodBook S b
-  pub state : State
-  pub reaches : Reaches (ledgerOf a .diary) m w i state
-  pub shows : ledgerOf b ≡ record { diary = state; tail = ledgerOf a .tail }
+  pub good : Good S b
+  pub reaches : Reaches (stateOf a) m w i (stateOf b)
 
--- of n guests the first i are added to the book a, with the answer r, which leaves the book b
+-- of n guests the first i are added to the diary a, with the answer r, which leaves the diary b
 pub record Adds (S : Settings) (a : List ℕ) (m : ℕ) (w : List ℕ) (n i : ℕ) (r : Answer) (b : List ℕ) : Type 0 where
   pub within : Within S a m w i b
   pub few : i ≤ n
-  pub outcome : joined (ledgerOf a .diary) m (guestsOf n w) ≡ record { answer = r; state = within .state }
+  pub outcome : joined (stateOf a) m (guestsOf n w) ≡ record { answer = r; state = stateOf b }
 
--- a book b with n guests added becomes b′: the book that it was before them
+-- a diary b with n guests added becomes b′: the diary that it was before them
 abbrev pub TakenBack : Settings → ℕ → List ℕ → ℕ → List ℕ → List ℕ → Type 0
-TakenBack S m w n b b′ = (a : List ℕ) → GoodBook S a → Within S a m w n b → b′ ≡ a
+TakenBack S m w n b b′ = (a : List ℕ) → Good S a → Within S a m w n b → b′ ≡ a
+
+-- question 30 behind an answer, at a change count
+abbrev pub lastAsked : ℕ → Answer → Answer
+lastAsked n (Done v) = cond (eqb n mostChanges) (Refused 30 0) (Done v)
+lastAsked n (Refused k p) = Refused k p
+
+-- what the guests, all or none, make of the book a, with the count
+abbrev pub allIn : State → ℕ → List Guest → Outcome
+allIn x m gs = allOrNone x (joined x m gs)
+
+abbrev pub ofParty : List ℕ → ℕ → List Guest → Called
+ofParty a m gs =
+    let o = allIn (ledgerOf a .diary) m gs in
+    called (stepped (ledgerOf a .tail) (raise (ledgerOf a .diary) (ledgerOf a .changes) o (o .answer)))
 
 -- there are n guests, and where these are no more than 64 the words are theirs
 pub record Lent (n : ℕ) (w : List ℕ) (gs : List Guest) : Type 0 where

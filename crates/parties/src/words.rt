@@ -1,18 +1,22 @@
-// A party whose guests come as words, three a guest: each is added by a request of kind 10, and where one is refused those before are
-// taken back by requests of kind 11, the last one first. So a refusal leaves every word as it was, and no copy of the book is kept.
-use engine::list::answer_one;
+// A party whose guests come as words, three a guest: each is added by kind 10's own function, and where one is refused those before are
+// taken back by kind 11's, the last one first. So a refusal leaves every word as it was, and no copy of the book is kept. Both work on the
+// diary: the change count is raised once, when all the guests are in.
+use header::settings::diary_len;
 use header::settings::settings;
 use model::Answer;
 use model::Request;
 use model::Settings;
+use ring::changes::MOST_CHANGES;
+use ring::changes::count;
+use ring::changes::raise;
+use step::meetings::add_attend;
+use step::meetings::erase_attend;
 ghost use mathlib.Core.Path.{_≡_};
 ghost use Prim.Native.Nat.{_*_, _+_, _≤_};
 ghost use lib.ListN.{length, drop};
-ghost use Rattle.model.specs.Machine.{joined, stepped, allOrNone};
-ghost use Rattle.model.specs.Ledger.{ledgerOf};
-ghost use Rattle.model.specs.Calls.{called};
-ghost use Rattle.book.specs.Good.{GoodBook, answered};
-ghost use Rattle.parties.specs.Guests.{guestsOf, guestRequest, Adds, TakenBack, Parties};
+ghost use Rattle.book.specs.Good.{Good, GoodBook, answered};
+ghost use Rattle.book.specs.Lent.{reading};
+ghost use Rattle.parties.specs.Guests.{guestsOf, guestRequest, lastAsked, Adds, TakenBack, ofParty, Parties};
 
 // The kinds that add a visitor to a meeting and take them out again.
 const ADD_ATTEND: u32 = 10;
@@ -46,15 +50,15 @@ fn request_for(kind: u32, meeting: u32, records: &[u32], i: usize) -> Request
 }
 
 // Adds n guests one by one, up to the first who is refused.
-fn add_guests(book: &mut [u32], s: Settings, meeting: u32, records: &[u32], n: usize) -> Added
-    requires { ⌜ GoodBook s (now book) ⌝ }
+fn add_guests(diary: &mut [u32], s: Settings, meeting: u32, records: &[u32], n: usize) -> Added
+    requires { ⌜ Good s (reading (now diary)) ⌝ }
     requires { ⌜ n * 3 ≤ length (now records) ⌝ }
-    ensures { λ r. ⌜ Adds s (now (book .entry)) meeting (now (records .entry)) n (r .guests) (r .answer) (now (book .exit)) ⌝ }
+    ensures { λ r. ⌜ Adds s (reading (now (diary .entry))) meeting (now (records .entry)) n (r .guests) (r .answer) (reading (now (diary .exit))) ⌝ }
 {
     let mut i: usize = 0;
     while i < n {
         let r = request_for(ADD_ATTEND, meeting, records, i);
-        let a = answer_one(book, s, 0, r);
+        let a = add_attend(diary, s, r);
         if let Answer::Refused { number, place } = a {
             return Added {
                 guests: i,
@@ -70,35 +74,50 @@ fn add_guests(book: &mut [u32], s: Settings, meeting: u32, records: &[u32], n: u
 }
 
 // Takes the first n guests back: every word is as it was before they were added.
-fn take_back(book: &mut [u32], s: Settings, meeting: u32, records: &[u32], n: usize)
-    requires { ⌜ GoodBook s (now book) ⌝ }
+fn take_back(diary: &mut [u32], s: Settings, meeting: u32, records: &[u32], n: usize)
+    requires { ⌜ Good s (reading (now diary)) ⌝ }
     requires { ⌜ n * 3 ≤ length (now records) ⌝ }
-    ensures { λ _. ⌜ TakenBack s meeting (now (records .entry)) n (now (book .entry)) (now (book .exit)) ⌝ }
+    ensures { λ _. ⌜ TakenBack s meeting (now (records .entry)) n (reading (now (diary .entry))) (reading (now (diary .exit))) ⌝ }
 {
     let mut i = n;
     while i > 0 {
         i -= 1;
         let r = request_for(ERASE_ATTEND, meeting, records, i);
-        answer_one(book, s, 0, r);
+        erase_attend(diary, s, r);
     }
 }
 
-// All n guests or none.
+// Question 30, behind all the guests: a party that is done is refused where the count cannot rise.
+fn last_asked(answer: Answer, changes: u32) -> Answer
+    ensures { λ a. ⌜ a ≡ lastAsked changes answer ⌝ }
+{
+    if let Answer::Refused { number, place } = answer {
+        return Answer::Refused { number, place };
+    }
+    if changes == MOST_CHANGES {
+        return Answer::Refused {
+            number: 30,
+            place: 0,
+        };
+    }
+    answer
+}
+
+// All n guests and one change more, or none.
 fn join(book: &mut [u32], s: Settings, meeting: u32, records: &[u32], n: usize) -> Answer
     requires { ⌜ GoodBook s (now book) ⌝ }
     requires { ⌜ n * 3 ≤ length (now records) ⌝ }
-    ensures { λ a. ⌜
-        answered a (now (book .exit))
-        ≡ called (stepped (ledgerOf (now (book .entry)) .tail)
-        (allOrNone (ledgerOf (now (book .entry)) .diary) (joined (ledgerOf (now (book .entry)) .diary) meeting (guestsOf n (now (records .entry))))))
-        ⌝ }
+    ensures { λ a. ⌜ answered a (now (book .exit)) ≡ ofParty (now (book .entry)) meeting (guestsOf n (now (records .entry))) ⌝ }
 {
-    let added = add_guests(book, s, meeting, records, n);
-    let answer = added.answer;
+    let diary = diary_len(s);
+    let changes = count(book);
+    let added = add_guests(&mut book[..diary], s, meeting, records, n);
+    let answer = last_asked(added.answer, changes);
     if let Answer::Refused { number, place } = answer {
-        take_back(book, s, meeting, records, added.guests);
+        take_back(&mut book[..diary], s, meeting, records, added.guests);
         return Answer::Refused { number, place };
     }
+    raise(book, changes);
     answer
 }
 

@@ -1,5 +1,7 @@
 // The ring of kept orders, which stands behind the diary: where an order is kept, the answer to one that is, and keeping one. Every
-// function is lent the tail of a book: the entries, eleven words each, and behind them the next place.
+// function here is lent the tail of a book: the entries, eleven words each, and behind them the next place. Behind the tail stands the
+// change count (`changes`).
+pub mod changes;
 pub mod law;
 
 use book::found::Found;

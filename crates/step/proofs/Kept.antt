@@ -1,29 +1,39 @@
 -- A good book stays good: what a laying leaves, what a step keeps, and the two parts of a book in which it goes.
 -- Assumes nothing.
-use Prim.Native.Nat.{ℕ, _+_, _-_, _≤_}
+use Prim.Native.Nat.{ℕ, suc, _+_, _-_, _≤_}
 use mathlib.Core.Path.{_≡_, refl, sym, _∙_, ap, ap₂, subst}
-use mathlib.Core.Bool.{true}
+use mathlib.Core.Bool.{Bool, true, false, _&&_, false≢true}
 use mathlib.Core.Option.{Option, none, some}
-use mathlib.Core.List.{List, _∷_, _++_, append-nil}
+use mathlib.Core.List.{List, [], _∷_, _++_}
 use native.Mathlib.Omega.{arith}
-use lib.ListN.{length, take, drop, drop-of-length-le}
-use lib.Seq.{length-take-le, length-front, drop-at, take-at, drop-drop}
+use lib.Dec.{eqb}
+use lib.ListN.{length, getD, set, take, drop, length-drop}
+use lib.Seq.{length-take-le, length-front, drop-at, take-at}
 use borrow.Rule.Slice.PartMut.{putMid}
 use Rattle.model.specs.declared.Settings.{Settings}
 use Rattle.model.specs.declared.Request.{Request}
 use Rattle.model.specs.declared.Answer.{Answer}
+use Rattle.model.specs.declared.Answer.the-variants.{Done, Refused}
 use Rattle.model.specs.State.{State, emptyState}
-use Rattle.model.specs.Machine.{step, Call, ordered, Reply, told, keptAnswer, answerOrder, perform}
+use Rattle.model.specs.Machine.{step, Counted, mostChanges, raise, isChange, countedStep, stepped, Call, ordered, Reply, told, asked, keptAnswer}
+use Rattle.model.specs.Machine.{answerOrder, perform}
 use Rattle.model.specs.Words.{words, diaryLength}
-use Rattle.model.specs.Reading.{stateOf, readState}
+use Rattle.model.specs.Reading.{settingsOf, stateOf, readState}
 use Rattle.model.specs.Tail.{Tail, entryAt, keptAt, noted, tailLength, tailWords, tailOf, tailKept}
-use Rattle.model.specs.Ledger.{Ledger, emptyLedger, bookWords, diaryOf, ledgerOf}
+use Rattle.model.specs.Ledger.{Ledger, emptyLedger, behindWords, bookWords, behindOf, ledgerOf}
 use Rattle.model.specs.Calls.{Called, called, callOn, calls, freshBook}
 use Rattle.model.specs.Site.{validSettings}
 use Rattle.model.proofs.Shown.{words-stateOf}
-use Rattle.model.proofs.Ledger.{first-part, lent-behind, behind-long, lawful-behind, words-ledgerOf, ledger-sound}
+use Rattle.model.proofs.Tail.{tail-long as tail-words-long, tail-kept, tail-back}
+use Rattle.model.proofs.Ledger.{LedgerSound, first-part, part-behind, behind-long, behind-shown, tail-in-long, lent-tail, lawful-tail, words-ledgerOf}
+use Rattle.model.proofs.Ledger.{ledger-sound, count-lent, diary-words, recounted}
+use Rattle.model.proofs.Counting.{counted-state, counted-refused, counted-full, uncounted, full-stays}
+use Rattle.model.proofs.Search.{and-left, and-right}
+use Rattle.model.proofs.Done.{refused-keeps}
+use borrow.Author.Tests.{eqb-true}
+use Rattle.apply.specs.Accepted.{accepted}
 use Rattle.model.proofs.Frame.{step-settings}
-use Rattle.model.proofs.Calls.{perform-sound, empty-ledger, fresh-words}
+use Rattle.model.proofs.Calls.{step-sound, perform-sound, empty-ledger, fresh-words}
 use Rattle.book.specs.declared.found.Found.{Found}
 use Rattle.book.specs.declared.found.Found.the-variants.{At, Nothing}
 use Rattle.book.specs.Founds.{foundOf}
@@ -36,7 +46,8 @@ good-diary {S} {b} good = words-stateOf b (good .laid) (good .lawful)
 
 -- an order leaves the settings
 pub order-settings : (l : Ledger) (n : ℕ) (r : Request) (o : Option ℕ) → answerOrder l n r o .ledger .diary .settings ≡ l .diary .settings
-order-settings l n r none = step-settings (l .diary) r
+order-settings l n r none =
+    counted-state (λ (x : State). x .settings ≡ l .diary .settings) (l .diary) (l .changes) r refl (step-settings (l .diary) r)
 order-settings l n r (some i) = refl
 
 at-is : (o : Option ℕ) (i : ℕ) → foundOf o ≡ At i → o ≡ some i
@@ -49,24 +60,30 @@ nothing-is (some j) e = absurd (let z : _≡_ {A = ℕ} 0 1 = cc in omega arith)
 
 abbrev toldAnswer : Reply → Answer
 toldAnswer (told a) = a
+toldAnswer (asked a n) = a
 
--- a book whose first n words are written: what is lent behind them is as before, and what is written there comes to stand there
-module _ (b c : List ℕ) (n : ℕ) (h : n ≤ length b) (l : length c ≡ length (take n b)) where
-  front : length c ≡ n
-  front = l ∙ length-take-le n b h
+-- done or refused beside a change
+pub and-true-is : (t : Bool) → (t && true) ≡ t
+and-true-is true = refl
+and-true-is false = refl
 
-  pub whole-long : length (c ++ drop n b) ≡ length b
-  whole-long = length-front b c n l
+pub and-false-is : (t : Bool) → (t && false) ≡ false
+and-false-is true = refl
+and-false-is false = refl
 
-  pub lent-again : take (length (c ++ drop n b) - n) (drop n (c ++ drop n b)) ≡ take (length b - n) (drop n b)
-  lent-again = ap₂ (λ (k : ℕ) (v : List ℕ). take (k - n) v) whole-long (drop-at c (drop n b) n front)
+-- a change that is done raises a count that is not the greatest
+counted-open : (x : State) (n : ℕ) (r : Request) (v : ℕ) → isChange r ≡ true → eqb n mostChanges ≡ false → step x r .answer ≡ Done v
+    → countedStep x n r ≡ record { answer = Done v; state = step x r .state; changes = suc n }
+unfolding countedStep raise
+counted-open x n r v c f e = rw c (ap (raise x n (step x r)) e ∙ rw f)
 
-  pub put-behind : (v : List ℕ) → putMid n (length (c ++ drop n b) - n) (c ++ drop n b) v ≡ c ++ v
-  put-behind v =
-      let past : length (c ++ drop n b) ≤ n + (length (c ++ drop n b) - n) = omega (arith, whole-long) in
-      ap₂ (λ (u w : List ℕ). u ++ (v ++ w)) (take-at c (drop n b) n front)
-      (drop-drop (length (c ++ drop n b) - n) n (c ++ drop n b) ∙ drop-of-length-le (c ++ drop n b) past)
-      ∙ ap (λ (w : List ℕ). c ++ w) (append-nil v)
+-- a change at a count that is not full
+pub change-open : (r : Request) (a : Answer) (n : ℕ) → (isChange r && accepted a) ≡ true → (isChange r && eqb n mostChanges) ≡ false → eqb n mostChanges ≡ false
+change-open r a n on less = sym (ap (λ (t : Bool). t && eqb n mostChanges) (and-left (isChange r) (accepted a) on)) ∙ less
+
+-- a book whose first n words are written is as long as before
+pub whole-long : (b c : List ℕ) (n : ℕ) → n ≤ length b → length c ≡ length (take n b) → length (c ++ drop n b) ≡ length b
+whole-long b c n h l = length-front b c n l
 
 module _ {S : Settings} {b : List ℕ} (good : GoodBook S b) where
   settings-are : ledgerOf b .diary .settings ≡ S
@@ -77,24 +94,24 @@ module _ {S : Settings} {b : List ℕ} (good : GoodBook S b) where
   pub part-good : (n : ℕ) → n ≡ diaryLength S → Good S (take n b)
   part-good n e = subst (Good S) (first-part b (good .read) e) (good-part good)
 
-  -- what is lent of the book behind them is the tail's words
+  -- what is lent of the book between them and the last word is the tail's words
   module _ {n : ℕ} (e : n ≡ diaryLength S) where
-    pub tail-long : length (take (length b - n) (drop n b)) ≡ tailLength
-    tail-long = ap length (lent-behind b (good .read) e) ∙ behind-long b (good .laid)
+    pub tail-long : length (take (length b - 1 - n) (drop n b)) ≡ tailLength
+    tail-long = ap length (lent-tail b (good .laid) (good .read) e) ∙ tail-in-long (behindOf b) (behind-long b (good .laid))
 
-    pub tail-lawful : tailKept (take (length b - n) (drop n b)) ≡ true
-    tail-lawful = ap tailKept (lent-behind b (good .read) e) ∙ lawful-behind b (good .laid) (good .lawful)
+    pub tail-lawful : tailKept (take (length b - 1 - n) (drop n b)) ≡ true
+    tail-lawful = ap tailKept (lent-tail b (good .laid) (good .read) e) ∙ lawful-tail b (good .laid) (good .lawful)
 
-    pub tail-is : tailOf (take (length b - n) (drop n b)) ≡ ledgerOf b .tail
+    pub tail-is : tailOf (take (length b - 1 - n) (drop n b)) ≡ ledgerOf b .tail
     unfolding ledgerOf
-    tail-is = ap tailOf (lent-behind b (good .read) e)
+    tail-is = ap tailOf (lent-tail b (good .laid) (good .read) e)
 
     -- what is found there is what the ledger keeps
-    pub found-kept : (m : ℕ) {f : Found} {i : ℕ} → f ≡ foundOf (keptAt (tailOf (take (length b - n) (drop n b))) m) → f ≡ At i
+    pub found-kept : (m : ℕ) {f : Found} {i : ℕ} → f ≡ foundOf (keptAt (tailOf (take (length b - 1 - n) (drop n b))) m) → f ≡ At i
         → keptAt (ledgerOf b .tail) m ≡ some i
     found-kept m {f} {i} q p = at-is _ i (ap (λ (t : Tail). foundOf (keptAt t m)) (sym tail-is) ∙ sym q ∙ p)
 
-    pub found-none : (m : ℕ) {f : Found} → f ≡ foundOf (keptAt (tailOf (take (length b - n) (drop n b))) m) → f ≡ Nothing
+    pub found-none : (m : ℕ) {f : Found} → f ≡ foundOf (keptAt (tailOf (take (length b - 1 - n) (drop n b))) m) → f ≡ Nothing
         → keptAt (ledgerOf b .tail) m ≡ none
     found-none m {f} q p = nothing-is _ (ap (λ (t : Tail). foundOf (keptAt t m)) (sym tail-is) ∙ sym q ∙ p)
 
@@ -105,19 +122,171 @@ module _ {S : Settings} {b : List ℕ} (good : GoodBook S b) where
       ap₂ answered q (sym (words-ledgerOf b (good .laid) (good .lawful)))
       ∙ ap (λ (o : Option ℕ). called (answerOrder (ledgerOf b) n r o)) (sym k)
 
-  -- an order that is not: a step on the first part of the book is a step of the machine, and behind it stands the tail in which the
-  -- answer is kept
-  pub part-stepped : (k : ℕ) → k ≡ diaryLength S → (n : ℕ) (r : Request) {a : Answer} {c w : List ℕ} → keptAt (ledgerOf b .tail) n ≡ none
-      → answered a c ≡ inWords (step (stateOf (take k b)) r) → w ≡ tailWords (noted (ledgerOf b .tail) n r a)
-      → answered a (c ++ w) ≡ called (perform (ledgerOf b) (ordered n r))
-  unfolding bookWords ledgerOf
-  part-stepped k e n r {a} {c} {w} o h t =
-      let q : answered a c ≡ inWords (step (stateOf (diaryOf b)) r)
-      = h ∙ ap (λ (d : List ℕ). inWords (step (stateOf d) r)) (sym (first-part b (good .read) e)) in
-      let is : a ≡ step (stateOf (diaryOf b)) r .answer = ap (λ (v : Called). toldAnswer (v .reply)) q in
-      ap₂ (λ (v : Called) (w : List ℕ). record { reply = v .reply; book = v .book ++ w }) q
-      (t ∙ ap (λ (a : Answer). tailWords (noted (ledgerOf b .tail) n r a)) is)
-      ∙ ap (λ (o : Option ℕ). called (answerOrder (ledgerOf b) n r o)) (sym o)
+  -- the last word is the count
+  pub count-is : getD b (length b - 1) 0 ≡ ledgerOf b .changes
+  count-is = count-lent b (good .laid) {S = settingsOf b} refl refl
+
+  -- what is foreseen: a refusal, 30 behind all other questions, or done
+  module _ {k : ℕ} (e : k ≡ diaryLength S) (r : Request) {a : Answer} (h : a ≡ step (stateOf (take k b)) r .answer) where
+    seen : a ≡ step (ledgerOf b .diary) r .answer
+    unfolding ledgerOf
+    seen = h ∙ ap (λ (d : List ℕ). step (stateOf d) r .answer) (sym (first-part b (good .read) e))
+
+    pub seen-refused : {m p : ℕ} → a ≡ Refused m p → Refused m p ≡ countedStep (ledgerOf b .diary) (ledgerOf b .changes) r .answer
+    seen-refused {m} {p} q = go (isChange r) refl
+      where
+        go : (t : Bool) → isChange r ≡ t → Refused m p ≡ countedStep (ledgerOf b .diary) (ledgerOf b .changes) r .answer
+        go true f = sym (ap (λ (o : Counted). o .answer) (counted-refused (ledgerOf b .diary) (ledgerOf b .changes) r m p f (sym seen ∙ q)))
+        go false f = sym q ∙ seen ∙ sym (ap (λ (o : Counted). o .answer) (uncounted (ledgerOf b .diary) (ledgerOf b .changes) r f))
+
+    pub seen-full : {v n : ℕ} → a ≡ Done v → n ≡ ledgerOf b .changes → (isChange r && eqb n mostChanges) ≡ true
+        → Refused 30 0 ≡ countedStep (ledgerOf b .diary) (ledgerOf b .changes) r .answer
+    seen-full {v} {n} q count f =
+        let change : isChange r ≡ true = and-left (isChange r) _ f in
+        let full : ledgerOf b .changes ≡ mostChanges = sym count ∙ eqb-true n mostChanges (and-right (isChange r) _ f) in
+        sym (ap (λ (n : ℕ). countedStep (ledgerOf b .diary) n r .answer) full
+        ∙ ap (λ (o : Counted). o .answer) (counted-full (ledgerOf b .diary) r v change (sym seen ∙ q)))
+
+    pub seen-done : {v n : ℕ} → a ≡ Done v → n ≡ ledgerOf b .changes → (isChange r && eqb n mostChanges) ≡ false
+        → a ≡ countedStep (ledgerOf b .diary) (ledgerOf b .changes) r .answer
+    seen-done {v} {n} q count f = go (isChange r) refl
+      where
+        go : (t : Bool) → isChange r ≡ t → a ≡ countedStep (ledgerOf b .diary) (ledgerOf b .changes) r .answer
+        go true c =
+            let below : eqb (ledgerOf b .changes) mostChanges ≡ false
+            = ap (λ (m : ℕ). eqb m mostChanges) (sym count) ∙ sym (ap (λ (t : Bool). t && eqb n mostChanges) c) ∙ f in
+            q ∙ sym (ap (λ (o : Counted). o .answer) (counted-open (ledgerOf b .diary) (ledgerOf b .changes) r v c below (sym seen ∙ q)))
+        go false c = seen ∙ sym (ap (λ (o : Counted). o .answer) (uncounted (ledgerOf b .diary) (ledgerOf b .changes) r c))
+
+  -- a step on the first part of the book, where the count stays
+  module _ {k : ℕ} (e : k ≡ diaryLength S) (r : Request) {a : Answer} {c : List ℕ} (h : answered a c ≡ inWords (step (stateOf (take k b)) r)) where
+    part-step : answered a c ≡ inWords (step (ledgerOf b .diary) r)
+    unfolding ledgerOf
+    part-step = h ∙ ap (λ (d : List ℕ). inWords (step (stateOf d) r)) (sym (first-part b (good .read) e))
+
+    pub part-answer : a ≡ step (ledgerOf b .diary) r .answer
+    part-answer = ap (λ (v : Called). toldAnswer (v .reply)) part-step
+
+    -- the book with that diary, the tail and the count as before
+    stepped-words : c ++ drop k b ≡ bookWords (record { diary = step (ledgerOf b .diary) r .state; tail = ledgerOf b .tail; changes = ledgerOf b .changes })
+    unfolding bookWords
+    stepped-words =
+        ap₂ (λ (v w : List ℕ). v ++ w) (ap (λ (v : Called). v .book) part-step)
+        (sym (part-behind b (good .read) e) ∙ sym (behind-shown b (good .laid) (good .lawful)))
+
+    stepped-sound : LedgerSound (record { diary = step (ledgerOf b .diary) r .state; tail = ledgerOf b .tail; changes = ledgerOf b .changes })
+    stepped-sound =
+        let s = ledger-sound b (good .laid) (good .lawful) in
+        record { diary = step-sound (ledgerOf b .diary) (s .diary) r; tail = s .tail }
+
+    kept-count : countedStep (ledgerOf b .diary) (ledgerOf b .changes) r
+        ≡ record { answer = step (ledgerOf b .diary) r .answer; state = step (ledgerOf b .diary) r .state; changes = ledgerOf b .changes }
+        → answered a (c ++ drop k b) ≡ called (perform (ledgerOf b) (ordered 0 r))
+    kept-count same = ap₂ answered part-answer stepped-words ∙ ap (λ (o : Counted). called (stepped (ledgerOf b .tail) o)) (sym same)
+
+    -- a request that is no change, or is refused, leaves the count
+    pub part-same : (isChange r && accepted a) ≡ false → answered a (c ++ drop k b) ≡ called (perform (ledgerOf b) (ordered 0 r))
+    part-same off = go (isChange r) refl a part-answer off
+      where
+        go : (t : Bool) → isChange r ≡ t → (q : Answer) → q ≡ step (ledgerOf b .diary) r .answer → (t && accepted q) ≡ false
+            → answered a (c ++ drop k b) ≡ called (perform (ledgerOf b) (ordered 0 r))
+        go false f q e o = kept-count (uncounted (ledgerOf b .diary) (ledgerOf b .changes) r f)
+        go true f (Done v) e o = absurd (false≢true (sym o))
+        go true f (Refused m p) e o =
+            kept-count
+            (counted-refused (ledgerOf b .diary) (ledgerOf b .changes) r m p f (sym e)
+            ∙ (λ j. record { answer = e j; state = sym (refused-keeps (ledgerOf b .diary) r m p (sym e)) j; changes = ledgerOf b .changes }))
+
+    -- a change that is done, and the count raised
+    pub part-raised : {n : ℕ} → n ≡ ledgerOf b .changes → (isChange r && accepted a) ≡ true → (isChange r && eqb n mostChanges) ≡ false
+        → answered a (set (c ++ drop k b) (length (c ++ drop k b) - 1) (n + 1)) ≡ called (perform (ledgerOf b) (ordered 0 r))
+    part-raised {n} count on less = go a part-answer on
+      where
+        change : isChange r ≡ true
+        change = and-left (isChange r) (accepted a) on
+
+        below : eqb (ledgerOf b .changes) mostChanges ≡ false
+        below = ap (λ (m : ℕ). eqb m mostChanges) (sym count) ∙ change-open r a n on less
+
+        one : n + 1 ≡ suc (ledgerOf b .changes)
+        one = omega (arith, count)
+
+        raised : set (c ++ drop k b) (length (c ++ drop k b) - 1) (n + 1)
+            ≡ bookWords (record { diary = step (ledgerOf b .diary) r .state; tail = ledgerOf b .tail; changes = suc (ledgerOf b .changes) })
+        raised = ap₂ (λ (w : List ℕ) (m : ℕ). set w (length w - 1) m) stepped-words one ∙ recounted _ stepped-sound (suc (ledgerOf b .changes))
+
+        go : (q : Answer) → q ≡ step (ledgerOf b .diary) r .answer → (isChange r && accepted q) ≡ true
+            → answered q (set (c ++ drop k b) (length (c ++ drop k b) - 1) (n + 1)) ≡ called (perform (ledgerOf b) (ordered 0 r))
+        go (Refused m p) e o = absurd (false≢true (and-right (isChange r) false o))
+        go (Done v) e o =
+            ap (answered (Done v)) raised
+            ∙ ap (λ (o : Counted). called (stepped (ledgerOf b .tail) o))
+            (sym (counted-open (ledgerOf b .diary) (ledgerOf b .changes) r v change below (sym e)))
+
+  -- where nothing is written: the answer that is foreseen, for a change at the greatest count
+  pub foreseen-full : (r : Request) {a : Answer} {n : ℕ} → n ≡ ledgerOf b .changes → (isChange r && eqb n mostChanges) ≡ true
+      → a ≡ countedStep (ledgerOf b .diary) (ledgerOf b .changes) r .answer → answered a b ≡ called (perform (ledgerOf b) (ordered 0 r))
+  foreseen-full r {a} {n} count f q =
+      let change : isChange r ≡ true = and-left (isChange r) _ f in
+      let full : ledgerOf b .changes ≡ mostChanges = sym count ∙ eqb-true n mostChanges (and-right (isChange r) _ f) in
+      ap₂ answered q (sym (words-ledgerOf b (good .laid) (good .lawful)))
+      ∙ ap (λ (o : Counted). called (stepped (ledgerOf b .tail) o)) (sym (full-stays (ledgerOf b .diary) (ledgerOf b .changes) r change full))
+
+  -- an order that is not kept: the request without an order, which leaves the book c, and behind its diary the tail in which the answer is
+  -- kept
+  module _ {k : ℕ} (e : k ≡ diaryLength S) (r : Request) {a : Answer} {c : List ℕ} (h : answered a c ≡ called (perform (ledgerOf b) (ordered 0 r))) where
+    after : Ledger
+    after = perform (ledgerOf b) (ordered 0 r) .ledger
+
+    after-sound : LedgerSound after
+    unfolding after
+    after-sound = perform-sound (ledgerOf b) (ledger-sound b (good .laid) (good .lawful)) (ordered 0 r)
+
+    after-words : c ≡ bookWords after
+    unfolding after
+    after-words = ap (λ (v : Called). v .book) h
+
+    diary-there : length (words (after .diary)) ≡ k
+    unfolding after
+    diary-there = diary-words after after-sound ∙ ap diaryLength (order-settings (ledgerOf b) 0 r none ∙ settings-are) ∙ sym e
+
+    tail-there : length (tailWords (ledgerOf b .tail)) ≡ length b - 1 - k
+    tail-there =
+        tail-words-long (ledgerOf b .tail) (ledger-sound b (good .laid) (good .lawful) .tail) ∙ sym (ap length (lent-tail b (good .laid) (good .read) e) ∙ tail-in-long (behindOf b) (behind-long b (good .laid)))
+        ∙ length-take-le (length b - 1 - k) (drop k b) (omega (arith, length-drop k b))
+
+    behind-there : drop k c ≡ tailWords (ledgerOf b .tail) ++ (after .changes ∷ [])
+    unfolding bookWords behindWords after
+    behind-there = ap (drop k) after-words ∙ drop-at (words (after .diary)) (behindWords (after .tail) (after .changes)) k diary-there
+
+    -- what is lent of it is the tail as it was
+    lent-again : take (length b - 1 - k) (drop k c) ≡ tailWords (ledgerOf b .tail)
+    lent-again =
+        ap (take (length b - 1 - k)) behind-there ∙ take-at (tailWords (ledgerOf b .tail)) (after .changes ∷ []) (length b - 1 - k) tail-there
+
+    pub again-long : length (take (length b - 1 - k) (drop k c)) ≡ tailLength
+    again-long = ap length lent-again ∙ tail-words-long (ledgerOf b .tail) (ledger-sound b (good .laid) (good .lawful) .tail)
+
+    pub again-kept : tailKept (take (length b - 1 - k) (drop k c)) ≡ true
+    again-kept = ap tailKept lent-again ∙ tail-kept (ledgerOf b .tail) (ledger-sound b (good .laid) (good .lawful) .tail)
+
+    pub again-is : tailOf (take (length b - 1 - k) (drop k c)) ≡ ledgerOf b .tail
+    again-is = ap tailOf lent-again ∙ tail-back (ledgerOf b .tail) (ledger-sound b (good .laid) (good .lawful) .tail)
+
+    pub order-noted : (n : ℕ) {w : List ℕ} → keptAt (ledgerOf b .tail) n ≡ none → w ≡ tailWords (noted (ledgerOf b .tail) n r a)
+        → answered a (putMid k (length b - 1 - k) c w) ≡ called (perform (ledgerOf b) (ordered n r))
+    unfolding bookWords behindWords after
+    order-noted n {w} o t =
+        let is : a ≡ countedStep (ledgerOf b .diary) (ledgerOf b .changes) r .answer = ap (λ (v : Called). toldAnswer (v .reply)) h in
+        let front : take k c ≡ words (after .diary)
+        = ap (take k) after-words ∙ take-at (words (after .diary)) (behindWords (after .tail) (after .changes)) k diary-there in
+        let rest : drop (length b - 1 - k) (drop k c) ≡ after .changes ∷ []
+        = ap (drop (length b - 1 - k)) behind-there ∙ drop-at (tailWords (ledgerOf b .tail)) (after .changes ∷ []) (length b - 1 - k) tail-there in
+        let put : take k c ++ (w ++ drop (length b - 1 - k) (drop k c))
+            ≡ words (after .diary) ++ (tailWords (noted (ledgerOf b .tail) n r (countedStep (ledgerOf b .diary) (ledgerOf b .changes) r .answer)) ++ (after .changes ∷ []))
+        = ap₂ (λ (u v : List ℕ). u ++ v) front
+        (ap₂ (λ (u v : List ℕ). u ++ v) (t ∙ ap (λ (a : Answer). tailWords (noted (ledgerOf b .tail) n r a)) is) rest) in
+        ap₂ answered is put ∙ ap (λ (o : Option ℕ). called (answerOrder (ledgerOf b) n r o)) (sym o)
 
   pub good-step : (n : ℕ) (r : Request) → GoodBook S (bookWords (perform (ledgerOf b) (ordered n r) .ledger))
   good-step n r =

@@ -1,24 +1,33 @@
-// One request on a good diary, where every question is answered before the first word is written, and on a good book with its ring.
+// One request on a good diary, where every question is answered before the first word is written, and on a good book with its ring and
+// its change count; and the answer that a request would get, by reading alone.
 pub mod asking;
 pub mod meetings;
 pub mod visitors;
 
 use book::found::Found;
+use judge::judge;
 use model::Answer;
 use model::Request;
 use model::Settings;
 use ring::answer_to;
+use ring::changes::MOST_CHANGES;
+use ring::changes::count;
+use ring::changes::raise;
 use ring::find;
 use ring::note;
 ghost use mathlib.Core.Path.{_≡_};
+ghost use mathlib.Core.Bool.{_&&_};
+ghost use lib.Dec.{eqb};
 ghost use Rattle.model.specs.Machine;
-ghost use Rattle.model.specs.Machine.{ordered};
+ghost use Rattle.model.specs.Machine.{mostChanges, countedStep, ordered};
+ghost use Rattle.model.specs.Bounded.{within};
 ghost use Rattle.model.specs.Words.{diaryLength};
 ghost use Rattle.model.specs.Reading.{stateOf};
 ghost use Rattle.model.specs.Ledger.{ledgerOf};
 ghost use Rattle.model.specs.Calls.{called};
 ghost use Rattle.book.specs.Good.{Good, GoodBook, answered, inWords};
 ghost use Rattle.book.specs.Lent.{reading};
+ghost use Rattle.apply.specs.Accepted.{accepted};
 
 // Question 3, and the one choice by kind: what it leads to judges with the kind's own row and questions, and makes the kind's own writes.
 pub fn step(book: &mut [u32], s: Settings, r: Request) -> Answer
@@ -54,18 +63,81 @@ pub fn step(book: &mut [u32], s: Settings, r: Request) -> Answer
     }
 }
 
-// A request on a whole book, with the number of its order, 0 for none. The first `diary` words are the diary, the ring stands behind
-// them. An order that is kept is answered from the ring; else the request is carried out, and an order is kept with its answer. There
-// is one call of `step`, so that the compiler puts it into the loops above.
+// Whether a kind counts as a change: 1 to 16 do, 17 to 20 only ask.
+fn is_change(kind: u32) -> bool
+    ensures { λ r. ⌜ r ≡ within 1 16 kind ⌝ }
+{
+    (1 <= kind) & (kind <= 16)
+}
+
+// Whether a request of this kind would have to raise a count that cannot rise.
+fn is_full(changes: u32, kind: u32) -> bool
+    ensures { λ r. ⌜ r ≡ (within 1 16 kind && eqb changes mostChanges) ⌝ }
+{
+    is_change(kind) & (changes == MOST_CHANGES)
+}
+
+// Whether a request with this answer raises the count.
+fn raises(kind: u32, answer: Answer) -> bool
+    ensures { λ r. ⌜ r ≡ (within 1 16 kind && accepted answer) ⌝ }
+{
+    match answer {
+        Answer::Done(_) => is_change(kind),
+        Answer::Refused { .. } => false,
+    }
+}
+
+// The answer that a request without an order would get on a whole book, by reading alone. Question 30 comes last: a change that all others
+// let pass is refused where the count cannot rise.
+pub fn foresee(book: &[u32], s: Settings, diary: usize, r: Request) -> Answer
+    requires { ⌜ GoodBook s (now book) ⌝ }
+    requires { ⌜ diary ≡ diaryLength s ⌝ }
+    ensures { λ a. ⌜ a ≡ countedStep (ledgerOf (now (book .entry)) .diary) (ledgerOf (now (book .entry)) .changes) r .answer ⌝ }
+{
+    let answer = judge(&book[..diary], s, r);
+    if let Answer::Refused { number, place } = answer {
+        return Answer::Refused { number, place };
+    }
+    if is_full(count(book), r.kind) {
+        return Answer::Refused {
+            number: 30,
+            place: 0,
+        };
+    }
+    answer
+}
+
+// A request without an order on a whole book. A change that is done raises the count; where it cannot rise nothing is written, and the
+// answer is had by reading.
+fn counted_step(book: &mut [u32], s: Settings, diary: usize, r: Request) -> Answer
+    requires { ⌜ GoodBook s (now book) ⌝ }
+    requires { ⌜ diary ≡ diaryLength s ⌝ }
+    ensures { λ a. ⌜ answered a (now (book .exit)) ≡ called (Machine.perform (ledgerOf (now (book .entry))) (ordered 0 r)) ⌝ }
+{
+    let changes = count(book);
+    if is_full(changes, r.kind) {
+        return foresee(book, s, diary, r);
+    }
+    let answer = step(&mut book[..diary], s, r);
+    if raises(r.kind, answer) {
+        raise(book, changes);
+    }
+    answer
+}
+
+// A request on a whole book, with the number of its order, 0 for none. The first `diary` words are the diary; the ring stands behind them,
+// and the change count is the last word. An order that is kept is answered from the ring; else the request is carried out, and an order
+// is kept with its answer. There is one call of `step`, so that the compiler puts it into the loops above.
 pub fn book_step(book: &mut [u32], s: Settings, diary: usize, order: u32, r: Request) -> Answer
     requires { ⌜ GoodBook s (now book) ⌝ }
     requires { ⌜ diary ≡ diaryLength s ⌝ }
     ensures { λ a. ⌜ answered a (now (book .exit)) ≡ called (Machine.perform (ledgerOf (now (book .entry))) (ordered order r)) ⌝ }
 {
-    if let Found::At(place) = find(&book[diary..], order) {
-        return answer_to(&book[diary..], place, r);
+    let last = book.len() - 1;
+    if let Found::At(place) = find(&book[diary..last], order) {
+        return answer_to(&book[diary..last], place, r);
     }
-    let answer = step(&mut book[..diary], s, r);
-    note(&mut book[diary..], order, r, answer);
+    let answer = counted_step(book, s, diary, r);
+    note(&mut book[diary..last], order, r, answer);
     answer
 }

@@ -7,8 +7,8 @@ use borrow.Author.Needs.{needs}
 use Rattle.capi.proofs.caviar_request.Statement.{statement}
 use Rattle.capi.proofs.caviar_request.Tie as tie
 
-asked-requires : tie.Need-asked-requires
-asked-requires c κs = search needs
+request-by-requires : tie.Need-request-by-requires
+request-by-requires c κs = search needs
 
 request-requires : tie.Need-request-requires
 request-requires c κs = search needs
@@ -22,8 +22,8 @@ same-length c = search needs
 returns : tie.Need-returns
 returns c =
     let c1 = c .before .before .before in
-    let e = c1 .request .ensures .0 ∙ ap (call _) (c1 .before .asked .ensures) in
+    let e = c1 .request .ensures .0 ∙ ap (call _) (c1 .before .request-by .ensures) in
     record { answer = c .told .ensures ∙ ap (λ x. replyWords (x .reply)) e; book = ap (λ x. x .book) e }
 
 pub caviar-request-spec : {M : Type 1} → statement M
-caviar-request-spec = tie.close (tie.spec asked-requires request-requires told-requires same-length returns)
+caviar-request-spec = tie.close (tie.spec request-by-requires request-requires told-requires same-length returns)

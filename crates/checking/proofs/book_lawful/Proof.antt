@@ -1,11 +1,11 @@
--- The diary's words, then those behind them.
+-- The diary's words, then those between them and the last word.
 -- Assumes nothing.
 use mathlib.Core.Path.{sym, _∙_, ap}
 use native.Mathlib.Omega.{arith}
 use lib.Seq.{length-take-le}
 use borrow.Author.Tests.{not-true, not-false}
 use Rattle.model.specs.Site.{validSettings}
-use Rattle.model.proofs.Ledger.{laid-valid, diary-fits}
+use Rattle.model.proofs.Ledger.{laid-valid, diary-fits, last-word, tail-fits}
 use Rattle.book.proofs.Goods.{ranges-by}
 use Rattle.checking.proofs.Verdicts.{first-laid, two-no, two-yes, tail-long}
 use borrow.Author.Needs.{needs}
@@ -34,20 +34,23 @@ returns c =
     sym (two-no _ (d .before .before .before .pre) _ (d .before .settings .ensures) _ (d .diary-len .ensures)
     (sym (c .before .diary-lawful .ensures) ∙ not-true _ (c .if1 .taken)))
 
+sub-kept : tie.Need-sub-kept
+sub-kept c = last-word _ (c .before .before .before .before .before .before .pre)
+
 mul-kept : tie.Need-mul-kept
 mul-kept c =
     let d = c .before .before .before in
     omega (arith, diary-fits _ (d .before .before .before .pre) (d .before .settings .ensures) (d .diary-len .ensures))
 
-sub-kept : tie.Need-sub-kept
-sub-kept c =
+sub-kept-2 : tie.Need-sub-kept-2
+sub-kept-2 c =
     let d = c .before .before .before in
-    diary-fits _ (d .before .before .before .pre) (d .before .settings .ensures) (d .diary-len .ensures)
+    tail-fits _ (d .before .before .before .pre) (d .before .settings .ensures) (d .diary-len .ensures)
 
 part-kept-start : tie.Need-part-kept-start
 part-kept-start c =
     let d = c .before .before .before in
-    diary-fits _ (d .before .before .before .pre) (d .before .settings .ensures) (d .diary-len .ensures)
+    tail-fits _ (d .before .before .before .pre) (d .before .settings .ensures) (d .diary-len .ensures)
 
 part-kept-end : tie.Need-part-kept-end
 part-kept-end c = search needs
@@ -72,8 +75,9 @@ book-lawful-spec =
     slice-aggregate-diary-lawful
     diary-lawful-requires
     returns
-    mul-kept
     sub-kept
+    mul-kept
+    sub-kept-2
     part-kept-start
     part-kept-end
     kept-requires

@@ -2,7 +2,7 @@
 -- Assumes nothing.
 use native.Mathlib.Omega.{arith}
 use Rattle.model.specs.Tail.{tailLength}
-use Rattle.model.specs.Ledger.{bookLength}
+use Rattle.model.specs.Ledger.{behindLength, bookLength}
 use Rattle.book.proofs.Regions.{book-le}
 use borrow.Author.Needs.{needs}
 use Rattle.header.proofs.settings.length_of.Statement.{statement}
@@ -15,7 +15,7 @@ add-result : tie.Need-add-result
 add-result c = omega (arith, c .diary-len .ensures, book-le (c .before .args .s) (c .before .pre))
 
 returns : tie.Need-returns
-unfolding bookLength tailLength
+unfolding bookLength behindLength tailLength
 returns c = omega (arith, c .diary-len .ensures)
 
 pub length-of-spec : {M : Type 1} → statement M
