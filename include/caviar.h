@@ -6,7 +6,7 @@
  * BOOK AND CALLER
  *
  * A book is an array of 32-bit words that the caller owns: settings first, then seven regions of leave, bookings and meetings, then a
- * ring of 64 orders. The functions below keep nothing between calls and allocate nothing.
+ * ring of 64 orders, and as the last word a count of changes. The functions below keep nothing between calls and allocate nothing.
  *
  * Every function takes any words in the arrays that it is lent, of any length, and says so where they are not a book: none has a
  * condition on contents. What each one promises below is proved, for all words. What the caller owes is what C owes any function that
@@ -14,9 +14,9 @@
  * the arrays overlapping where one of them is written. All lengths are counted in words, not in bytes, but for a page, which is bytes,
  * and the guests of a party, which are structs.
  *
- * Threads: calls on different books may run at the same time. On one book, calls of caviar_check and caviar_page may run beside each
- * other, the latter with a page each; every other call that is lent a book or answers counts as writing to them, whatever its requests
- * are, so nobody else may read or write them meanwhile.
+ * Threads: calls on different books may run at the same time. On one book, calls of caviar_check, caviar_ask and caviar_page may run
+ * beside each other, the last with a page each; every other call that is lent a book or answers counts as writing to them, whatever its
+ * requests are, so nobody else may read or write them meanwhile.
  *
  * SETTINGS (rules 1.1 to 1.3 and 1.7)
  *
@@ -38,7 +38,7 @@
  *
  * The book of these settings has, with W(n) = (n + 31) / 32 rounded down, so many words (caviar_book_len computes it):
  *
- *     10 + G  +  D * (W(V) + H + 3 * M)  +  D * P * (W(M) + V + 2 * C)  +  D * Q * K  +  CAVIAR_RING_WORDS
+ *     10 + G  +  D * (W(V) + H + 3 * M)  +  D * P * (W(M) + V + 2 * C)  +  D * Q * K  +  CAVIAR_RING_WORDS  +  1
  *
  * UNITS (rules 2.1 and 2.2)
  *
@@ -100,10 +100,29 @@
  * gets for each the answer given when it first arrived, and each was done at most once. Callers that share a book share its numbers and
  * its 64 places. A new order that is refused writes the ring too; no other refusal writes anything.
  *
- * The ring is the last CAVIAR_RING_WORDS words of a book: 64 entries of 11 words (number, request, answer), then the place where the next
- * order goes, 0 to 63. An entry without a number, that is with number 0, has zeros in all its words. Question 2 asks for this, for
- * numbers that are not 0 to be different ones, for answers that have no place beside number 0 and no value beside another, and for a
- * next place that the ring has.
+ * The ring is the CAVIAR_RING_WORDS words of a book before its last: 64 entries of 11 words (number, request, answer), then the place
+ * where the next order goes, 0 to 63. An entry without a number, that is with number 0, has zeros in all its words. Question 2 asks for
+ * this, for numbers that are not 0 to be different ones, for answers that have no place beside number 0 and no value beside another, and
+ * for a next place that the ring has.
+ *
+ * SEE FIRST, THEN BOOK (section 19)
+ *
+ * The last word of a book is its change count: 0 when the book is laid, and one more after each request of kinds 1 to 16 that is done,
+ * whether a set changed by it or not, and after each party that is done, whatever its size. Refusals, kinds 17 to 20, orders that are
+ * still kept, and calls that only read do not raise it. Every word is a good count; at 4294967295 nothing can be counted any more, and
+ * what would be is refused by 30.
+ *
+ * caviar_ask says what a request would be answered if it were sent now, without an order, and tells the count. It writes nothing.
+ * caviar_commit takes a request and a count: is the book's count another by now, the answer is 29; else the request is answered as by
+ * caviar_request. So a clerk asks, shows the outcome, and commits at the count that was told; the answer is then the one that was
+ * shown, or 29, and then the clerk asks again. This holds for every list of calls on a book since it was laid, whoever makes them:
+ *
+ *     caviar_asked asked = caviar_ask(book, book_len, hotel);
+ *     if (asked.number == 0 && the_guest_agrees(&asked))
+ *         answer = caviar_commit(book, book_len, asked.count, hotel);      0 0 0, or 29 0 0 if somebody else was quicker
+ *
+ * The guest may take his time: ask and commit are two calls, and between them the book is free for others. Laying a book anew begins its
+ * count at 0 again, so a count that was told before is then no count of this book.
  *
  * ANSWERS (section 6)
  *
@@ -142,26 +161,28 @@
  *     26      the lent page is shorter than its lines                                           0
  *     27      the party has no guest, or more than 64                                           0
  *     28      the order is kept with another request                                            0
+ *     29      the count of the commit is not the book's                                         0
+ *     30      the count of the book cannot rise (1 to 16, and a party)                          0
  *
- * Questions are asked in the order of their numbers, each of all slots before the next; but 28 comes behind 2, and an order that passes
- * it because it is kept is asked no more. The place is the lowest slot with the answer no, in the unit of the kind; for 17 it is a date
- * though the slots of kind 16 are sessions. A party is asked 1, 2 and 27, and then its guests come one after the other, each with the
- * questions of kind 10.
+ * Questions are asked in the order of their numbers, each of all slots before the next; but 28 and 29 come behind 2, and an order that
+ * passes 28 because it is kept is asked no more. The place is the lowest slot with the answer no, in the unit of the kind; for 17 it is a
+ * date though the slots of kind 16 are sessions. A party is asked 1, 2 and 27, then its guests come one after the other, each with the
+ * questions of kind 10 before 30, and 30 comes once, behind the last of them.
  *
  * AN EXAMPLE
  *
  *     const uint32_t settings[] = {2, 2, 2, 3, 2, 2, 1, 2, 1, 0, 4};
- *     uint32_t book[770];                                          caviar_book_len(settings, 11) is 770
+ *     uint32_t book[771];                                          caviar_book_len(settings, 11) is 771
  *     caviar_request_words leave = {.kind = 1, .b = 1, .first = 0, .last = 1};
  *     caviar_request_words hotel = {.kind = 4, .a = 0, .b = 1, .first = 0, .last = 1};
  *     caviar_answer answer;
  *
- *     answer = caviar_lay(settings, 11, book, 770);                0 0 0
- *     answer = caviar_request(book, 770, hotel);                   9 0 0: visitor 1 has no leave on date 0
- *     answer = caviar_request(book, 770, leave);                   0 0 0
- *     answer = caviar_order(book, 770, 17, hotel);                 0 0 0
- *     answer = caviar_order(book, 770, 17, hotel);                 0 0 0: the answer of order 17
- *     answer = caviar_request(book, 770, hotel);                   11 0 0: the room is booked already
+ *     answer = caviar_lay(settings, 11, book, 771);                0 0 0
+ *     answer = caviar_request(book, 771, hotel);                   9 0 0: visitor 1 has no leave on date 0
+ *     answer = caviar_request(book, 771, leave);                   0 0 0
+ *     answer = caviar_order(book, 771, 17, hotel);                 0 0 0
+ *     answer = caviar_order(book, 771, 17, hotel);                 0 0 0: the answer of order 17
+ *     answer = caviar_request(book, 771, hotel);                   11 0 0: the room is booked already
  *
  * examples/c/visit.c is a whole program. Link with target/staticlib/libcapi.a, which `rt staticlib capi` writes:
  *
@@ -178,7 +199,7 @@ extern "C" {
 #endif
 
 /* The greatest number of words that a book can have, and that settings can have. */
-#define CAVIAR_MOST_WORDS 9402331
+#define CAVIAR_MOST_WORDS 9402332
 #define CAVIAR_MOST_SETTINGS 26
 
 /* How many words of a list a request is, a request with its order, and an answer. */
@@ -186,9 +207,12 @@ extern "C" {
 #define CAVIAR_ORDER_WORDS 8
 #define CAVIAR_ANSWER_WORDS 3
 
-/* How many orders a book keeps, and how many of its last words they take. */
+/* How many orders a book keeps, and how many words they take, the last ones before the change count. */
 #define CAVIAR_KEPT_ORDERS 64
 #define CAVIAR_RING_WORDS 705
+
+/* The greatest change count: a book that has it takes no more changes. */
+#define CAVIAR_MOST_CHANGES 4294967295
 
 /* How many bytes a line of a porter's page has, its byte 10 included, and how many do for every date of every site. */
 #define CAVIAR_PAGE_LINE 31
@@ -200,9 +224,17 @@ extern "C" {
 /* An answer: done with a value, or refused with a number and a place. See ANSWERS above. */
 typedef struct caviar_answer {
     uint32_t number; /* 0 when done */
-    uint32_t place;  /* 0 when done, and for 1 to 8 and 22 to 28 */
+    uint32_t place;  /* 0 when done, and for 1 to 8 and 22 to 30 */
     uint32_t value;  /* 0 when refused */
 } caviar_answer;
+
+/* What asking tells: the answer that the request would get, and the change count of the book. See SEE FIRST above. */
+typedef struct caviar_asked {
+    uint32_t number; /* as in caviar_answer */
+    uint32_t place;
+    uint32_t value;
+    uint32_t count; /* 0 beside the numbers 1 and 2 */
+} caviar_asked;
 
 /* A request. See REQUESTS above; a field that the kind does not use is 0. */
 typedef struct caviar_request_words {
@@ -222,7 +254,7 @@ typedef struct caviar_guest {
     uint32_t last;  /* the last session, included */
 } caviar_guest;
 
-/* How many words the book of these settings has: 726 to CAVIAR_MOST_WORDS. 0 for bad settings, those that 24 refuses: fewer than ten
+/* How many words the book of these settings has: 727 to CAVIAR_MOST_WORDS. 0 for bad settings, those that 24 refuses: fewer than ten
  * words, not 10 + G of them, or one out of its range. (rule 9.3) */
 uint64_t caviar_book_len(const uint32_t *settings, size_t settings_len);
 
@@ -234,8 +266,8 @@ caviar_answer caviar_lay(const uint32_t *settings, size_t settings_len, uint32_t
 caviar_answer caviar_check(const uint32_t *book, size_t book_len);
 
 /* One request on any words. Refused with 1 or 2 as by caviar_check. Else the answer is the one of sections 4 to 6 from the sets that
- * the book shows, and when it is done, the book shows those sets with the change, in every word. Each call checks the whole book:
- * caviar_requests checks it once for a list. (rule 10.3) */
+ * the book shows, and when it is done, the book shows those sets with the change, in every word, and the change count is one more for
+ * kinds 1 to 16. Each call checks the whole book: caviar_requests checks it once for a list. (rule 10.3) */
 caviar_answer caviar_request(uint32_t *book, size_t book_len, caviar_request_words request);
 
 /* A list of requests on any words. `requests` has seven words a request, one behind the other; `answers` has room for three words an
@@ -265,6 +297,15 @@ caviar_answer caviar_orders(uint32_t *book, size_t book_len, const uint32_t *ord
 /* caviar_lay, and then a list as in caviar_orders, without a check; refused as caviar_serve. (rule 10.8) */
 caviar_answer caviar_serve_orders(const uint32_t *settings, size_t settings_len, uint32_t *book, size_t book_len, const uint32_t *orders,
                                   size_t orders_len, uint32_t *answers, size_t answers_len);
+
+/* What a request would be answered, on any words, and the change count. Refused with 1 or 2 as by caviar_check, and then the count is 0.
+ * Else the answer is the one that caviar_request would give, and the count is the book's. No word is changed, and no order is looked
+ * for. It costs a check and the questions, and no writing. (rule 10.9) */
+caviar_asked caviar_ask(const uint32_t *book, size_t book_len, caviar_request_words request);
+
+/* A request at a change count, on any words. Refused with 1 or 2 as by caviar_check, else with 29 when the count is not the book's; else
+ * answered as by caviar_request. It carries no order. (rule 10.10) */
+caviar_answer caviar_commit(uint32_t *book, size_t book_len, uint32_t count, caviar_request_words request);
 
 /* The porter's page of a date, on any words: which meeting is in which conference room, with how many visitors. The page has a line for
  * each session of the date and in it for each conference room that a meeting holds, attended or not: sessions in their order, in each
@@ -296,8 +337,9 @@ caviar_answer caviar_page(const uint32_t *book, size_t book_len, uint32_t date, 
  * order of the list, and each is judged on the book with those before in it. A visitor may come more than once, for other sessions each
  * time.
  *
- * Done, the value is 0, and the book is what those requests one by one would have left. Refused with 1 or 2 as by caviar_check, else with
- * 27 for no guest or more than CAVIAR_MOST_GUESTS, whatever they are; else with the answer of the first guest in the list who is refused:
+ * Done, the value is 0, and the book is what those requests one by one would have left, but that the change count has risen by one. Refused
+ * with 1 or 2 as by caviar_check, else with 27 for no guest or more than CAVIAR_MOST_GUESTS, whatever they are; else with the answer of the
+ * first guest in the list who is refused, and else with 30 if the count cannot rise:
  *
  *      5    the meeting is not below M; this is the first guest's answer
  *      6    the visitor is not below V

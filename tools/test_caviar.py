@@ -24,7 +24,7 @@ ROOT = Path(__file__).resolve().parent.parent
 sys.path.insert(0, str(ROOT / "tools"))
 
 from caviar_tool import explain, library, lines, main, rules, typed  # noqa: E402
-from caviar_tool.rules import Guest, Order, Party, Problem, Raw, Request  # noqa: E402
+from caviar_tool.rules import Ask, Commit, Guest, Order, Party, Problem, Raw, Request  # noqa: E402
 
 CAVIAR = ROOT / "tools" / "caviar"
 CARGO_TARGET = Path(os.environ.get("CARGO_TARGET_DIR", ROOT / "target" / "cargo"))
@@ -212,8 +212,8 @@ class Conversations(Tested):
 
     def test_settings_of_the_largest_book_and_of_one_too_large(self):
         wide = SETTINGS.replace("visitors 3", "visitors 478").replace("sessions 2", "sessions 16")
-        largest = wide.replace("hotels 2", "hotels 83")
-        over = largest.replace("dining 1", "dining 2") + " 4"
+        largest = wide.replace("hotels 2", "hotels 82").replace("dining 1", "dining 2") + " 4"
+        over = largest.replace("dining 2", "dining 3") + " 4"
         for program in programs():
             self.assertEqual(answered(program, self.wrote("frame", given=largest)), b"")
         why = "the book of these settings has 16,385 words, more than 16,384"
@@ -282,6 +282,9 @@ class Frame(Tested):
             "order 5 add-leave visitor 1": "add-leave lacks dates",
             "order 5 party meeting 0": "there is no kind 'party'; an order carries a request",
             "party meeting 0": "the program has no line for a party; `caviar page` and `caviar party` take it",
+            "ask 18 date 0": "the program has no line for asking; `caviar page` and `caviar ask` take it",
+            "commit 1 18 date 0": "the program has no line for a commit; `caviar page` and `caviar commit` take it",
+            "comit 1 18 date 0": "there is no kind 'comit'; did you mean commit?",
             "add-hotl": "there is no kind 'add-hotl'; did you mean add-hotel?",
             "frobnicate 3": "there is no kind 'frobnicate'; `caviar kinds` lists the kinds",
             "4294967296": "4294967296 does not fit in 32 bits",
@@ -404,7 +407,7 @@ class Explain(Tested):
         no_line = "not an answer line, which is 24 lower-case hexadecimal digits"
         cases = {
             "zz": no_line, "": no_line, "0" * 23: no_line, "0" * 32: no_line, "A" * 24: no_line,
-            "0000001d" + "0" * 16: "there is no question 29",
+            "0000001f" + "0" * 16: "there is no question 31",
             "000000090000000000000001": "a refusal has value 0",
             "000000000000000100000000": "a done answer has place 0",
             "000000080000000100000000": "this answer has place 0",
@@ -435,6 +438,10 @@ class Explain(Tested):
             (f"{SETTINGS}\nraw zz", done, "line 1: this line is refused by 23" + whose),
             (f"{SETTINGS}\norder 1 {leave}", "0000001c" + "0" * 16,
              "line 1: add-leave with these words is not refused by 28" + whose),
+            (f"{SETTINGS}\n{leave}", "0000001d" + "0" * 16,
+             "line 1: add-leave with these words is not refused by 29" + whose),
+            (f"{SETTINGS}\ncount-leave date 0", "0000001e" + "0" * 16,
+             "line 1: count-leave with these words is not refused by 30" + whose),
             (f"{SETTINGS}\norder 1 {leave}\norder 1 {hotel}", done + "\n" + done,
              "line 2: this line is refused by 28" + whose),
             (f"{SETTINGS}\norder 1 {hotel}\norder 1 {hotel}", "000000090000000000000000\n" + done,
@@ -556,7 +563,7 @@ class Parties(Tested):
                 numbers |= {int(number) for number in re.findall(r"Refused by (\d+)", sentence)}
             asked.append(request)
         self.assertEqual(numbers, {5, 6, 7, 9, 10, 11, 13, 27})
-        entries = typed.parse_text("\n".join(asked), parties=True)
+        entries = typed.parse_text("\n".join(asked), calls=True)
         self.assertEqual([typed.typed(entry) for entry in entries], asked)
         self.assertEqual("".join(line + "\n" for line in explain.explained(entries, main.answered(entries)[1])), told)
 
@@ -587,7 +594,7 @@ class Parties(Tested):
             draw = [rng.choice([rng.randrange(9), rng.randrange(2 ** 32)]) for _ in range(1 + 3 * rng.randrange(6))]
             guests = tuple(Guest(*draw[at:at + 3]) for at in range(1, len(draw), 3))
             party = Party(draw[0], guests)
-            self.assertEqual(typed.parse_line(typed.typed(party), False, parties=True), party)
+            self.assertEqual(typed.parse_line(typed.typed(party), False, calls=True), party)
 
     def test_seeded_sites(self):
         """Parties on sites of all sizes have the second program's answers, and sentences that fit them."""
@@ -646,23 +653,134 @@ class Parties(Tested):
         self.complains(f"Refused by 24: {why}. {explain.question(24)}", "party", "meeting", "0")
 
 
+class Asking(Tested):
+    """What a request would be answered, and the request at a count."""
+
+    def test_the_conversation(self):
+        """A site with asks and commits is told what is written down, and so is each of them by its command."""
+        settings, _, told = (ROOT / "tools" / "conversations" / "offices.txt").read_text().partition("\n")
+        site, kinds = [settings], []
+        for call, sentence in re.findall(r"^(\S.*)\n(    .*\n)", told, re.MULTILINE):
+            if call.startswith(("ask ", "commit ")):
+                status, out, _ = caviar(*call.split(), given="\n".join(site))
+                self.assertEqual((status, out.decode()), (0, f"{call}\n{sentence}"))
+                told_so = re.match(r" +(Done|Would be done|Refused by 29|\S+)", sentence).group(1)
+                kinds.append((call.split()[0], told_so))
+            site.append(call)
+        wanted = {("ask", "Would be done"), ("ask", "Would"), ("commit", "Done"), ("commit", "Refused by 29"),
+                  ("commit", "Refused")}
+        self.assertLessEqual(wanted, set(kinds))
+        entries = typed.parse_text("\n".join(site), calls=True)
+        self.assertEqual([typed.typed(entry) for entry in entries], site)
+        self.assertEqual("".join(line + "\n" for line in explain.explained(entries, main.answered(entries)[1])), told)
+
+    def test_asks_leave_no_mark(self):
+        """The page of a site with asks, also refused ones, is that of the site without; a commit joins the site."""
+        site = [SETTINGS, "add-standing meeting 1 sessions 2..3"]
+        asks = ["ask add-conf room 0 meeting 1 session 2", "ask add-conf room 9 meeting 1 session 2"]
+        self.assertEqual(caviar("page", "1", given="\n".join(site + asks)), (0, b"", ""))
+        commits = ["commit 1 add-conf room 0 meeting 1 session 2", "commit 1 add-conf room 1 meeting 1 session 2"]
+        status, out, said = caviar("page", "1", given="\n".join(site + asks + commits))
+        self.assertEqual((status, out), (0, b"    2   0   1     0          0\n"))
+        refused = ["caviar: requests that were refused and left no mark on this page: 1", commits[1],
+                   f"    Refused by 29: the change count is 2 by now, not 1. {explain.question(29)}"]
+        self.assertEqual(said.splitlines(), refused)
+
+    def test_the_greatest_count(self):
+        """No list of lines reaches it, so the book's last word is changed; the sentences say why nothing is counted."""
+        settings = typed.parse_line(SETTINGS, True)
+        site = [Request(1, 0, 0, 0, 1), Request(8, 1, 0, 0, 3)]
+        book, _ = library.played(settings, site)
+        book[len(book) - 1] = rules.MOST_CHANGES
+        leave, query, attend = Request(1, 0, 1, 0, 0), Request(18), Request(10, 1, 1, 0, 0)
+        cannot = "the change count is 4294967295 and cannot rise"
+        self.assertEqual(library.answered(book, [leave, query]), [(30, 0, 0), (0, 0, 1)])
+        told = explain.sentence(settings, leave, (30, 0, 0))
+        self.assertEqual(told, f"Refused by 30: {cannot}. {explain.question(30)}")
+        told = explain.sentence(settings, Ask(leave), library.asked(book, Ask(leave)))
+        self.assertEqual(told, f"Would be refused by 30 at count 4294967295: {cannot}. {explain.question(30)}")
+        told = explain.sentence(settings, Ask(attend), library.asked(book, Ask(attend)))
+        self.assertTrue(told.startswith("Would be refused by 9 at count 4294967295: "), told)
+        done = Party(1, (Guest(0, 0, 1), Guest(0, 2, 2)))
+        told = explain.sentence(settings, done, library.admitted(book, done))
+        self.assertEqual(told, f"Refused by 30: {cannot}; nobody was added. {explain.question(30)}")
+        second = Party(1, (Guest(0, 0, 1), Guest(1, 2, 2)))
+        told = explain.sentence(settings, second, library.admitted(book, second))
+        self.assertTrue(told.startswith("Refused by 9 at guest 2 of 2: "), told)
+        self.assertEqual(library.committed(book, Commit(rules.MOST_CHANGES, leave)), (30, 0, 0, rules.MOST_CHANGES))
+
+    def test_every_ask_and_commit_has_its_words(self):
+        rng = random.Random(20_261_118)
+        for _ in range(3000):
+            request = Request(rng.randrange(24), *(rng.choice([0, rng.randrange(2 ** 32)]) for _ in range(6)))
+            for call in (Ask(request), Commit(rng.choice([0, rng.randrange(2 ** 32)]), request)):
+                self.assertEqual(typed.parse_line(typed.typed(call), False, calls=True), call)
+
+    def test_seeded_sites(self):
+        """What asking tells on sites of all sizes is what the second program answers to the request as a further line,
+        and a commit at the count that was told is answered so. The book, its count included, is the second program's."""
+        rng, numbers = random.Random(20_261_119), []
+        for seed in SEEDS:
+            stream = subprocess.run([built("gen"), str(seed), "300"], capture_output=True, check=True).stdout
+            entries = lines.read_lines(stream.decode())
+            requests = [entry.request if isinstance(entry, Order) else entry for entry in entries[1:]]
+            book, _ = library.played(entries[0], entries[1:])
+            for request in rng.sample(requests, 30):
+                number, place, value, count = library.asked(book, Ask(request))
+                line = lines.written(request).encode() + b"\n"
+                expected = answered(built("frames"), stream + line).decode().splitlines()[-1]
+                self.assertEqual([number, place, value], lines.read_answer(expected))
+                self.assertTrue(explain.sentence(entries[0], Ask(request), (number, place, value, count)))
+                copy = type(book).from_buffer_copy(book)
+                self.assertEqual(library.committed(copy, Commit(count + 1, request)), (29, 0, 0, count))
+                self.assertEqual(bytes(copy), bytes(book))
+                self.assertEqual(library.committed(copy, Commit(count, request))[:3], (number, place, value))
+                numbers.append(number)
+            traced = subprocess.run([built("trace")], input=stream, capture_output=True, check=True).stdout.decode()
+            self.assertEqual(list(book), lines.words_of(traced.splitlines()[-1]))
+        print(f"seeds {', '.join(map(str, SEEDS))}: {len(numbers)} asks, numbers {sorted(set(numbers))}", flush=True)
+        self.assertGreater(len(set(numbers)), 8)
+
+    def test_every_complaint(self):
+        asking = {
+            "party meeting 0": "there is no kind 'party'; asking is about a request",
+            "order 5 18 date 0": "there is no kind 'order'; asking is about a request",
+            "add-leave visitor 1": "add-leave lacks dates",
+            "add-hotl": "there is no kind 'add-hotl'; did you mean add-hotel?",
+        }
+        committing = {
+            "5": f"a commit has a count and a request, as in: {typed.A_COMMIT}",
+            "x 18 date 0": "'x' is not a number",
+            "4294967296 18 date 0": "4294967296 does not fit in 32 bits",
+            "5 ask 18 date 0": "there is no kind 'ask'; a commit carries a request",
+            "5 add-leave dates 0": "add-leave lacks visitor",
+        }
+        for command, cases in (("ask", asking), ("commit", committing)):
+            for words, message in cases.items():
+                self.complains(message, command, *words.split(), given=SETTINGS)
+                self.complains(f"line 2: {message}", "page", "0", given=f"{SETTINGS}\n{command} {words}")
+        lacking = f"line 2: asking is about a request, as in: {typed.AN_ASK}"
+        self.complains(lacking, "page", "0", given=f"{SETTINGS}\nask")
+
+
 class Commands(Tested):
     """The tables, the help, and commands that are none."""
 
     def test_the_tables(self):
         table = self.wrote("table").decode().splitlines()
-        self.assertEqual([int(line.split()[0]) for line in table[:28]], list(range(1, 29)))
+        self.assertEqual([int(line.split()[0]) for line in table[:30]], list(range(1, 31)))
         self.assertTrue(all(question in line for line, (question, _) in zip(table, rules.QUESTIONS.values())))
         kinds = self.wrote("kinds").decode().splitlines()
         self.assertEqual([line.split()[:2] for line in kinds], [[str(kind.number), kind.name] for kind in rules.KINDS])
 
     def test_help(self):
-        for arguments in ([], ["frame"], ["words"], ["explain"], ["page"], ["party"], ["table"], ["kinds"]):
+        for arguments in ([], ["frame"], ["words"], ["explain"], ["page"], ["party"], ["ask"], ["commit"],
+                          ["table"], ["kinds"]):
             self.assertIn(b"usage: caviar " + " ".join(arguments).encode(), self.wrote(*arguments, "--help"))
 
     def test_commands_that_are_none(self):
         for arguments in ([], ["fram"], ["table", "1"], ["explain", "--with"], ["explain", "--without"], ["page"],
-                          ["page", "0", "1"], ["party"]):
+                          ["page", "0", "1"], ["party"], ["ask"], ["commit"]):
             status, out, complaint = caviar(*arguments)
             self.assertEqual((status, out), (2, b""))
             self.assertTrue(complaint.startswith("usage: caviar"), complaint)
@@ -675,9 +793,9 @@ class Commands(Tested):
         self.assertEqual((done.returncode, done.stderr), (0, b""))
 
     def test_the_length_of_a_book(self):
-        self.assertEqual(typed.parse_line(SETTINGS, True).book_length(), 770)
+        self.assertEqual(typed.parse_line(SETTINGS, True).book_length(), 771)
         largest = rules.settings_of(list(rules.LIMITS.values()) + [95] + [1000] * 16)
-        self.assertEqual(largest.book_length(), 9_402_331)
+        self.assertEqual(largest.book_length(), 9_402_332)
         self.assertEqual(lines.read_first("zz"), Raw("zz"))
         self.assertRaises(Problem, lines.settings_in, "zz")
 
@@ -741,6 +859,16 @@ class Documents(Tested):
             out = self.wrote(*words.split(), given=(ROOT / site).read_bytes()).decode()
             self.assertEqual("".join(f"    {line}\n" for line in out.splitlines()), expected)
 
+    def test_the_offices_of_the_readme(self):
+        """Each ask and commit with what it is told, as the README shows it."""
+        readme = (ROOT / "README.md").read_text()
+        command = r"^    \$ tools/caviar ((?:ask|commit) .*) < (examples/offices.txt)\n((?:    .*\n)+?)(?=\n|    \$)"
+        shown = re.findall(command, readme, re.MULTILINE)
+        self.assertEqual(len(shown), 3)
+        for words, site, expected in shown:
+            out = self.wrote(*words.split(), given=(ROOT / site).read_bytes()).decode()
+            self.assertEqual("".join(f"    {line}\n" for line in out.splitlines()), expected)
+
     def test_the_orders_of_the_readme(self):
         typed_text = (ROOT / "examples" / "orders.txt").read_bytes()
         told = self.explained(typed_text, answered(PROVED, self.wrote("frame", given=typed_text))).decode()
@@ -789,6 +917,20 @@ class Documents(Tested):
         self.assertEqual(main.answered(entries)[1], expected)
         book, _ = library.played(entries[0], orders)
         self.assertEqual((book[65:76], book[109], book[769]), ([16, 4, 0, 1, 0, 1, 0, 0, 9, 0, 0], 20, 5))
+
+    def test_the_offices_of_the_rules(self):
+        """The table of rule 19.7."""
+        rule = (ROOT / "docs" / "RULES.md").read_text().partition("**19.7** ")[2]
+        row = r"^\| (ask|request|commit) \| (\d*) ?\| ((?:\d+ ){6}\d+) \| (\d+) (\d+) (\d+)(?:, (\d+))? \|"
+        calls, expected = [], []
+        for sort, count, words, *told in re.findall(row, rule, re.MULTILINE):
+            request = Request(*map(int, words.split()))
+            calls.append({"ask": Ask(request), "request": request}.get(sort) or Commit(int(count), request))
+            expected.append(tuple(map(int, filter(None, told))))
+        self.assertEqual(len(calls), 13)
+        book, answers = library.played(typed.parse_line(SETTINGS, True), calls)
+        told = [answer if isinstance(call, Ask) else answer[:3] for call, answer in zip(calls, answers)]
+        self.assertEqual((told, book[len(book) - 1]), (expected, 5))
 
     def test_the_numbers_of_the_documents(self):
         """The tables of refusal numbers go as far as the tool's."""

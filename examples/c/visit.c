@@ -1,5 +1,5 @@
 /* A visit of two dates, from C: lay a book, ask for leave, a hotel room and a meeting, see a refusal, check the book, write the
- * porter's page of a date, add a party, send an order twice and take a taxi before breakfast.
+ * porter's page of a date, add a party, send an order twice, see first and then book, and take a taxi before breakfast.
  *
  *     rt staticlib capi
  *     gcc -Iinclude examples/c/visit.c target/staticlib/libcapi.a -o target/visit && target/visit
@@ -9,7 +9,7 @@
 #include "caviar.h"
 
 /* How many words the book of the small site has, and how many that of the site with early times. */
-enum { WORDS = 770, TAXI_WORDS = 742 };
+enum { WORDS = 771, TAXI_WORDS = 743 };
 
 static void say(const char *what, caviar_answer answer)
 {
@@ -69,6 +69,29 @@ static void sent_twice(uint32_t *book)
     say("order 17 with hotel room 0", caviar_order(book, WORDS, 17, other));
 }
 
+static void say_asked(const char *what, caviar_asked asked)
+{
+    if (asked.number == 0)
+        printf("%s: would be done at count %u\n", what, asked.count);
+    else
+        printf("%s: would be refused by question %u at %u, at count %u\n", what, asked.number, asked.place, asked.count);
+}
+
+/* Two offices see hotel room 0 free on date 1 at the same count. The one that commits first has it; the other asks again. */
+static void see_first(uint32_t *book)
+{
+    caviar_request_words here = {.kind = 4, .a = 0, .b = 0, .first = 1, .last = 1};
+    caviar_request_words there = {.kind = 4, .a = 0, .b = 1, .first = 1, .last = 1};
+    caviar_asked seen_here = caviar_ask(book, WORDS, here);
+    caviar_asked seen_there = caviar_ask(book, WORDS, there);
+
+    say_asked("hotel room 0 for visitor 0 on date 1", seen_here);
+    say_asked("hotel room 0 for visitor 1 on date 1", seen_there);
+    say("commit for visitor 1", caviar_commit(book, WORDS, seen_there.count, there));
+    say("commit for visitor 0", caviar_commit(book, WORDS, seen_here.count, here));
+    say_asked("hotel room 0 for visitor 0 on date 1", caviar_ask(book, WORDS, here));
+}
+
 /* The small site of docs/RULES.md, section 13, request by request. */
 static void small_site(void)
 {
@@ -88,6 +111,7 @@ static void small_site(void)
     porters_page(book);
     coach_party(book);
     sent_twice(book);
+    see_first(book);
 }
 
 /* A site of two dates with four ride times each, the first of which belongs to the date before: time 4, the first of date 1, is on date 0.
@@ -131,7 +155,7 @@ static int largest_site(void)
         printf("  kind %u: number %u, place %u, value %u\n", requests[7 * i], answers[3 * i], answers[3 * i + 1], answers[3 * i + 2]);
     say("the same list again", caviar_requests(book, length, requests, 42, answers, 18));
     say("check", caviar_check(book, length));
-    book[length - CAVIAR_RING_WORDS - 1] = 513;
+    book[length - CAVIAR_RING_WORDS - 2] = 513;
     say("check with a visitor past the limit in the last cell", caviar_check(book, length));
     free(book);
     return 0;

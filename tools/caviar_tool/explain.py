@@ -1,12 +1,13 @@
 """Answers in sentences."""
 
 from .lines import printable, settings_in
-from .rules import (BY_NUMBER, KEPT_ORDERS, MOST_GUESTS, MOST_WORDS, QUESTIONS, Order, Party, Problem, Raw, Settings,
-                    has_place)
+from .rules import (BY_NUMBER, KEPT_ORDERS, MOST_CHANGES, MOST_GUESTS, MOST_WORDS, QUESTIONS, Ask, Commit, Order, Party,
+                    Problem, Raw, Settings, has_place)
 from .typed import typed
 
 WIDEST_ECHO = 100
 BEFORE = {"date": "on", "session": "in", "time": "at"}
+CANNOT_RISE = f"the change count is {MOST_CHANGES} and cannot rise"
 
 
 def run_of(unit, first, last):
@@ -132,7 +133,7 @@ def form(scene):
 
 
 def said_no(scene, number, place):
-    """Why a request of good form was refused: questions 9 to 22, at their place."""
+    """Why a request of good form was refused: questions 9 to 22, at their place, and 30."""
     kind = scene.kind.number
     there = f"on date {place}" if number == 17 else scene.slots(place, place)
     meeting = scene.b if kind == 12 else scene.a
@@ -151,6 +152,7 @@ def said_no(scene, number, place):
         20: f"{scene.a} does not stand {there}, so that there is nothing to end",
         21: f"{scene.b} attends no meeting {there}",
         22: f"no conference room is free {scene.throughout()}",
+        30: CANNOT_RISE,
     }
     return said[number].format(x=scene)
 
@@ -221,14 +223,35 @@ def sentence_of_party(settings, party, answer):
         return f"Done: {who} meeting {party.meeting}."
     if number == 27:
         return f"Refused by 27: {guests} guests are not from 1 to {MOST_GUESTS}. {question(27)}"
+    if number == 30:
+        return f"Refused by 30: {CANNOT_RISE}; nobody was added. {question(30)}"
     said = reason(settings, party.requests()[at - 1], number, place, value)
     return f"Refused by {number} at guest {at} of {guests}: {said}; nobody was added. {question(number)}"
 
 
+def sentence_of_ask(settings, ask, answer):
+    """What asking tells: what would be done, or why not, and behind the answer's three words the change count."""
+    number, place, value = checked(answer[:3])
+    said = reason(settings, ask.request, number, place, value)
+    if not number:
+        return f"Would be done at count {answer[3]}: {said}."
+    return f"Would be refused by {number} at count {answer[3]}: {said}. {question(number)}"
+
+
+def sentence_of_commit(settings, commit, answer):
+    """What an answer says to a commit; behind its three words is the change count of the book."""
+    if answer[0] != 29:
+        return sentence(settings, commit.request, answer[:3])
+    return f"Refused by 29: the change count is {answer[3]} by now, not {commit.count}. {question(29)}"
+
+
+OF_CALLS = {Party: sentence_of_party, Ask: sentence_of_ask, Commit: sentence_of_commit}
+
+
 def sentence(settings, entry, answer):
-    """What an answer says to its request, or to a party."""
-    if isinstance(entry, Party):
-        return sentence_of_party(settings, entry, answer)
+    """What an answer says to its request, or to a call of another sort."""
+    if type(entry) in OF_CALLS:
+        return OF_CALLS[type(entry)](settings, entry, answer)
     number, place, value = checked(answer)
     said = reason(settings, entry, number, place, value)
     if not number:

@@ -6,7 +6,7 @@ import itertools
 from pathlib import Path
 
 from .lines import WORDS_OF_ANSWER, WORDS_OF_ORDER
-from .rules import Order, Party, Problem
+from .rules import Ask, Commit, Order, Party, Problem, Request
 
 PATH = Path(__file__).resolve().parent.parent.parent / "target" / "lib" / "libcaviar.so"
 LINE_BYTES = 31
@@ -18,6 +18,18 @@ class Answer(ctypes.Structure):
     """The three words of an answer."""
 
     _fields_ = [("number", WORD), ("place", WORD), ("value", WORD)]
+
+
+class Asked(ctypes.Structure):
+    """The three words of an answer, and the change count."""
+
+    _fields_ = [*Answer._fields_, ("count", WORD)]
+
+
+class RequestWords(ctypes.Structure):
+    """The seven words of a request."""
+
+    _fields_ = [(field, WORD) for field in Request._fields]
 
 
 class Guest(ctypes.Structure):
@@ -35,7 +47,11 @@ def loaded():
         library.caviar_orders.argtypes = [WORDS, LENGTH] * 3
         library.caviar_page.argtypes = [WORDS, LENGTH, WORD, ctypes.POINTER(ctypes.c_uint8), LENGTH]
         library.caviar_party.argtypes = [WORDS, LENGTH, WORD, ctypes.POINTER(Guest), LENGTH]
-        for function in (library.caviar_lay, library.caviar_orders, library.caviar_page, library.caviar_party):
+        library.caviar_ask.argtypes = [WORDS, LENGTH, RequestWords]
+        library.caviar_commit.argtypes = [WORDS, LENGTH, WORD, RequestWords]
+        library.caviar_ask.restype = Asked
+        for function in (library.caviar_lay, library.caviar_orders, library.caviar_page, library.caviar_party,
+                         library.caviar_commit):
             function.restype = Answer
     except (OSError, AttributeError) as error:
         raise Problem(f"no library with these functions, `tools/build-library` makes it: {error}") from None
@@ -73,21 +89,39 @@ def answered(book, requests):
 def admitted(book, party):
     """The answer to a party, and which guest it is for, counted from 1; 0 for none.
 
-    The answer does not name the guest. It is the first one who is refused when they are added one by one to a copy.
+    The answer does not name the guest. It is the first one who is refused when they are added one by one to a copy,
+    at count 0, so that each of them can be counted.
     """
     copy = type(book).from_buffer_copy(book)
+    copy[len(copy) - 1] = 0
     guests = (Guest * len(party.guests))(*party.guests)
     done = loaded().caviar_party(book, len(book), party.meeting, guests, len(guests))
-    singly = answered(copy, party.requests()) if done.number not in (0, 27) else []
+    singly = answered(copy, party.requests()) if done.number not in (0, 27, 30) else []
     refused = next((at for at, answer in enumerate(singly, 1) if answer[0]), 0)
     return done.number, done.place, done.value, refused
 
 
+def asked(book, ask):
+    """What a request would be answered, and the change count."""
+    told = loaded().caviar_ask(book, len(book), RequestWords(*ask.request))
+    return told.number, told.place, told.value, told.count
+
+
+def committed(book, commit):
+    """The answer to a commit, and the change count of the book behind it."""
+    done = loaded().caviar_commit(book, len(book), commit.count, RequestWords(*commit.request))
+    return done.number, done.place, done.value, book[len(book) - 1]
+
+
+# The calls that are made one by one; requests and orders go as a list.
+SINGLY = {Party: admitted, Ask: asked, Commit: committed}
+
+
 def played(settings, calls):
-    """The book of the settings after the calls, requests, orders and parties, and the answer to each."""
+    """The book of the settings after the calls, and the answer to each."""
     book, answers = laid(settings), []
-    for of_parties, run in itertools.groupby(calls, lambda call: isinstance(call, Party)):
-        answers += [admitted(book, party) for party in run] if of_parties else answered(book, list(run))
+    for single, run in itertools.groupby(calls, lambda call: SINGLY.get(type(call))):
+        answers += [single(book, call) for call in run] if single else answered(book, list(run))
     return book, answers
 
 

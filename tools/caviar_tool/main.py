@@ -7,9 +7,9 @@ from pathlib import Path
 
 from . import library
 from . import typed as words_typed
-from .explain import echo, explained, question, sentence_alone, sentence_of_party, sentence_of_settings
+from .explain import echo, explained, question, sentence, sentence_alone, sentence_of_settings
 from .lines import printable, read_answer, read_lines, text_lines, written
-from .rules import INFO, KINDS, QUESTIONS, Problem, Raw, Settings
+from .rules import INFO, KINDS, QUESTIONS, Ask, Problem, Raw, Settings
 
 BAD_INPUT = 2
 
@@ -19,17 +19,18 @@ ABOUT = """The booking book for people: typed requests to the lines that the pro
     frames < requests > answers
     caviar explain --with site.txt < answers
 
-The porter's page of a date, and what a party is answered, are told from the site alone, by the library that
-tools/build-library makes:
+The porter's page of a date, and what a party, an ask or a commit is told, come from the site alone, by the library
+that tools/build-library makes:
 
     caviar page 0 < site.txt
     caviar party meeting 0 visitor 1 sessions 0..1, visitor 2 session 1 < site.txt
+    caviar ask add-hotel room 0 visitor 1 date 0 < site.txt
 """
 
 PAGE = """
-The site is settings and requests, typed or in the program's lines, and parties where it is typed. The page has a line
-for each session and conference room in use: session, room, meeting, visitors who attend, information. What is refused
-is told on standard error; the page is that of the book which the rest makes.
+The site is settings and requests, typed or in the program's lines, and parties and commits where it is typed. The page
+has a line for each session and conference room in use: session, room, meeting, visitors who attend, information. What
+is refused is told on standard error; the page is that of the book which the rest makes.
 """
 
 PARTY = """
@@ -38,8 +39,21 @@ where one is refused none; the sentence says which one and why.
 
     caviar party meeting 3 visitor 1 sessions 4..5, visitor 2 session 4 < site.txt
 
-The site is settings and requests, typed or in the program's lines, and parties where it is typed. What of it is refused
-is told on standard error. The same words as a line of a typed site let the party join it.
+The site is settings and requests, typed or in the program's lines, and parties and commits where it is typed. What of
+it is refused is told on standard error. The same words as a line of a typed site let the party join it.
+"""
+
+ASK = """
+Says what the request would be answered on the site, and at which change count; nothing is changed. Each request of
+kinds 1 to 16 that is done raises the count by one, and so does each party.
+
+    caviar ask add-hotel room 0 visitor 1 dates 0..1 < site.txt
+    caviar commit 2 add-hotel room 0 visitor 1 dates 0..1 < site.txt
+"""
+
+COMMIT = """
+The request at a change count: what `caviar ask` told at that count is what it is answered. If the site's count is
+another by now, the commit is refused by 29, and nothing changes. As a line of a typed site it joins the site.
 """
 
 
@@ -87,9 +101,9 @@ def answers_of(text):
     return answers
 
 
-def entries_in(text, parties=False):
-    """The entries of a text of requests, typed or in lines; of parties too where they are taken."""
-    return words_typed.parse_text(text, parties) if words_typed.is_typed(text) else read_lines(text)
+def entries_in(text, calls=False):
+    """The entries of a text of requests, typed or in lines; of calls of other sorts too where they are taken."""
+    return words_typed.parse_text(text, calls) if words_typed.is_typed(text) else read_lines(text)
 
 
 def requests_of(path):
@@ -128,7 +142,8 @@ def answered(entries):
 
 def tell_refused(entries, answers, where):
     """Says on standard error what of a site was refused."""
-    refused = [told for told, answer in zip(explained(entries, answers), answers) if answer[0]]
+    of_calls = zip(explained(entries, answers), entries[1:], answers)
+    refused = [told for told, entry, answer in of_calls if answer[0] and not isinstance(entry, Ask)]
     if refused:
         told = [line for sentence in refused for line in text_lines(sentence)]
         complain(f"requests that were refused and left no mark on this {where}: {len(refused)}", *told)
@@ -137,7 +152,7 @@ def tell_refused(entries, answers, where):
 def page(options):
     """The lines of the porter's page. What of the site was refused is told on standard error."""
     date = words_typed.number(options.date)
-    entries = entries_in(standard_input(), parties=True)
+    entries = entries_in(standard_input(), calls=True)
     book, answers = answered(entries)
     number, lines = library.page(entries[0], book, date)
     if number:  # 7: the book is a good one, and the page has room for every line
@@ -147,14 +162,19 @@ def page(options):
     return text_lines(text_of(lines))
 
 
-def party(options):
-    """The party as it would be typed, and its answer. What of the site was refused is told on standard error."""
-    asked = words_typed.parse_party(" ".join(options.words).lower().split())
-    entries = entries_in(standard_input(), parties=True)
-    book, answers = answered(entries)
-    told = sentence_of_party(entries[0], asked, library.admitted(book, asked))
-    tell_refused(entries, answers, "book")
-    return [echo(asked), f"    {told}"]
+def single(parse):
+    """The command of one call: the call as it would be typed, and what it is told. What of the site was refused is told
+    on standard error."""
+
+    def run(options):
+        call = parse(" ".join(options.words).lower().split())
+        entries = entries_in(standard_input(), calls=True)
+        book, answers = answered(entries)
+        told = sentence(entries[0], call, library.SINGLY[type(call)](book, call))
+        tell_refused(entries, answers, "book")
+        return [echo(call), f"    {told}"]
+
+    return run
 
 
 def table(_):
@@ -165,10 +185,10 @@ def table(_):
         lines.append(f"{number:2}  {question}{of}")
     return lines + [
         "",
-        "A refusal has the number n of the first rule 5.n of docs/RULES.md that is not kept; 28 comes after 2. Its place",
-        "is the lowest slot where it is not kept (9 to 16 and 19 to 21), a date (17 and 18) or 0. a is the hotel,",
-        "conference or dining room, the transport, or the meeting of kinds 8 to 11. b is the visitor, or the meeting of",
-        "kinds 12 to 16.",
+        "A refusal has the number n of the first rule 5.n of docs/RULES.md that is not kept; 28 and 29 come after 2.",
+        "Its place is the lowest slot where it is not kept (9 to 16 and 19 to 21), a date (17 and 18) or 0. a is the",
+        "hotel, conference or dining room, the transport, or the meeting of kinds 8 to 11. b is the visitor, or the",
+        "meeting of kinds 12 to 16. 30 is for kinds 1 to 16 and for a party.",
     ]
 
 
@@ -199,9 +219,16 @@ def parser():
                             help="the file that was answered, typed or in lines; sentences then say what and when")
     paging = command(page, "page", "print the porter's page of a date, from the site on standard input", PAGE)
     paging.add_argument("date", metavar="DATE", help="the date, from 0")
-    joining = command(party, "party", "say what a party is answered, on the site on standard input", PARTY)
+    joining = command(single(words_typed.parse_party), "party",
+                      "say what a party is answered, on the site on standard input", PARTY)
     joining.add_argument("words", nargs="+", metavar="WORD", help="meeting N, then visitor N sessions N..N, ..")
-    command(table, "table", "print the refusal numbers 1 to 28 with their rules")
+    asking = command(single(words_typed.parse_ask), "ask",
+                     "say what a request would be answered, on the site on standard input", ASK)
+    asking.add_argument("words", nargs="+", metavar="WORD", help="a typed request")
+    committing = command(single(words_typed.parse_commit), "commit",
+                         "say what a commit is answered, on the site on standard input", COMMIT)
+    committing.add_argument("words", nargs="+", metavar="WORD", help="the count, then a typed request")
+    command(table, "table", "print the refusal numbers 1 to 30 with their rules")
     command(kinds, "kinds", "print the kinds of requests and the words that each takes")
     return top
 

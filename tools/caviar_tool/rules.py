@@ -10,9 +10,10 @@ MOST_WORDS = 16_384
 # A party has at most so many guests.
 MOST_GUESTS = 64
 
-# A book keeps so many orders, in so many words.
+# A book keeps so many orders, in so many words; behind them is one more, the change count.
 KEPT_ORDERS = 64
 RING_WORDS = 705
+MOST_CHANGES = WORD_LIMIT - 1
 
 # The one word of a request that may be left out.
 INFO = "info"
@@ -119,7 +120,7 @@ BY_NUMBER = {kind.number: kind for kind in KINDS}
 BY_NAME = {kind.name: kind for kind in KINDS}
 
 # The questions of section 5, as what must be so, with the kinds that they are asked of; none where a line, a book,
-# settings, a page, a party or an order are asked about.
+# settings, a page, a party, an order or a commit are asked about.
 EVERY = tuple(BY_NUMBER)
 QUESTIONS = {
     1: ("the words must be as many as their settings ask for, and these settings in range", ()),
@@ -150,6 +151,8 @@ QUESTIONS = {
     26: ("the page must have room for its lines, 31 bytes each", ()),
     27: ("a party must have a guest, and no more than 64 of them", ()),
     28: ("an order that is kept must come with the request that it is kept with", ()),
+    29: ("the count of a commit must be the change count of the book", ()),
+    30: ("a change must be counted: the change count must not be 4,294,967,295 before it", tuple(range(1, 17))),
 }
 
 
@@ -184,12 +187,12 @@ class Settings(NamedTuple):
         return self.limits + (self.early,) + self.capacities
 
     def book_length(self):
-        """How many words the book of this site has, region by region, and the ring of orders."""
+        """How many words the book of this site has, region by region, the ring of orders and the change count."""
         dates, _, _, visitors, meetings, rooms, _, hotels, transports = self.limits
         sessions, times = self.slots("session"), self.slots("time")
         of_dates = dates * (-(-visitors // 32) + hotels + 3 * meetings)
         of_sessions = sessions * (-(-meetings // 32) + visitors + 2 * rooms)
-        return len(self.words()) + of_dates + of_sessions + times * transports + RING_WORDS
+        return len(self.words()) + of_dates + of_sessions + times * transports + RING_WORDS + 1
 
 
 def settings_of(words):
@@ -232,6 +235,19 @@ class Order(NamedTuple):
 
     def words(self):
         return self.request + (self.order,)
+
+
+class Ask(NamedTuple):
+    """What a request would be answered, and the change count."""
+
+    request: Request
+
+
+class Commit(NamedTuple):
+    """A request at a change count that was told."""
+
+    count: int
+    request: Request
 
 
 class Guest(NamedTuple):

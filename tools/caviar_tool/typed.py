@@ -7,10 +7,13 @@
     add-leave b 1 first 0 last 1               # the request's own field names do as well
     order 17 add-hotel room 0 visitor 1 date 0 # a request with the number of an order
     party meeting 0 visitor 1 sessions 0..1, visitor 2 session 1     # all of these guests or none
+    ask add-hotel room 0 visitor 1 date 0      # what it would be answered, and the change count
+    commit 12 add-hotel room 0 visitor 1 date 0      # if the change count is still 12
 
 Every word that the kind takes must be there; only `info`, and `early` of settings, may be left out, and are then 0.
 Settings come first. `raw TEXT` stands for the line TEXT as it is. Numbers are in base ten, or with 0x in base sixteen.
-A party begins with its meeting; it is for `caviar page` and `caviar party`, since the program has no line for it.
+A party begins with its meeting. Parties, asks and commits are for the commands of these names and for `caviar page`,
+since the program has no lines for them.
 The words are written as they are typed: whether a request is accepted is for the program to say.
 """
 
@@ -18,13 +21,18 @@ import difflib
 import re
 
 from .lines import text_lines
-from .rules import (BY_NAME, BY_NUMBER, EARLY, LIMITS, WORD_LIMIT, Guest, Order, Party, Problem, Raw, Request,
-                    Settings, settings_of)
+from .rules import (BY_NAME, BY_NUMBER, EARLY, LIMITS, WORD_LIMIT, Ask, Commit, Guest, Order, Party, Problem, Raw,
+                    Request, Settings, settings_of)
 
 FIELDS = ("a", "b", "first", "last", "n", "info")
 RUN = ("first", "last")
 AN_ORDER = "order 17 add-leave visitor 1 dates 0..1"
 A_PARTY = "party meeting 0 visitor 1 sessions 0..1, visitor 2 session 1"
+AN_ASK = "ask add-leave visitor 1 dates 0..1"
+A_COMMIT = "commit 12 add-leave visitor 1 dates 0..1"
+# What begins a line that is no request, and what the program has no line for.
+HEADS = ("settings", "order", "party", "ask", "commit", "raw")
+WITHOUT_LINE = {"party": "a party", "ask": "asking", "commit": "a commit"}
 GUEST_WORDS = {"visitor": ("visitor",), "session": RUN, "sessions": RUN, "first": ("first",), "last": ("last",)}
 UNITS = {"date": "date", "dates": "date", "session": "session", "sessions": "session", "time": "time", "times": "time"}
 RAW = re.compile(r"\s*raw(?:\s(.*))?", re.DOTALL | re.IGNORECASE)
@@ -54,7 +62,7 @@ def kind_of(text):
         return BY_NAME[text].number
     if re.fullmatch(r"[0-9]+|0x[0-9a-f]+", text, re.ASCII):
         return number(text)
-    near = difflib.get_close_matches(text, list(BY_NAME) + ["settings", "order", "party", "raw"], 1)
+    near = difflib.get_close_matches(text, list(BY_NAME) + list(HEADS), 1)
     hint = f"did you mean {near[0]}?" if near else "`caviar kinds` lists the kinds"
     raise Problem(f"there is no kind '{text}'; {hint}")
 
@@ -113,9 +121,28 @@ def parse_order(words):
     """An order: its number, then its request."""
     if len(words) < 2:
         raise Problem(f"an order has a number and a request, as in: {AN_ORDER}")
-    if words[1] in ("settings", "order", "party", "raw"):
-        raise Problem(f"there is no kind '{words[1]}'; an order carries a request")
-    return Order(number(words[0]), parse_request(words[1], words[2:]))
+    return Order(number(words[0]), parse_carried(words[1:], "an order carries a request"))
+
+
+def parse_carried(words, why):
+    """The request in a call that has one."""
+    if words[0] in HEADS:
+        raise Problem(f"there is no kind '{words[0]}'; {why}")
+    return parse_request(words[0], words[1:])
+
+
+def parse_ask(words):
+    """Asking: the request that it is about."""
+    if not words:
+        raise Problem(f"asking is about a request, as in: {AN_ASK}")
+    return Ask(parse_carried(words, "asking is about a request"))
+
+
+def parse_commit(words):
+    """A commit: the count, then its request."""
+    if len(words) < 2:
+        raise Problem(f"a commit has a count and a request, as in: {A_COMMIT}")
+    return Commit(number(words[0]), parse_carried(words[1:], "a commit carries a request"))
 
 
 def parse_guest(words):
@@ -159,18 +186,20 @@ def parse_settings(words):
     return settings_of(head + [number(text) for text in words[at + 1:]])
 
 
-def parse_line(line, first, parties=False):
-    """What a typed line holds, or None for a blank line or a comment. Settings are for the first one."""
+def parse_line(line, first, calls=False):
+    """What a typed line holds, or None for a blank line or a comment. Settings are for the first one; calls that the
+    program has no line for are taken where they may be."""
     raw = RAW.fullmatch(line)
     if raw:
         return Raw(raw.group(1) or "")
     words = line.partition("#")[0].lower().split()
     if not words:
         return None
-    if words[0] == "party":
-        if not parties:
-            raise Problem("the program has no line for a party; `caviar page` and `caviar party` take it")
-        return parse_party(words[1:])
+    if words[0] in WITHOUT_LINE:
+        if not calls:
+            what = WITHOUT_LINE[words[0]]
+            raise Problem(f"the program has no line for {what}; `caviar page` and `caviar {words[0]}` take it")
+        return {"party": parse_party, "ask": parse_ask, "commit": parse_commit}[words[0]](words[1:])
     if words[0] == "order":
         return parse_order(words[1:])
     if words[0] != "settings":
@@ -180,12 +209,12 @@ def parse_line(line, first, parties=False):
     return parse_settings(words[1:])
 
 
-def parse_text(text, parties=False):
-    """What a typed text holds, with parties where they are taken; a Problem names the line."""
+def parse_text(text, calls=False):
+    """What a typed text holds, with parties, asks and commits where they are taken; a Problem names the line."""
     entries = []
     for at, line in enumerate(text_lines(text), 1):
         try:
-            entry = parse_line(line, not entries, parties)
+            entry = parse_line(line, not entries, calls)
         except Problem as problem:
             raise Problem(f"line {at}: {problem}") from None
         if entry is not None:
@@ -199,7 +228,7 @@ def is_typed(text):
         words = line.partition("#")[0].lower().split()
         if words:
             by_number = re.fullmatch(r"[0-9]{1,10}", words[0], re.ASCII) and words[1:2] and words[1].isalpha()
-            return bool(words[0] in BY_NAME or words[0] in ("settings", "order", "party", "raw") or by_number)
+            return bool(words[0] in BY_NAME or words[0] in HEADS or by_number)
     return True
 
 
@@ -236,4 +265,8 @@ def typed(entry):
         return f"settings {limits}{early} capacities {' '.join(map(str, entry.capacities))}"
     if isinstance(entry, Order):
         return f"order {entry.order} {typed_request(entry.request)}"
+    if isinstance(entry, Ask):
+        return f"ask {typed_request(entry.request)}"
+    if isinstance(entry, Commit):
+        return f"commit {entry.count} {typed_request(entry.request)}"
     return typed_party(entry) if isinstance(entry, Party) else typed_request(entry)

@@ -1,4 +1,4 @@
-//! The writes of an accepted request. They ask nothing; kind 3 counts what it erases.
+//! The writes of an accepted request. They ask nothing; kind 3 counts what it erases, or what it would erase.
 
 use crate::judge::{has_bit, holds};
 use crate::site::{Dated, Grid, Request, Site};
@@ -52,6 +52,18 @@ pub fn remove_visitor(site: &Site, book: &mut [u32], r: &Request) -> u32 {
     }
     clear_bits(book, &site.leave, r, r.b);
     erased
+}
+
+/// What `remove_visitor` would erase.
+pub fn bookings(site: &Site, book: &[u32], r: &Request) -> u32 {
+    let cells = |words: &[u32]| words.iter().map(|cell| u32::from(*cell == r.b + 1)).sum::<u32>();
+    let attended = |session: u32| u32::from(book[site.attend.at(session, r.b as usize)] != 0);
+    let mut found = 0;
+    for date in (r.first..r.last + 1).filter(|date| has_bit(&site.leave, book, *date, r.b)) {
+        found += cells(site.hotel.row(book, date)) + cells(site.ride.date(book, date));
+        found += (site.attend.first_on(date)..site.attend.first_on(date + 1)).map(attended).sum::<u32>();
+    }
+    found
 }
 
 #[inline(always)]

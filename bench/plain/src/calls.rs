@@ -1,9 +1,9 @@
-//! Laying, one request on a raw book, and lists, without and with orders.
+//! Laying, one request on a raw book, and lists, without and with orders; asking and committing.
 
 use crate::check::check;
 use crate::orders::{self, Numbers};
 use crate::site::{Answer, Request, Site};
-use crate::step::step;
+use crate::step::{count, step, would_be};
 
 /// Writes the settings, then zeros; 24 and 25 keep the book.
 pub fn lay(settings: &[u32], book: &mut [u32]) -> Answer {
@@ -33,6 +33,25 @@ pub fn order(book: &mut [u32], order: u32, request: &Request) -> Answer {
             let mut numbers = Numbers::of(&site, book);
             orders::order(&site, book, &mut numbers, order, request)
         }
+        _ => checked,
+    }
+}
+
+/// What a request on any words would be answered, and the change count.
+pub fn ask(book: &[u32], request: &Request) -> (Answer, u32) {
+    let checked = check(book);
+    match Site::of_book(book) {
+        Some(site) if checked.number == 0 => (would_be(&site, book, request), count(&site, book)),
+        _ => (checked, 0),
+    }
+}
+
+/// One request at a change count on any words.
+pub fn commit(book: &mut [u32], seen: u32, request: &Request) -> Answer {
+    let checked = check(book);
+    match Site::of_book(book) {
+        Some(site) if checked.number == 0 && count(&site, book) == seen => step(&site, book, request),
+        Some(_) if checked.number == 0 => Answer::refused(29, 0),
         _ => checked,
     }
 }

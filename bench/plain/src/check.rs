@@ -2,7 +2,7 @@
 //! folded by OR, which finds blank rows and words past every table at once, and then looked up in
 //! small tables of barred members.
 
-use crate::orders::ring_is_bad;
+use crate::orders::{ring_is_bad, RING_WORDS};
 use crate::site::{Answer, Site};
 
 /// Tables are larger than any cell that may stand in a row, so that a masked cell is an index.
@@ -18,7 +18,7 @@ pub fn check(book: &[u32]) -> Answer {
             return Answer::refused(2, 0);
         }
     }
-    if ring_is_bad(&book[site.ring..]) {
+    if ring_is_bad(&book[site.ring..][..RING_WORDS]) {
         return Answer::refused(2, 0);
     }
     Answer::done(0)

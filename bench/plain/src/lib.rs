@@ -4,8 +4,8 @@
 //! - `site`: limits and where the regions lie, computed once for a list
 //! - `check`: questions 1 and 2 in one pass
 //! - `kinds`: the table of kinds, questions 3 to 8
-//! - `judge` and `apply`: questions 9 to 22, and the writes; `step` puts them together
-//! - `calls`: laying, requests on raw books, lists
+//! - `judge` and `apply`: questions 9 to 22, and the writes; `step` puts them together, with the change count
+//! - `calls`: laying, requests on raw books, lists, asking and committing
 //! - `orders`: the ring of kept orders, and requests that carry the number of one
 //! - `party`: guests of one meeting, all or none
 //! - `lines`: the line program in chunks
@@ -23,7 +23,7 @@ pub mod site;
 pub mod step;
 pub mod traffic;
 
-pub use calls::{lay, order, orders, request, requests, serve, serve_orders};
+pub use calls::{ask, commit, lay, order, orders, request, requests, serve, serve_orders};
 pub use check::check;
 pub use party::party;
 pub use site::{Answer, Request, Site};

@@ -5,13 +5,14 @@ use crate::check::check;
 use crate::judge::new_attend;
 use crate::kinds::form;
 use crate::site::{Answer, Request, Site};
+use crate::step::raise;
 
 /// A visitor, and the first and the last session.
 pub type Guest = [u32; 3];
 
 const MOST_GUESTS: usize = 64;
 
-/// On any words: 1, 2 and 27, then the guests in their order.
+/// On any words: 1, 2 and 27, then the guests in their order, then 30.
 pub fn party(book: &mut [u32], meeting: u32, guests: &[Guest]) -> Answer {
     let checked = check(book);
     match Site::of_book(book) {
@@ -29,15 +30,23 @@ fn all_or_none(site: &Site, book: &mut [u32], meeting: u32, guests: &[Guest]) ->
     for (at, guest) in guests.iter().enumerate() {
         let r = joining(meeting, guest);
         if let Err(refused) = form::<10>(site, &r).and_then(|()| new_attend(site, book, &r)) {
-            for before in &guests[..at] {
-                let r = joining(meeting, before);
-                put_cells(book, &site.attend, &r, r.b, 0);
-            }
+            take_back(site, book, meeting, &guests[..at]);
             return refused;
         }
         put_cells(book, &site.attend, &r, r.b, meeting + 1);
     }
+    if let Err(refused) = raise(site, book) {
+        take_back(site, book, meeting, guests);
+        return refused;
+    }
     Answer::done(0)
+}
+
+fn take_back(site: &Site, book: &mut [u32], meeting: u32, guests: &[Guest]) {
+    for guest in guests {
+        let r = joining(meeting, guest);
+        put_cells(book, &site.attend, &r, r.b, 0);
+    }
 }
 
 #[inline(always)]

@@ -1,4 +1,5 @@
 //! Limits, early times, capacities and the places of the seven regions and of the ring, computed once and passed along.
+//! The last word of a book is its change count.
 
 use crate::orders::RING_WORDS;
 
@@ -162,7 +163,7 @@ impl Site {
         let rides = grid(k, q);
         let ride = Rides { cells: rides, early, end };
         let slots = [d, d * p, d * q].map(|count| count as u32);
-        let length = end + RING_WORDS;
+        let length = end + RING_WORDS + 1;
         Site { limits, capacities, slots, leave, hotel, standing, attend, conf, lunch, ride, ring: end, length }
     }
 

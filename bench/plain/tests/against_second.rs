@@ -2,6 +2,8 @@
 
 use plain::{Request, Site};
 use second::book;
+use second::calls::{on_book, Call};
+use second::gen::asking;
 use second::gen::early;
 use second::gen::orders;
 use second::gen::parties::{lent, Sort};
@@ -185,6 +187,42 @@ fn orders_of_all_sorts() {
     }
     println!("seed {}: orders {sorts:?}", seed(6));
     want(&sorts, orders::Sort::all().into_iter().filter(|sort| !matches!(sort, orders::Sort::Refused(8..=22))), 5);
+}
+
+/// The plain engine's words to a call of any sort.
+fn plain_on_book(words: &mut [u32], call: &Call) -> Vec<u32> {
+    let plain_request = |request: &machine::Request| Request::new(request.words());
+    match call {
+        Call::Request(request) => plain::request(words, &plain_request(request)).words().to_vec(),
+        Call::Order { order, request } => plain::order(words, *order, &plain_request(request)).words().to_vec(),
+        Call::Party { meeting, guests } => {
+            let guests: Vec<plain::party::Guest> = guests.iter().map(|guest| guest.words()).collect();
+            plain::party(words, *meeting, &guests).words().to_vec()
+        }
+        Call::Ask(request) => {
+            let (answer, count) = plain::ask(words, &plain_request(request));
+            [&answer.words()[..], &[count]].concat()
+        }
+        Call::Commit { count, request } => plain::commit(words, *count, &plain_request(request)).words().to_vec(),
+    }
+}
+
+/// Asks, commits and other calls at change counts of every size, on lawful, damaged and junk books.
+#[test]
+fn asks_and_commits() {
+    let mut rng = Rng::new(seed(8));
+    let mut sorts = BTreeMap::new();
+    for _ in 0..times(8000) {
+        let asking::Lent { book: before, call } = asking::lent(&mut rng);
+        let (mut ours, mut theirs) = (before.clone(), before.clone());
+        assert_eq!(plain_on_book(&mut ours, &call), on_book(&mut theirs, &call).words(), "{call:?}");
+        assert!(ours == theirs, "{call:?}");
+        if let Ok(state) = book::calls::open(&before) {
+            asking::Sort::of(&state, &call).into_iter().for_each(|sort| count(&mut sorts, sort));
+        }
+    }
+    println!("seed {}: asks and commits {sorts:?}", seed(8));
+    want(&sorts, asking::Sort::all(), 2);
 }
 
 /// Checking: each rule broken alone, lawful books, and lists on them.

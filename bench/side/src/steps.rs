@@ -1,4 +1,4 @@
-//! One request with its check, a list with one check, the steps of a list without it, and lists of orders.
+//! One request with its check, a list with one check, the steps of a list without it, lists of orders, asks and commits.
 
 use crate::clock::{seconds, turns};
 use crate::sites::{load, medium, of_kind, small, SEED};
@@ -137,6 +137,52 @@ fn one_request(name: &str, book: &[u32], requests: &[[u32; 7]]) {
     );
     let micro = |time: f64| format!("{:.1} µs", time * 1e6);
     row(&format!("request, {name}"), times, micro, "one request with its check");
+}
+
+/// One request of the load asked, and committed at the count that was told, each with its check.
+pub fn ask_and_commit(name: &str, book: &[u32]) {
+    let settings = Settings::of_book(book).expect("a full book");
+    let requests = load(&settings, 64);
+    let copy = Copy::of(book, 0);
+    for words in &requests {
+        let told = caviar::ask(book, Request::from_words(*words));
+        let (answer, count) = plain::ask(book, &plain::Request::new(*words));
+        assert_eq!((told.answer.words(), told.count), (answer.words(), count), "the engines differ");
+        copy.time(|book, _| assert_eq!(caviar::commit(book, count, Request::from_words(*words)), told.answer));
+        let proved_left = copy.left();
+        copy.time(|book, _| plain::commit(book, count, &plain::Request::new(*words)));
+        assert!(proved_left == copy.left(), "the engines differ");
+    }
+    let count = book[book.len() - 1];
+    let times = of_requests(
+        &copy,
+        &requests,
+        &|book, r| caviar::ask(book, Request::from_words(r)).answer.number,
+        &|book, r| plain::ask(book, &plain::Request::new(r)).0.number,
+    );
+    let micro = |time: f64| format!("{:.1} µs", time * 1e6);
+    row(&format!("ask, {name}"), times, micro, "one request asked, with its check");
+    let times = of_requests(
+        &copy,
+        &requests,
+        &|book, r| caviar::commit(book, count, Request::from_words(r)).number,
+        &|book, r| plain::commit(book, count, &plain::Request::new(r)).number,
+    );
+    row(&format!("commit, {name}"), times, micro, "one request committed, with its check");
+}
+
+/// A call with one request on a book; the number of its answer.
+type Single<'a> = &'a dyn Fn(&mut [u32], [u32; 7]) -> u32;
+
+/// The least times of two calls over the same requests, in turns.
+fn of_requests(copy: &Copy, requests: &[[u32; 7]], ours: Single, theirs: Single) -> [f64; 2] {
+    let (mut our_turn, mut their_turn) = (0, 0);
+    let turn = |at: &mut usize, call: Single| {
+        *at += 1;
+        let request = requests[*at % requests.len()];
+        copy.time(|words, _| call(black_box(words), black_box(request)))
+    };
+    turns(4 * requests.len(), [&mut || turn(&mut our_turn, ours), &mut || turn(&mut their_turn, theirs)])
 }
 
 /// A party of as many guests as it may have, on the book of the line program's site, about half full.

@@ -1,6 +1,6 @@
 //! The exported functions, as include/caviar.h declares them.
 
-use crate::{Answer, Guest, Request};
+use crate::{Answer, Asked, Guest, Request};
 
 extern "C" {
     pub fn caviar_book_len(settings: *const u32, settings_len: usize) -> u64;
@@ -44,6 +44,8 @@ extern "C" {
         answers: *mut u32,
         answers_len: usize,
     ) -> Answer;
+    pub fn caviar_ask(book: *const u32, book_len: usize, request: Request) -> Asked;
+    pub fn caviar_commit(book: *mut u32, book_len: usize, count: u32, request: Request) -> Answer;
     pub fn caviar_page(book: *const u32, book_len: usize, date: u32, page: *mut u8, page_len: usize) -> Answer;
     pub fn caviar_party(
         book: *mut u32,

@@ -1,8 +1,8 @@
 //! The CAVIAR booking book for Rust.
 //!
 //! A book is a slice of 32-bit words that the caller owns: settings first, then seven regions of
-//! leave, bookings and meetings, then the last orders. The functions keep nothing between calls and
-//! allocate nothing.
+//! leave, bookings and meetings, then the last orders, then the change count. The functions keep
+//! nothing between calls and allocate nothing.
 //! Each takes any words of any length, and says so where they are not a book. What each function
 //! promises is proved, for all words; this crate only lends the slices. include/caviar.h has the
 //! tables of kinds and of refusal numbers, and docs/RULES.md everything that the book does.
@@ -24,7 +24,7 @@
 mod ffi;
 
 /// The greatest number of words that a book can have.
-pub const MOST_WORDS: usize = 9_402_331;
+pub const MOST_WORDS: usize = 9_402_332;
 
 /// The greatest number of words that settings can have.
 pub const MOST_SETTINGS: usize = 26;
@@ -32,8 +32,11 @@ pub const MOST_SETTINGS: usize = 26;
 /// How many orders a book keeps.
 pub const KEPT_ORDERS: usize = 64;
 
-/// How many words the kept orders take, the last of a book.
+/// How many words the kept orders take, the last of a book before its change count.
 pub const RING_WORDS: usize = 705;
+
+/// The greatest change count: a book that has it takes no more changes.
+pub const MOST_CHANGES: u32 = u32::MAX;
 
 /// How many bytes a line of a porter's page has.
 pub const PAGE_LINE: usize = 31;
@@ -70,6 +73,15 @@ impl Answer {
     pub fn words(self) -> [u32; 3] {
         [self.number, self.place, self.value]
     }
+}
+
+/// What asking tells: the answer that the request would get, and the change count of the book.
+#[repr(C)]
+#[derive(Clone, Copy, Debug, Default, PartialEq, Eq)]
+pub struct Asked {
+    pub answer: Answer,
+    /// 0 beside the numbers 1 and 2.
+    pub count: u32,
 }
 
 /// The number of the question that was answered no, and the place: see [`Answer`].
@@ -133,7 +145,7 @@ impl Guest {
     }
 }
 
-/// How many words the book of these settings has: 726 to [`MOST_WORDS`]. 0 for settings that
+/// How many words the book of these settings has: 727 to [`MOST_WORDS`]. 0 for settings that
 /// question 24 refuses: fewer than ten words, not nine limits, the early times and a capacity for
 /// each dining room, or one out of its range (rule 9.3).
 pub fn book_len(settings: &[u32]) -> usize {
@@ -159,8 +171,9 @@ pub fn check(book: &[u32]) -> Answer {
 
 /// One request on a book that may hold any words. A book that question 1 or 2 refuses gives that
 /// refusal. Else the answer is the one of the rules' sections 4 to 6, from the sets that the book
-/// shows, and when it is done, the book shows those sets with the change. A refusal leaves the book
-/// as it was. Each call checks the whole book: [`requests`] checks it once for a list (rule 10.3).
+/// shows, and when it is done, the book shows those sets with the change, and its change count is
+/// one more for kinds 1 to 16. A refusal leaves the book as it was. Each call checks the whole book:
+/// [`requests`] checks it once for a list (rule 10.3).
 pub fn request(book: &mut [u32], request: Request) -> Answer {
     // SAFETY: the pointer and the length are those of one slice, lent as `&mut`.
     unsafe { ffi::caviar_request(book.as_mut_ptr(), book.len(), request) }
@@ -284,6 +297,38 @@ pub fn serve_orders_words(settings: &[u32], book: &mut [u32], list: &[u32], answ
     }
 }
 
+/// What [`request`] would answer to this request now, and the change count of the book. Refused with 1 or 2
+/// as by [`check`], and then the count is 0. No word is changed, and no order is looked for (rule 10.9).
+///
+/// What was told is what [`commit`] at that count gives, unless the count has gone on, for every list of calls
+/// since the book was laid (rule 19.6).
+///
+/// ```
+/// use caviar::{Refusal, Request};
+/// let settings = [2, 2, 2, 3, 2, 2, 1, 2, 1, 0, 4];
+/// let mut book = vec![0; caviar::book_len(&settings)];
+/// caviar::lay(&settings, &mut book);
+/// let leave = Request { kind: 1, b: 1, first: 0, last: 1, ..Default::default() };
+/// let hotel = Request { kind: 4, a: 0, b: 1, first: 0, last: 1, ..Default::default() };
+/// assert_eq!(caviar::ask(&book, hotel).answer.result(), Err(Refusal { number: 9, place: 0 }));
+/// caviar::request(&mut book, leave);
+/// let seen = caviar::ask(&book, hotel);
+/// assert_eq!((seen.answer.result(), seen.count), (Ok(0), 1));
+/// assert_eq!(caviar::commit(&mut book, seen.count, hotel).result(), Ok(0));
+/// assert_eq!(caviar::commit(&mut book, seen.count, leave).result(), Err(Refusal { number: 29, place: 0 }));
+/// ```
+pub fn ask(book: &[u32], request: Request) -> Asked {
+    // SAFETY: the pointer and the length are those of one slice, which is only read.
+    unsafe { ffi::caviar_ask(book.as_ptr(), book.len(), request) }
+}
+
+/// One request at a change count, as [`ask`] told it. Refused with 1 or 2 as by [`check`], and with 29 when the
+/// count is not the book's; else answered as by [`request`]. A refusal leaves the book as it was (rule 10.10).
+pub fn commit(book: &mut [u32], count: u32, request: Request) -> Answer {
+    // SAFETY: the pointer and the length are those of one slice, lent as `&mut`.
+    unsafe { ffi::caviar_commit(book.as_mut_ptr(), book.len(), count, request) }
+}
+
 /// Writes the porter's page of a date: a line of [`PAGE_LINE`] bytes for each session of the date and
 /// in it each conference room in use, in that order. A line has five numbers in base ten, each behind
 /// spaces at the end of its columns, and a byte 10: session (5 columns), room (4), meeting (4), visitors
@@ -314,10 +359,11 @@ pub fn page(book: &[u32], date: u32, page: &mut [u8]) -> Answer {
 
 /// A party for a meeting: all of its guests are added, or none. A guest is added as a [`Request`] of kind 10
 /// adds a visitor; the guests come in the order of the list, each judged with those before in the book. The answer is
-/// done with 0, and the book is what those requests one by one would have left. Refused with 1 or 2 as by
-/// [`check`], with 27 for no guest or more than [`MOST_GUESTS`], and else with the answer of the first guest who
-/// is refused: 5 for the meeting, 6 for a visitor past the limit, 7, 9, 10, 11 or 13, its place the session that
-/// fails. A refused party leaves every word of the book as it was (section 17).
+/// done with 0, and the book is what those requests one by one would have left, but that its change count has
+/// risen by one. Refused with 1 or 2 as by [`check`], with 27 for no guest or more than [`MOST_GUESTS`], else with
+/// the answer of the first guest who is refused: 5 for the meeting, 6 for a visitor past the limit, 7, 9, 10, 11 or
+/// 13, its place the session that fails; and else with 30 where the count is [`MOST_CHANGES`]. A refused party leaves
+/// every word of the book as it was (section 17).
 ///
 /// ```
 /// use caviar::{Guest, Request};

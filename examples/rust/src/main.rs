@@ -1,8 +1,8 @@
 //! A visit of two dates, from Rust: lay a book, ask for leave, a hotel room and a meeting, see a
-//! refusal, check the book, write the porter's page of a date, add a party, send an order twice and
-//! take a taxi before breakfast; then a list on the largest book.
+//! refusal, check the book, write the porter's page of a date, add a party, send an order twice, see
+//! first and then book, and take a taxi before breakfast; then a list on the largest book.
 
-use caviar::{Answer, Guest, Request};
+use caviar::{Answer, Asked, Guest, Request};
 
 fn say(what: &str, answer: Answer) {
     match answer.result() {
@@ -29,6 +29,7 @@ fn small_site() {
     porters_page(&mut book);
     coach_party(&mut book);
     sent_twice(&mut book);
+    see_first(&mut book);
 }
 
 /// Gives a meeting a room on date 1 and prints the porter's page of that date.
@@ -73,6 +74,28 @@ fn sent_twice(book: &mut [u32]) {
     say("order 17 with hotel room 0", caviar::order(book, 17, other));
 }
 
+fn say_asked(what: &str, asked: Asked) {
+    let count = asked.count;
+    match asked.answer.result() {
+        Ok(_) => println!("{what}: would be done at count {count}"),
+        Err(no) => println!("{what}: would be refused by question {} at {}, at count {count}", no.number, no.place),
+    }
+}
+
+/// Two offices see hotel room 0 free on date 1 at the same count. The one that commits first has it; the
+/// other asks again.
+fn see_first(book: &mut [u32]) {
+    let here = Request { kind: 4, a: 0, b: 0, first: 1, last: 1, ..Request::default() };
+    let there = Request { b: 1, ..here };
+    let (seen_here, seen_there) = (caviar::ask(book, here), caviar::ask(book, there));
+
+    say_asked("hotel room 0 for visitor 0 on date 1", seen_here);
+    say_asked("hotel room 0 for visitor 1 on date 1", seen_there);
+    say("commit for visitor 1", caviar::commit(book, seen_there.count, there));
+    say("commit for visitor 0", caviar::commit(book, seen_here.count, here));
+    say_asked("hotel room 0 for visitor 0 on date 1", caviar::ask(book, here));
+}
+
 /// A site of two dates with four ride times each, the first of which belongs to the date before: time
 /// 4, the first of date 1, is on date 0. Visitor 0 has leave on date 0 alone.
 fn early_taxi() {
@@ -109,7 +132,7 @@ fn largest_site() {
     }
     say("the same list again", caviar::requests(&mut book, &list, &mut answers));
     say("check", caviar::check(&book));
-    book[caviar::MOST_WORDS - caviar::RING_WORDS - 1] = 513;
+    book[caviar::MOST_WORDS - caviar::RING_WORDS - 2] = 513;
     say("check with a visitor past the limit in the last cell", caviar::check(&book));
 }
 

@@ -2,6 +2,7 @@
 //!
 //! SEED=N takes another seed, SCALE=N a run N times as long. Every test prints its seed.
 
+pub mod calls;
 pub mod guarded;
 pub mod reached;
 

@@ -87,7 +87,7 @@ fn smallest_site() {
     for which in 0..3_u32.pow(10) {
         let mut words = vec![1, 1, 1, 1, 1, 1, 1, 1, 1, 0, 1];
         words.extend((0..10).map(|word| which / 3_u32.pow(word) % 3));
-        words.resize(words.len() + caviar::RING_WORDS, 0);
+        words.resize(words.len() + caviar::RING_WORDS + 1, 0);
         numbers.add(checked(&words));
     }
     println!("all books of words 0 to 2 of the smallest site, by number {numbers}");

@@ -3,9 +3,12 @@
 //! only read may not be written.
 
 use caviar::{Guest, Request};
+use differential::calls::request as ours;
 use differential::guarded::{End, Guarded};
 use differential::{seed, times, Counts};
 use second::book;
+use second::calls::{on_book, Call};
+use second::gen::asking;
 use second::gen::orders;
 use second::gen::pages::{lent, Lent};
 use second::gen::parties;
@@ -101,6 +104,29 @@ fn order_calls(rng: &mut Rng, words: &Words, end: End, answered: &mut Answered) 
     answered.add(("serve_orders", end, done.number));
 }
 
+/// Asking, on a book that may not be written, and committing.
+fn ask_and_commit(rng: &mut Rng, end: End, answered: &mut Answered) {
+    let asking::Lent { book, call } = asking::lent(rng);
+    let mut theirs = book.clone();
+    let expected = on_book(&mut theirs, &call).words();
+    match &call {
+        Call::Ask(request) => {
+            let lent = Guarded::new(&book, end).read_only();
+            let told = caviar::ask(lent.words(), ours(request));
+            assert_eq!([&told.answer.words()[..], &[told.count]].concat(), expected);
+            answered.add(("ask", end, if told.answer.number == 30 { 30 } else { told.answer.number.min(3) }));
+        }
+        Call::Commit { count, request } => {
+            let mut lent = Guarded::new(&book, end);
+            let answer = caviar::commit(lent.words_mut(), *count, ours(request));
+            assert_eq!(answer.words().to_vec(), expected);
+            assert!(lent.words() == theirs);
+            answered.add(("commit", end, if answer.number >= 29 { answer.number } else { answer.number.min(3) }));
+        }
+        _ => {}
+    }
+}
+
 /// One request after the other: a later one finds the book that the earlier ones left.
 fn single_calls(words: &Words, end: End, answered: &mut Answered) {
     let (mut lent, mut theirs) = (Guarded::new(&words.book, end), words.book.clone());
@@ -149,6 +175,7 @@ fn inside_what_is_lent() {
             (0..2).for_each(|_| order_calls(&mut rng, &words, end, &mut answered));
             (0..3).for_each(|_| page_call(&mut rng, end, &mut answered));
             (0..3).for_each(|_| party_call(&mut rng, end, &mut answered));
+            (0..8).for_each(|_| ask_and_commit(&mut rng, end, &mut answered));
         }
     }
     println!("seed {}: {turns} turns between guard pages, by function, end and number: {answered}", seed(40));
@@ -164,6 +191,8 @@ fn inside_what_is_lent() {
         ("serve_orders", vec![0, 24, 25]),
         ("page", vec![0, 1, 2, 7, 26]),
         ("party", vec![0, 1, 2, 27, 5, 6, 7, 9, 10, 11, 13]),
+        ("ask", vec![0, 1, 2, 3, 30]),
+        ("commit", vec![0, 1, 2, 29, 3, 30]),
     ];
     for (function, numbers) in met {
         for end in [End::First, End::Last] {
@@ -186,6 +215,8 @@ fn inside_words_that_are_too_short() {
             assert_eq!(caviar::check(words).words(), [1, 0, 0], "{length} words");
             let mut lent = Guarded::new(&site[..length], end);
             assert_eq!(caviar::request(lent.words_mut(), Request::from_words(taxi.words())).words(), [1, 0, 0]);
+            assert_eq!(caviar::ask(words, ours(&taxi)), caviar::Asked { answer: caviar::check(words), count: 0 });
+            assert_eq!(caviar::commit(lent.words_mut(), 0, ours(&taxi)).words(), [1, 0, 0]);
             let laid = caviar::lay(words, lent.words_mut());
             assert_eq!(laid.words(), [if length == site.len() { 25 } else { 24 }, 0, 0], "{length} words");
             assert!(lent.words() == &site[..length]);

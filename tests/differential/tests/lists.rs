@@ -146,7 +146,7 @@ fn faults_of_form() {
 fn raw_books() {
     let mut rng = Rng::new(seed(23));
     let (mut reached, mut lists) = (Reached::default(), Counts::new());
-    for turn in 0..times(12_000) {
+    for turn in 0..times(16_000) {
         let settings = site(&mut rng, Size::Small);
         let mut state = deep_state(&mut rng, settings, 15);
         let before = if turn % 2 == 0 { book::words(&state) } else { junk_book(&mut rng) };

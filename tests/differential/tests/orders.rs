@@ -2,20 +2,17 @@
 //! lists of eight words; rings that no list made; each clause of the ring's law broken alone; a client that loses answers.
 
 use caviar::{Guest, Order, Request};
+use differential::calls::{name, on_book, request as ours};
 use differential::{seed, times, Counts};
 use second::book::{self, Rule};
+use second::calls::{perform, Call};
 use second::gen::orders::{
     calls, lent, list, list_from_fresh, list_words, ringed_state, some_ring, Lent, Plan, Sent, Sort,
 };
 use second::gen::requests::opening;
 use second::gen::{damaged, deep_state, full_book, junk_book, site, sites, Rng, Size};
-use second::machine::{self, Settings, State};
-use second::party::{perform, Call};
+use second::machine::{Settings, State};
 use std::collections::BTreeSet;
-
-fn ours(request: &machine::Request) -> Request {
-    Request::from_words(request.words())
-}
 
 fn order(book: &mut [u32], sent: &Sent) -> caviar::Answer {
     caviar::order(book, sent.order, ours(&sent.request))
@@ -178,6 +175,8 @@ fn each_clause_broken_alone() {
                 caviar::orders_words(&mut after, &[18, 0, 0, 0, 0, 0, 0, kept], &mut answers),
                 caviar::party(&mut after, 0, &[Guest::default()]),
                 caviar::page(&after, 0, &mut page),
+                caviar::ask(&after, query).answer,
+                caviar::commit(&mut after, state.changes, query),
             ];
             assert!(refusals.iter().all(|answer| answer.words() == [2, 0, 0]), "{rule:?} {refusals:?}");
             assert!(after == before && answers == [7; 6] && page == [9; 40], "{rule:?}");
@@ -200,10 +199,11 @@ fn every_word_of_the_ring() {
             state.ring = some_ring(&mut rng, &state);
         }
         let words = book::words(&state);
-        for at in words.len() - caviar::RING_WORDS..words.len() {
+        let ring = words.len() - 1 - caviar::RING_WORDS;
+        for at in ring..words.len() - 1 {
             let mut changed = words.clone();
             let entry = rng.below(64) as usize * 11;
-            let other = words[words.len() - caviar::RING_WORDS + entry];
+            let other = words[ring + entry];
             changed[at] = rng.pick(&[0, 1, 63, 64, u32::MAX, other, words[at] ^ 1, words[at].wrapping_add(1 << 31)]);
             let answer = caviar::check(&changed);
             assert_eq!(answer.words(), book::check(&changed).words(), "word {at}: {} to {}", words[at], changed[at]);
@@ -230,17 +230,10 @@ fn lists_of_calls_from_fresh() {
         assert_eq!(caviar::lay(&settings.words(), &mut words).words(), [0, 0, 0]);
         let mut machine = State::empty(settings);
         for call in &all {
-            let (name, answer) = match call {
-                Call::Request(request) => ("request", caviar::request(&mut words, ours(request))),
-                Call::Order { order, request } => ("order", caviar::order(&mut words, *order, ours(request))),
-                Call::Party { meeting, guests } => {
-                    let list: Vec<Guest> = guests.iter().map(|guest| Guest::from_words(guest.words())).collect();
-                    ("party", caviar::party(&mut words, *meeting, &list))
-                }
-            };
-            assert_eq!(answer.words(), perform(&mut machine, call).words(), "{call:?}");
+            let told = on_book(&mut words, call);
+            assert_eq!(told, perform(&mut machine, call).words(), "{call:?}");
             assert!(words == book::words(&machine), "{call:?}");
-            seen.add((name, answer.number == 0));
+            seen.add((name(call), told[0] == 0));
         }
         assert_eq!(caviar::check(&words).words(), [0, 0, 0]);
         page_of(&mut rng, &words, &machine);
@@ -365,7 +358,7 @@ fn largest_book() {
 fn done_once() {
     let settings = [2, 2, 2, 3, 2, 2, 1, 2, 1, 0, 4];
     let mut book = vec![0; caviar::book_len(&settings)];
-    assert_eq!(book.len(), 770);
+    assert_eq!(book.len(), 771);
     assert_eq!(caviar::lay(&settings, &mut book).words(), [0, 0, 0]);
     let removal = Request { kind: 3, b: 1, first: 0, last: 1, ..Request::default() };
     let leave = Request { kind: 1, ..removal };
@@ -382,5 +375,5 @@ fn done_once() {
         assert_eq!(caviar::order(&mut book, number, request).words(), expected);
     }
     assert_eq!(book[65..76], [7, 1, 0, 1, 0, 1, 0, 0, 0, 0, 0]);
-    assert_eq!((book[87], book[97], book[769]), (9, 2, 3));
+    assert_eq!((book[87], book[97], book[769], book[770]), (9, 2, 3, 3));
 }

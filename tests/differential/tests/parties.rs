@@ -1,17 +1,15 @@
 //! Parties against the second program: answer, every word of the book, and lists that mix them with requests.
 
 use caviar::{Guest, Request};
+use differential::calls::{guests as ours, on_book};
 use differential::{seed, times, Counts};
 use second::book;
+use second::calls::{perform, Call};
 use second::gen::parties::{calls, lent, Lent, Sort};
 use second::gen::requests::{opening, state_after};
 use second::gen::{full_book, sites, Rng, Size};
 use second::machine::State;
-use second::party::{party, perform, Call};
-
-fn ours(guests: &[second::party::Guest]) -> Vec<Guest> {
-    guests.iter().map(|guest| Guest::from_words(guest.words())).collect()
-}
+use second::party::party;
 
 /// The engine's answer to a party, which must be the second program's, as must the book; a refusal leaves
 /// every word, and no call changes the guests.
@@ -59,18 +57,12 @@ fn lists_of_calls_from_fresh() {
         assert_eq!(caviar::lay(&settings.words(), &mut words).words(), [0, 0, 0]);
         let mut machine = State::empty(settings);
         for call in &list {
-            let answer = match call {
-                Call::Request(request) => caviar::request(&mut words, Request::from_words(request.words())),
-                Call::Order { order, request } => {
-                    caviar::order(&mut words, *order, Request::from_words(request.words()))
-                }
-                Call::Party { meeting, guests } => caviar::party(&mut words, *meeting, &ours(guests)),
-            };
-            assert_eq!(answer.words(), perform(&mut machine, call).words(), "{call:?}");
+            let told = on_book(&mut words, call);
+            assert_eq!(told, perform(&mut machine, call).words(), "{call:?}");
             assert!(words == book::words(&machine), "{call:?}");
             match call {
-                Call::Request(_) | Call::Order { .. } => seen.add(("request", answer.number == 0)),
-                Call::Party { .. } => numbers.add(answer.number),
+                Call::Party { .. } => numbers.add(told[0]),
+                _ => seen.add(("request", told[0] == 0)),
             }
         }
         assert_eq!(caviar::check(&words).words(), [0, 0, 0]);
@@ -80,8 +72,8 @@ fn lists_of_calls_from_fresh() {
     numbers.assert_each([0, 27, 5, 6, 7, 9, 10, 11, 13], 50);
 }
 
-/// A party that is done leaves what its requests of kind 10 leave, and the engine answers each of them with
-/// done; a party that is refused has the first of their refusals.
+/// A party that is done leaves what its requests of kind 10 leave, but for the count, and the engine answers each of
+/// them with done; a party that is refused has the first of their refusals.
 #[test]
 fn a_party_is_its_requests() {
     let mut rng = Rng::new(seed(62));
@@ -99,6 +91,9 @@ fn a_party_is_its_requests() {
         let answer = caviar::party(&mut together, call.meeting, &ours(&call.guests));
         let refused = answers.iter().find(|answer| answer.number != 0);
         assert_eq!(answer.words(), refused.map_or([0, 0, 0], |refusal| refusal.words()));
+        let count = together.len() - 1;
+        assert_eq!(together[count], call.book[count] + u32::from(refused.is_none()));
+        singly[count] = together[count];
         assert!(together == if refused.is_none() { singly } else { call.book });
         seen.add(refused.is_none());
     }
@@ -135,12 +130,13 @@ fn some_guest(rng: &mut Rng) -> plain::party::Guest {
     [rng.below(512), first, (first + rng.below(2)).min(6399)]
 }
 
-/// Up to so many guests who can all be added, found by the plain engine's own steps, which are undone again.
+/// Up to so many guests who can all be added, found by the plain engine's own steps, which are undone again, the count
+/// too.
 fn welcome(rng: &mut Rng, site: &plain::Site, book: &mut [u32], meeting: u32, size: usize) -> Vec<plain::party::Guest> {
     let step = |book: &mut [u32], kind, [visitor, first, last]: plain::party::Guest| {
         plain::step(site, book, &plain::Request::new([kind, meeting, visitor, first, last, 0, 0])).number
     };
-    let mut guests = Vec::new();
+    let (mut guests, count) = (Vec::new(), book[site.length - 1]);
     for _ in 0..100 + 40 * size {
         let guest = some_guest(rng);
         if guests.len() < size && step(book, 10, guest) == 0 {
@@ -148,6 +144,7 @@ fn welcome(rng: &mut Rng, site: &plain::Site, book: &mut [u32], meeting: u32, si
         }
     }
     guests.iter().for_each(|guest| assert_eq!(step(book, 11, *guest), 0));
+    book[site.length - 1] = count;
     guests
 }
 

@@ -20,6 +20,8 @@ const MOST_GUESTS: u8 = 70;
 const ORDER: usize = 2500;
 const AGAIN: usize = 2600;
 const EARLY: usize = 2700;
+const ASK: usize = 2750;
+const COMMIT: usize = 2800;
 
 pub fn run(input: &[u8]) {
     let mut bytes = Bytes(input);
@@ -60,7 +62,9 @@ fn raw(bytes: Bytes) {
     let mut list = words.clone();
     list.truncate(7);
     if let Ok(seven) = list.try_into() {
-        call(&words, &Sent { order: words[0], request: Request::from_words(seven) });
+        let request = Request::from_words(seven);
+        call(&words, &Sent { order: words[0], request });
+        ask_and_commit(&words, words[1], &request);
     }
 }
 
@@ -72,23 +76,29 @@ fn damaged(mut bytes: Bytes) {
     let last = Sent { order: bytes.order(), request: bytes.request() };
     let (date, length) = (bytes.word(), bytes.word() as usize % MOST_PAGE);
     let (meeting, guests) = guests(&mut bytes);
+    let seen = bytes.count();
     let mut words = run_list(&settings, &requests(&mut bytes));
+    if let Some(count) = words.last_mut().filter(|_| seen.in_book) {
+        *count = seen.count;
+    }
     for (at, value) in changes {
         let at = place(&words, at);
         words[at] = value;
     }
     check(&words);
     call(&words, &last);
+    ask_and_commit(&words, seen.count, &last.request);
     page(&words, date, length);
     party(&words, meeting, &guests);
 }
 
-/// A word to change: of the ring for an odd number, else of what stands before it, the settings included.
+/// A word to change: of the ring or the change count for an odd number, else of what stands before them, the settings
+/// included.
 fn place(words: &[u32], number: u32) -> usize {
-    let before = words.len() - book::RING_WORDS;
+    let before = words.len() - book::TAIL_WORDS;
     let half = number as usize / 2;
     if number % 2 == 1 {
-        before + half % book::RING_WORDS
+        before + half % book::TAIL_WORDS
     } else {
         half % before
     }
@@ -117,6 +127,22 @@ fn call(before: &[u32], sent: &Sent) {
     assert_eq!(answer.words(), book::order(&mut theirs, sent.order, &sent.request).words());
     assert_eq!(words, theirs);
     reached(ORDER + answer.number.min(30) as usize);
+}
+
+/// What a request would be answered on any words, and a commit of it, at the book's count and at another.
+fn ask_and_commit(before: &[u32], count: u32, request: &Request) {
+    let told = caviar::ask(before, ours(request));
+    assert_eq!([&told.answer.words()[..], &[told.count]].concat(), book::ask(before, request).words());
+    reached(ASK + told.answer.number.min(30) as usize);
+    for count in [count, told.count] {
+        let (mut words, mut theirs) = (before.to_vec(), before.to_vec());
+        let answer = caviar::commit(&mut words, count, ours(request));
+        assert_eq!(answer.words(), book::commit(&mut theirs, count, request).words());
+        assert_eq!(words, theirs);
+        assert!(answer.number == 0 || words == before);
+        assert!(answer == told.answer || answer.number == 29);
+        reached(COMMIT + answer.number.min(30) as usize);
+    }
 }
 
 /// The porter's page of a date on any words, over so many bytes of junk.
@@ -162,6 +188,8 @@ fn list(mut bytes: Bytes) {
     page(&words, date % settings.dates, length);
     party(&words, meeting, &guests);
     party(&words, meeting % settings.meetings, &guests);
+    let count = words[words.len() - 1];
+    requests.iter().take(4).for_each(|one| ask_and_commit(&words, count.wrapping_sub(1), &one.request));
 }
 
 /// The book after the list from fresh; served and step by step, beside the machine.

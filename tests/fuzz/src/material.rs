@@ -6,6 +6,12 @@ use second::party::Guest;
 
 pub struct Bytes<'a>(pub &'a [u8]);
 
+/// A change count, and whether the book is to have it.
+pub struct Count {
+    pub count: u32,
+    pub in_book: bool,
+}
+
 impl Bytes<'_> {
     pub fn is_empty(&self) -> bool {
         self.0.is_empty()
@@ -72,6 +78,12 @@ impl Bytes<'_> {
             byte if byte < 220 => u32::from(byte % 8) + 1,
             _ => self.word(),
         }
+    }
+
+    /// A change count: one of a few, or any, now and then the greatest; and whether the book is to have it.
+    pub fn count(&mut self) -> Count {
+        let byte = self.byte();
+        Count { count: if byte < 60 { u32::MAX } else { self.word() }, in_book: byte % 2 == 1 }
     }
 
     pub fn guest(&mut self) -> Guest {

@@ -1,9 +1,10 @@
-//! The party (docs/RULES.md, section 17): many guests for one meeting, all of them or none. And calls of
-//! every sort, requests, orders and parties, as a list has them.
+//! The party (docs/RULES.md, section 17): many guests for one meeting, all of them or none.
 
 use crate::book::calls::open;
 use crate::book::words;
-use crate::machine::{order, step, Answer, Request, State};
+use crate::machine::changes::change;
+use crate::machine::questions::first_before_30;
+use crate::machine::{Answer, Request, State};
 
 /// A party has at most so many guests (rule 5.27).
 pub const MOST_GUESTS: usize = 64;
@@ -33,19 +34,22 @@ impl Guest {
 }
 
 /// The machine's party: question 27, then the guests one after the other, each with those before them
-/// added; the first refusal is the answer and leaves the state as it was (rules 17.3 and 17.4).
+/// added; the first refusal is the answer and leaves the state as it was (rules 17.3 and 17.4). Behind the
+/// guests comes 30, and all of them are one change (rules 19.2 and 19.3).
 pub fn admit(state: &mut State, meeting: u32, guests: &[Guest]) -> Answer {
     if guests.is_empty() || guests.len() > MOST_GUESTS {
         return Answer::Refused { number: 27, place: 0 };
     }
     let mut with_guests = state.clone();
     for guest in guests {
-        let answer = step(&mut with_guests, &guest.joining(meeting));
-        if answer.number() != 0 {
-            return answer;
+        let joining = guest.joining(meeting);
+        if let Some((number, place)) = first_before_30(&with_guests, &joining) {
+            return Answer::Refused { number, place };
         }
+        change(&mut with_guests, &joining);
     }
-    *state = with_guests;
+    let Some(counted) = state.changes.checked_add(1) else { return Answer::Refused { number: 30, place: 0 } };
+    *state = State { changes: counted, ..with_guests };
     Answer::Done(0)
 }
 
@@ -58,22 +62,5 @@ pub fn party(book: &mut [u32], meeting: u32, guests: &[Guest]) -> Answer {
             book.copy_from_slice(&words(&state));
             answer
         }
-    }
-}
-
-/// What the machine takes after the settings.
-#[derive(Clone, Debug, PartialEq, Eq)]
-pub enum Call {
-    Request(Request),
-    Order { order: u32, request: Request },
-    Party { meeting: u32, guests: Vec<Guest> },
-}
-
-/// The machine's answer to a call of any sort.
-pub fn perform(state: &mut State, call: &Call) -> Answer {
-    match call {
-        Call::Request(request) => step(state, request),
-        Call::Order { order: number, request } => order(state, *number, request),
-        Call::Party { meeting, guests } => admit(state, *meeting, guests),
     }
 }

@@ -94,7 +94,7 @@ fn a_book_keeps_the_cell_rules_exactly_when_it_shows_a_state() {
 #[test]
 fn junk_headers_give_1() {
     let settings = [2, 2, 2, 3, 2, 2, 1, 2, 1, 0, 4];
-    let mut fresh = vec![0; 770];
+    let mut fresh = vec![0; 771];
     fresh[..11].copy_from_slice(&settings);
     let with = |at: usize, word: u32| {
         let mut book = fresh.clone();
@@ -111,7 +111,7 @@ fn junk_headers_give_1() {
     assert_eq!([with(9, 0), with(9, 1)], [[0, 0, 0]; 2]);
     assert_eq!([with(10, 0), with(10, 1001), with(10, u32::MAX)], [[1, 0, 0]; 3]);
     assert_eq!([with(10, 1), with(10, 1000)], [[0, 0, 0]; 2]);
-    for length in 0..770 {
+    for length in 0..771 {
         assert_eq!(check(&fresh[..length]).words(), [1, 0, 0], "length {length}");
     }
     assert_eq!(check(&[fresh, vec![0]].concat()).words(), [1, 0, 0]);

@@ -1,13 +1,14 @@
 //! Orders: a worked example, the ends of each question, and what the generator reaches.
 
-use second::book::{self, check, ring_base, words, Rule, ENTRY_WORDS, RING_WORDS};
+use second::book::{self, check, ring_base, words, Rule, ENTRY_WORDS, TAIL_WORDS};
+use second::calls::{on_book, perform, Call};
 use second::frames::{frames, words_line};
 use second::gen::orders::{calls, lent, list, list_from_fresh, list_words, ringed_state, Plan, Sent, Sort};
 use second::gen::requests::{opening, state_after};
 use second::gen::{damaged, deep_state, site, Rng, Size};
 use second::machine::ring::PLACES;
 use second::machine::{run, Answer, Request, Settings, State};
-use second::party::{party, perform, Call};
+use second::party::party;
 use std::collections::{BTreeMap, BTreeSet};
 
 const SEED: u64 = 0x0bde;
@@ -37,7 +38,7 @@ fn place(book: &[u32], at: usize) -> &[u32] {
 #[test]
 fn the_words_of_the_ring() {
     let mut book = fresh();
-    assert_eq!((book.len(), book.len() - RING), (770, RING_WORDS));
+    assert_eq!((book.len(), book.len() - RING), (771, TAIL_WORDS));
     assert_eq!(sent(&mut book, 17, HOTEL), [9, 0, 0], "no leave yet");
     assert_eq!(place(&book, 0), [17, 4, 0, 1, 0, 1, 0, 0, 9, 0, 0], "a refused order writes its entry");
     assert_eq!(book[RING + 704], 1, "and the next place");
@@ -66,7 +67,7 @@ fn an_order_sent_again() {
     assert_eq!(sent(&mut book, 17, [99; 7]), [28, 0, 0], "28 comes before 3");
     assert_eq!(book, kept);
     assert_eq!(sent(&mut book, 0, HOTEL), [0, 0, 0], "0 is no order");
-    assert_eq!((&book[RING..], sent(&mut book.clone(), 0, HOTEL)), (&kept[RING..], [11, 0, 0]));
+    assert_eq!((&book[RING..770], sent(&mut book.clone(), 0, HOTEL)), (&kept[RING..770], [11, 0, 0]));
 }
 
 #[test]
@@ -211,12 +212,12 @@ fn a_list_of_calls_on_words() {
         let (mut book, mut replayed) = (words(&state), state.clone());
         let plan = Plan::any(&mut rng);
         for call in calls(&mut rng, &mut state, 40, plan) {
-            let (name, on_words) = match &call {
-                Call::Request(request) => ("request", book::request(&mut book, request)),
-                Call::Order { order, request } => ("order", book::order(&mut book, *order, request)),
-                Call::Party { meeting, guests } => ("party", party(&mut book, *meeting, guests)),
+            let name = match &call {
+                Call::Request(_) => "request",
+                Call::Order { .. } => "order",
+                _ => "party",
             };
-            assert_eq!(on_words, perform(&mut replayed, &call), "{call:?}");
+            assert_eq!(on_book(&mut book, &call), perform(&mut replayed, &call), "{call:?}");
             assert!(book == words(&replayed) && check(&book) == Answer::Done(0), "{call:?}");
             *seen.entry(name).or_default() += 1;
         }

@@ -54,7 +54,7 @@ fn the_trace_shows_the_book_after_each_answer() {
     let lines: Vec<&[u8]> = second::frames::lines(&out);
     assert_eq!(lines.len(), 4);
     assert_eq!(lines[0], &EXAMPLE_OUT[..24]);
-    assert_eq!(lines[1].len(), 770 * 8);
+    assert_eq!(lines[1].len(), 771 * 8);
     assert_eq!(lines[1], lines[3], "a refused line changes nothing");
     assert_eq!(&lines[1][88..104], b"0000000200000002", "visitor 1 has leave on both dates");
 }
@@ -80,21 +80,21 @@ fn seats_and_last_session_at_their_ends() {
 }
 
 #[test]
-fn the_rehearsal_needs_770_words_and_the_largest_book_9402331() {
+fn the_rehearsal_needs_771_words_and_the_largest_book_9402332() {
     let largest = largest(95).words();
     let smallest = [1, 1, 1, 1, 1, 1, 1, 1, 1, 0, 1];
-    assert_eq!(book_len(&REHEARSAL_SITE), 770);
-    assert_eq!((book_len(&smallest), book_len(&largest)), (726, 9_402_331));
+    assert_eq!(book_len(&REHEARSAL_SITE), 771);
+    assert_eq!((book_len(&smallest), book_len(&largest)), (727, 9_402_332));
     assert_eq!(book_len(&largest[..25]), 0);
-    assert_eq!(words(&rehearsal_state()).len(), 770);
+    assert_eq!(words(&rehearsal_state()).len(), 771);
 }
 
 #[test]
 fn laying_writes_the_settings_then_zeros_or_keeps_the_book() {
-    let mut book = [7u32; 770];
+    let mut book = [7u32; 771];
     assert_eq!(lay(&REHEARSAL_SITE[..10], &mut book).words(), [24, 0, 0]);
-    assert_eq!(lay(&REHEARSAL_SITE, &mut book[..769]).words(), [25, 0, 0]);
-    assert_eq!(book, [7u32; 770]);
+    assert_eq!(lay(&REHEARSAL_SITE, &mut book[..770]).words(), [25, 0, 0]);
+    assert_eq!(book, [7u32; 771]);
     assert_eq!(lay(&REHEARSAL_SITE, &mut book), Answer::Done(0));
     assert_eq!(book.to_vec(), words(&rehearsal_state()));
 }
@@ -118,8 +118,8 @@ fn settings_lines_and_line_ends() {
 /// 16,384 words pass and 16,385 do not.
 #[test]
 fn the_program_takes_books_up_to_16384_words() {
-    let most = [2, 1, 96, 1, 1, 1, 1, 50, 81, 0, 1];
-    let over = [2, 1, 96, 1, 1, 1, 2, 50, 81, 95, 1, 1];
+    let most = [2, 1, 96, 1, 1, 1, 2, 49, 81, 0, 1, 1];
+    let over = [2, 1, 96, 1, 1, 1, 3, 49, 81, 95, 1, 1, 1];
     assert_eq!((book_len(&most), book_len(&over)), (16_384, 16_385));
     assert_eq!(frames(&words_line(&most)), b"");
     assert_eq!(frames(&words_line(&over)), b"000000190000000000000000\n");

@@ -2,7 +2,9 @@
 //! 2 over calls on raw books, 24 and 25 over layings, 23 over lines.
 
 use second::book::{self, check, lay, length, words, Rule};
+use second::calls::{perform, Call};
 use second::frames::{frames, lines};
+use second::gen::asking;
 use second::gen::cases::{self, Case};
 use second::gen::conflicts::{conflicts_of, edges, Conflict, CONFLICTS};
 use second::gen::early;
@@ -15,7 +17,6 @@ use second::gen::sites::bad_settings;
 use second::gen::{clean_stream, damaged_stream, deep_state, junk_book, list, site, tables, Mix, Rng, Size};
 use second::machine::kinds::uses;
 use second::machine::{run, step, Answer, Request, State};
-use second::party::{perform, Call};
 use std::collections::BTreeMap;
 use std::fmt::Debug;
 
@@ -204,7 +205,8 @@ fn cases_hold_every_sort() {
                 let lent = parties::Lent { book: before.clone(), meeting: *meeting, guests: guests.clone() };
                 parties::Sort::of(&lent, answer.words()).into_iter().for_each(|sort| count(&mut admitted, sort))
             }
-            Case::Order { answer, .. } => count(&mut ordered, answer.number().min(29)),
+            Case::Order { answer, .. } => count(&mut ordered, answer.number().min(31)),
+            Case::Ask { .. } | Case::Commit { .. } => {}
             Case::List(case) => count(&mut listed, (case.words_each, case.settings.is_some(), case.answer.number())),
             Case::Input { input, output } => assert_eq!(frames(input), *output),
         }
@@ -226,6 +228,22 @@ fn cases_hold_every_sort() {
     want(&rules, Rule::breakable(), 2);
 }
 
+/// Asks and commits of the cases: done, on a book that is none, at another count, and at the greatest.
+#[test]
+fn cases_have_asks_and_commits() {
+    let mut counted = BTreeMap::new();
+    for case in cases::cases(SEED + 5) {
+        match case {
+            Case::Ask { asked, .. } => count(&mut counted, ("ask", asked.answer.number())),
+            Case::Commit { answer, .. } => count(&mut counted, ("commit", answer.number())),
+            _ => {}
+        }
+    }
+    println!("seed {}: asks and commits by number {counted:?}", SEED + 5);
+    want(&counted, [0, 2, 30].map(|number| ("ask", number)), 1);
+    want(&counted, [0, 2, 29, 30].map(|number| ("commit", number)), 1);
+}
+
 /// What the steps of the tables reach, each sort counted.
 #[derive(Default)]
 struct Steps {
@@ -236,10 +254,14 @@ struct Steps {
     times: BTreeMap<early::Sort, u32>,
     admitted: BTreeMap<parties::Sort, u32>,
     ordered: BTreeMap<orders::Sort, u32>,
+    asks: BTreeMap<asking::Sort, u32>,
+    /// Asks and commits by what they are, and whether their answer is done.
+    told: BTreeMap<(&'static str, bool), u32>,
 }
 
 impl Steps {
     fn count(&mut self, before: &State, call: &Call, answer: &Answer) {
+        asking::Sort::of(before, call).into_iter().for_each(|sort| count(&mut self.asks, sort));
         match call {
             Call::Request(request) => {
                 conflicts_of(before, request).into_iter().for_each(|decided| count(&mut self.conflicts, decided));
@@ -255,6 +277,8 @@ impl Steps {
                 let sorts = parties::Sort::of_party(before, *meeting, guests, answer.words());
                 sorts.into_iter().for_each(|sort| count(&mut self.admitted, sort));
             }
+            Call::Ask(_) => count(&mut self.told, ("ask", answer.number() == 0)),
+            Call::Commit { .. } => count(&mut self.told, ("commit", answer.number() == 0)),
         }
     }
 
@@ -266,6 +290,8 @@ impl Steps {
         want(&self.times, early::Sort::ALL, 1);
         want(&self.admitted, tables::parties_wanted(), 1);
         want(&self.ordered, tables::orders_wanted(), 1);
+        want(&self.asks, tables::ASKS_WANTED, 1);
+        want(&self.told, [("ask", true), ("ask", false), ("commit", true), ("commit", false)], 10);
     }
 }
 
@@ -278,10 +304,10 @@ fn tables_have_enough_steps_of_every_sort() {
             let settings = &table.settings;
             let mut state = State::empty(settings.clone());
             count(&mut sites, (settings.dates == 1, settings.times_per_date == 1, settings.early > 0));
-            for (call, answer) in &table.steps {
+            for (call, reply) in &table.steps {
                 let before = state.clone();
-                assert_eq!(perform(&mut state, call), *answer);
-                steps.count(&before, call, answer);
+                assert_eq!(perform(&mut state, call), *reply);
+                steps.count(&before, call, &reply.answer());
             }
             assert_eq!(table.book, words(&state));
             assert_eq!(check(&table.book), Answer::Done(0));

@@ -1,10 +1,10 @@
 //! Calls on a raw book, which may hold any words: questions 1 and 2, checking, laying (24, 25),
-//! one request, a list of requests, laying with a list, and the same with orders.
+//! one request, a list of requests, laying with a list, and the same with orders; asking and committing.
 
 use super::laws::broken;
 use super::{length, read, words};
 use crate::machine::ring::NO_ORDER;
-use crate::machine::{self, Answer, Request, Settings, State};
+use crate::machine::{self, Answer, Asked, Request, Settings, State};
 
 /// How many words a request takes in a list, and how many with the number of its order.
 pub const REQUEST_WORDS: usize = 7;
@@ -64,6 +64,26 @@ pub fn order(book: &mut [u32], order: u32, request: &Request) -> Answer {
         Err(refusal) => refusal,
         Ok(mut state) => {
             let answer = machine::order(&mut state, order, request);
+            book.copy_from_slice(&words(&state));
+            answer
+        }
+    }
+}
+
+/// Asking on a raw book (rule 10.9): beside 1 and 2 the count is 0.
+pub fn ask(book: &[u32], request: &Request) -> Asked {
+    match open(book) {
+        Err(answer) => Asked { answer, count: 0 },
+        Ok(state) => machine::ask(&state, request),
+    }
+}
+
+/// Committing on a raw book (rule 10.10).
+pub fn commit(book: &mut [u32], count: u32, request: &Request) -> Answer {
+    match open(book) {
+        Err(refusal) => refusal,
+        Ok(mut state) => {
+            let answer = machine::commit(&mut state, count, request);
             book.copy_from_slice(&words(&state));
             answer
         }

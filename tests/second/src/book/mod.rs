@@ -1,4 +1,4 @@
-//! The words of the book (docs/RULES.md, section 8 and rule 18.4): those of a state, and how many a site needs.
+//! The words of the book (docs/RULES.md, section 8 and rules 18.4 and 19.1): those of a state, and how many a site needs.
 
 pub mod calls;
 pub mod laws;
@@ -9,7 +9,7 @@ use crate::machine::ring::PLACES;
 use crate::machine::{Date, Kept, Session, Settings, State};
 use std::collections::BTreeMap;
 
-pub use calls::{book_len, check, lay, order, orders, request, requests, serve, serve_orders};
+pub use calls::{ask, book_len, check, commit, lay, order, orders, request, requests, serve, serve_orders};
 pub use laws::{broken, laws_broken, Rule};
 pub use reading::{read, shown};
 
@@ -22,6 +22,9 @@ pub fn pool_words(members: u32) -> u32 {
 pub const ENTRY_WORDS: usize = 11;
 pub const RING_WORDS: usize = PLACES * ENTRY_WORDS + 1;
 
+/// How many words stand behind the rides: the ring, and the change count as the last (rule 19.1).
+pub const TAIL_WORDS: usize = RING_WORDS + 1;
+
 /// Where the ring begins: behind the settings and the seven regions.
 pub fn ring_base(settings: &Settings) -> u64 {
     regions::regions(settings).iter().fold(settings.word_count() as u64, |sum, region| sum + region.length())
@@ -29,7 +32,7 @@ pub fn ring_base(settings: &Settings) -> u64 {
 
 /// The length of a site's book (rule 8.5).
 pub fn length(settings: &Settings) -> u64 {
-    ring_base(settings) + RING_WORDS as u64
+    ring_base(settings) + TAIL_WORDS as u64
 }
 
 /// The words that show the state (rule 8.13).
@@ -61,6 +64,7 @@ pub fn words(state: &State) -> Vec<u32> {
         out.extend(entry_words(place));
     }
     out.push(state.ring.next as u32);
+    out.push(state.changes);
     out
 }
 

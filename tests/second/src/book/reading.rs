@@ -6,8 +6,8 @@ use crate::machine::ring::PLACES;
 use crate::machine::{Answer, Date, Kept, Request, Session, Settings, State, Time};
 use std::collections::BTreeSet;
 
-/// The sets that the well-formed cells of a book give, with the orders of the well-formed places of its ring, and
-/// the rules that other cells and places break. These give no entry and no order.
+/// The sets that the well-formed cells of a book give, with the orders of the well-formed places of its ring and the
+/// change count, and the rules that other cells and places break. These give no entry and no order.
 pub struct Reading {
     pub state: State,
     pub broken: BTreeSet<Rule>,
@@ -39,6 +39,7 @@ pub fn read(settings: Settings, book: &[u32]) -> Reading {
     reader.lunch(&settings);
     reader.ride(&settings);
     reader.ring();
+    reader.reading.state.changes = reader.next();
     reader.reading
 }
 

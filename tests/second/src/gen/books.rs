@@ -4,7 +4,7 @@ use super::requests::{deep_state, time_on};
 use super::rng::Rng;
 use super::sites::{bad_settings, site, Size};
 use crate::book::regions::{address, Name};
-use crate::book::{length, pool_words, ring_base, words, Rule, ENTRY_WORDS, RING_WORDS};
+use crate::book::{length, pool_words, ring_base, words, Rule, ENTRY_WORDS, RING_WORDS, TAIL_WORDS};
 use crate::machine::ring::PLACES;
 use crate::machine::site::{GREATEST, HEAD, LIMITS};
 use crate::machine::{Date, Session, Settings, State, Time};
@@ -295,9 +295,9 @@ pub fn junk_book(rng: &mut Rng) -> Vec<u32> {
     book
 }
 
-/// Changes a few words after the limits, each to a near or a junk value; fewer of them in the ring than it is long.
+/// Changes a few words after the limits, each to a near or a junk value; fewer of them in the tail than it is long.
 pub fn flip_words(rng: &mut Rng, book: &mut [u32]) {
-    let behind = (book.len() - RING_WORDS) as u32;
+    let behind = (book.len() - TAIL_WORDS) as u32;
     for _ in 0..rng.between(1, 3) {
         let last = if rng.percent(75) { behind } else { book.len() as u32 };
         let at = rng.between(LIMITS as u32, last - 1) as usize;

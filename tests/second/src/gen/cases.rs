@@ -1,7 +1,8 @@
 //! Single cases for the specification check, beside the tables of steps: checked books (each rule
-//! broken alone, lawful, junk), calls on raw books, layings, pages of dates, parties, orders, lists of
-//! requests and of orders, and whole inputs of the line program.
+//! broken alone, lawful, junk), calls on raw books, layings, pages of dates, parties, orders, asks and commits,
+//! lists of requests and of orders, and whole inputs of the line program.
 
+use super::asking;
 use super::books::{damaged, junk_book};
 use super::orders::{self, list_words, Plan, Sent};
 use super::pages::busy_state;
@@ -11,9 +12,10 @@ use super::sites::{bad_settings, large_settings, site, Size};
 use super::streams::{damage, damage_line, stream_of, DAMAGES};
 use super::tables::{join, party_text};
 use super::Rng;
-use crate::book::{self, length, words, Rule, RING_WORDS};
+use crate::book::{self, length, words, Rule, TAIL_WORDS};
+use crate::calls::Call;
 use crate::frames::{frames, words_line};
-use crate::machine::{run, Answer, Date, Request, Ring, Settings, State};
+use crate::machine::{run, Answer, Asked, Date, Request, Ring, Settings, State};
 use crate::page::{self, LINE_BYTES};
 use crate::party::{self, Guest, MOST_GUESTS};
 use std::collections::BTreeMap;
@@ -26,11 +28,12 @@ const LAYINGS: usize = 12;
 const PAGES: usize = 18;
 const PARTIES: usize = 18;
 const ORDERS: usize = 20;
+const COUNTED: usize = 40;
 const LISTS: usize = 12;
 const STREAMS: usize = 8;
 
 /// A prover computes these, so books and inputs stay short.
-const MOST_WORDS: usize = 150 + RING_WORDS;
+const MOST_WORDS: usize = 150 + TAIL_WORDS;
 const MOST_BYTES: usize = 650;
 const MOST_LINES: usize = 4;
 const FEW_GUESTS: usize = 12;
@@ -42,6 +45,8 @@ pub enum Case {
     Page { book: Vec<u32>, date: u32, before: Vec<u8>, answer: Answer, after: Vec<u8> },
     Party { before: Vec<u32>, meeting: u32, guests: Vec<Guest>, answer: Answer, after: Vec<u32> },
     Order { before: Vec<u32>, sent: Sent, answer: Answer, after: Vec<u32> },
+    Ask { book: Vec<u32>, request: Request, asked: Asked },
+    Commit { before: Vec<u32>, count: u32, request: Request, answer: Answer, after: Vec<u32> },
     List(Listed),
     Input { input: Vec<u8>, output: Vec<u8> },
 }
@@ -68,6 +73,7 @@ pub fn cases(seed: u64) -> Vec<Case> {
     all.extend((0..PARTIES).map(|turn| some_party(&mut rng, turn % 3 == 0)));
     all.extend([MOST_GUESTS, MOST_GUESTS + 1].map(large_party));
     all.extend((0..ORDERS).map(|_| ordered(&mut rng)));
+    all.extend((0..COUNTED).map(|_| counted(&mut rng)));
     all.extend((0..LISTS).map(|turn| Case::List(listed(&mut rng, turn))));
     all.extend(inputs(&mut rng).into_iter().map(|input| Case::Input { output: frames(&input), input }));
     all
@@ -120,6 +126,10 @@ fn called(rng: &mut Rng, raw: bool) -> Case {
     let state = small_state(rng);
     let before = if raw { short_junk(rng) } else { words(&state) };
     let request = one(rng, &state, Mix::USUAL);
+    answered(before, request)
+}
+
+fn answered(before: Vec<u32>, request: Request) -> Case {
     let mut after = before.clone();
     let answer = book::request(&mut after, &request);
     Case::Call { before, request, answer, after }
@@ -204,9 +214,37 @@ fn ordered(rng: &mut Rng) -> Case {
     loop {
         let orders::Lent { book: before, sent } = orders::lent(rng);
         if before.len() <= MOST_WORDS {
-            let mut after = before.clone();
-            let answer = book::order(&mut after, sent.order, &sent.request);
-            return Case::Order { before, sent, answer, after };
+            return sent_on(before, sent);
+        }
+    }
+}
+
+fn sent_on(before: Vec<u32>, sent: Sent) -> Case {
+    let mut after = before.clone();
+    let answer = book::order(&mut after, sent.order, &sent.request);
+    Case::Order { before, sent, answer, after }
+}
+
+fn committed(before: Vec<u32>, count: u32, request: Request) -> Case {
+    let mut after = before.clone();
+    let answer = book::commit(&mut after, count, &request);
+    Case::Commit { before, count, request, answer, after }
+}
+
+/// A call on a book of any change count, mostly an ask or a commit.
+fn counted(rng: &mut Rng) -> Case {
+    loop {
+        let asking::Lent { book, call } = asking::lent(rng);
+        if book.len() > MOST_WORDS {
+            continue;
+        }
+        match call {
+            Call::Ask(request) => return Case::Ask { asked: book::ask(&book, &request), book, request },
+            Call::Commit { count, request } => return committed(book, count, request),
+            Call::Request(request) => return answered(book, request),
+            Call::Order { order, request } => return sent_on(book, Sent { order, request }),
+            Call::Party { meeting, guests } if guests.len() <= FEW_GUESTS => return admitted(book, meeting, guests),
+            Call::Party { .. } => {}
         }
     }
 }
@@ -290,33 +328,40 @@ fn list_text(case: &Listed) -> String {
 
 /// The cases as plain text, one line each; `->` comes before what is answered, `:` between lists.
 pub fn text(cases: &[Case]) -> String {
-    let mut out = String::new();
-    for case in cases {
-        out += &match case {
-            Case::Check { book, answer } => format!("check {} -> {}\n", join(book), join(&answer.words())),
-            Case::Call { before, request, answer, after } => {
-                let asked = join(&request.words());
-                format!("call {} : {asked} -> {} : {}\n", join(before), join(&answer.words()), join(after))
-            }
-            Case::Lay { settings, before, answer, after } => {
-                let asked = join(settings);
-                format!("lay {asked} : {} -> {} : {}\n", join(before), join(&answer.words()), join(after))
-            }
-            Case::Page { book, date, before, answer, after } => {
-                let asked = format!("{} : {date} : {}", join(book), join(before));
-                format!("page {asked} -> {} : {}\n", join(&answer.words()), join(after))
-            }
-            Case::Party { before, meeting, guests, answer, after } => {
-                let asked = format!("{} : {}", join(before), party_text(*meeting, guests));
-                format!("party {asked} -> {} : {}\n", join(&answer.words()), join(after))
-            }
-            Case::Order { before, sent, answer, after } => {
-                let asked = format!("{} : {}", join(before), join(&sent.words()));
-                format!("order {asked} -> {} : {}\n", join(&answer.words()), join(after))
-            }
-            Case::List(case) => list_text(case),
-            Case::Input { input, output } => format!("input {} -> {}\n", join(input), join(output)),
-        };
+    cases.iter().map(case_text).collect()
+}
+
+fn case_text(case: &Case) -> String {
+    match case {
+        Case::Check { book, answer } => format!("check {} -> {}\n", join(book), join(&answer.words())),
+        Case::Call { before, request, answer, after } => {
+            let asked = join(&request.words());
+            format!("call {} : {asked} -> {} : {}\n", join(before), join(&answer.words()), join(after))
+        }
+        Case::Lay { settings, before, answer, after } => {
+            let asked = join(settings);
+            format!("lay {asked} : {} -> {} : {}\n", join(before), join(&answer.words()), join(after))
+        }
+        Case::Page { book, date, before, answer, after } => {
+            let asked = format!("{} : {date} : {}", join(book), join(before));
+            format!("page {asked} -> {} : {}\n", join(&answer.words()), join(after))
+        }
+        Case::Party { before, meeting, guests, answer, after } => {
+            let asked = format!("{} : {}", join(before), party_text(*meeting, guests));
+            format!("party {asked} -> {} : {}\n", join(&answer.words()), join(after))
+        }
+        Case::Order { before, sent, answer, after } => {
+            let asked = format!("{} : {}", join(before), join(&sent.words()));
+            format!("order {asked} -> {} : {}\n", join(&answer.words()), join(after))
+        }
+        Case::Ask { book, request, asked } => {
+            format!("ask {} : {} -> {}\n", join(book), join(&request.words()), join(&asked.words()))
+        }
+        Case::Commit { before, count, request, answer, after } => {
+            let asked = format!("{} : {count} : {}", join(before), join(&request.words()));
+            format!("commit {asked} -> {} : {}\n", join(&answer.words()), join(after))
+        }
+        Case::List(case) => list_text(case),
+        Case::Input { input, output } => format!("input {} -> {}\n", join(input), join(output)),
     }
-    out
 }

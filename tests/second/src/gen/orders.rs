@@ -7,9 +7,9 @@ use super::requests::{deep_state, junk, one, opening, Mix};
 use super::sites::{site_within, Size};
 use super::Rng;
 use crate::book::{words, Rule};
+use crate::calls::{perform, Call};
 use crate::machine::ring::{NO_ORDER, PLACES};
 use crate::machine::{order, step, Answer, Kept, Request, Ring, Settings, State};
-use crate::party::{perform, Call};
 use std::collections::BTreeSet;
 
 /// A request as it is sent, with the number of its order, 0 for none.
@@ -161,7 +161,7 @@ fn some_answer(rng: &mut Rng) -> Answer {
         0 => Answer::Done(0),
         1 => Answer::Done(rng.junk(3)),
         2 => Answer::Refused { number: rng.between(3, 22), place: rng.below(6) },
-        3 => Answer::Refused { number: rng.pick(&[1, 2, 23, 24, 27, 28, 29, u32::MAX]), place: rng.junk(3) },
+        3 => Answer::Refused { number: rng.pick(&[1, 2, 23, 24, 27, 28, 29, 30, u32::MAX]), place: rng.junk(3) },
         _ => Answer::Refused { number: rng.junk(28).max(1), place: rng.junk(3) },
     }
 }
@@ -200,39 +200,47 @@ pub fn lent(rng: &mut Rng) -> Lent {
         _ => None,
     };
     let sent = sent.unwrap_or_else(|| anew(rng, &state, number));
-    let book = match rng.below(10) {
+    Lent { book: some_book(rng, &state), sent }
+}
+
+/// Mostly the state's book, else one that breaks a rule, or junk words.
+pub fn some_book(rng: &mut Rng, state: &State) -> Vec<u32> {
+    match rng.below(10) {
         0 => junk_book(rng),
         1 => {
             let rule = rng.pick(&Rule::breakable().collect::<Vec<Rule>>());
-            damaged(rng, &state, rule).unwrap_or_else(|| words(&state))
+            damaged(rng, state, rule).unwrap_or_else(|| words(state))
         }
         2 => {
             let rule = rng.pick(&Rule::OF_RING);
-            damaged(rng, &state, rule).unwrap_or_else(|| words(&state))
+            damaged(rng, state, rule).unwrap_or_else(|| words(state))
         }
-        _ => words(&state),
-    };
-    Lent { book, sent }
+        _ => words(state),
+    }
 }
 
 /// So many calls for the machine in this state: requests, orders of the plan and parties; the state is moved along.
 pub fn calls(rng: &mut Rng, state: &mut State, length: usize, plan: Plan) -> Vec<Call> {
     let mut calls = Vec::with_capacity(length);
     while calls.len() < length {
-        let call = match rng.below(10) {
-            0 | 1 => a_party(rng, state),
-            2..=4 => Call::Request(one(rng, state, Mix::USUAL)),
-            _ => {
-                let order = if rng.percent(plan.repeats) { again(rng, state, &[]) } else { None };
-                let number = plan.first.wrapping_add(calls.len() as u32);
-                let Sent { order, request } = order.unwrap_or_else(|| anew(rng, state, number));
-                Call::Order { order, request }
-            }
-        };
+        let call = any_call(rng, state, plan, plan.first.wrapping_add(calls.len() as u32));
         perform(state, &call);
         calls.push(call);
     }
     calls
+}
+
+/// A request, an order of this number or one sent again, or a party.
+pub fn any_call(rng: &mut Rng, state: &State, plan: Plan, number: u32) -> Call {
+    match rng.below(10) {
+        0 | 1 => a_party(rng, state),
+        2..=4 => Call::Request(one(rng, state, Mix::USUAL)),
+        _ => {
+            let order = if rng.percent(plan.repeats) { again(rng, state, &[]) } else { None };
+            let Sent { order, request } = order.unwrap_or_else(|| anew(rng, state, number));
+            Call::Order { order, request }
+        }
+    }
 }
 
 /// What can be said of an order.

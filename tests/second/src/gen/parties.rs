@@ -7,9 +7,10 @@ use super::sites::{site_within, Size};
 use super::Rng;
 use crate::book::calls::open;
 use crate::book::{shown, words, Rule};
+use crate::calls::{perform, Call};
 use crate::machine::questions::first_no;
 use crate::machine::{step, Date, Session, State};
-use crate::party::{perform, Call, Guest, MOST_GUESTS};
+use crate::party::{Guest, MOST_GUESTS};
 use std::collections::BTreeSet;
 
 /// What is lent to a call.

@@ -61,7 +61,8 @@ pub fn list_from_fresh(rng: &mut Rng, settings: Settings, length: usize, mix: Mi
     requests
 }
 
-/// A state that a filling list reached, from fresh; half of the states have orders in their ring.
+/// A state that a filling list reached, from fresh; half of the states have orders in their ring, and half a change
+/// count that the list did not lead to, far from the greatest.
 pub fn deep_state(rng: &mut Rng, settings: Settings, length: usize) -> State {
     let mut state = State::empty(settings);
     let opening = opening(rng, &state.settings);
@@ -69,6 +70,9 @@ pub fn deep_state(rng: &mut Rng, settings: Settings, length: usize) -> State {
     list(rng, &mut state, length, Mix::FILLING);
     if rng.percent(50) {
         state.ring = some_ring(rng, &state);
+    }
+    if rng.percent(50) {
+        state.changes = rng.below(1 << 31);
     }
     state
 }

@@ -1,6 +1,7 @@
 //! Random tables for the specification check: small sites, the calls of a list from fresh, requests,
-//! orders and parties, with their answers, and the whole book at the end.
+//! orders, parties, asks and commits, with their replies, and the whole book at the end.
 
+use super::asking::{self, a_commit, fitting};
 use super::conflicts::{conflict, conflicts_of, edges, Conflict, CONFLICTS};
 use super::early::{self, early};
 use super::endings::{ending, Ending};
@@ -10,8 +11,9 @@ use super::requests::{aim, one, opening, Mix};
 use super::sites::{site, Size};
 use super::Rng;
 use crate::book::words;
+use crate::calls::{perform, Call, Reply};
 use crate::machine::{Answer, Request, Settings, State};
-use crate::party::{perform, Call, Guest};
+use crate::party::Guest;
 use std::collections::BTreeSet;
 
 /// How many sites and steps the tables have at least.
@@ -20,7 +22,7 @@ const STEPS: usize = 80;
 
 pub struct Table {
     pub settings: Settings,
-    pub steps: Vec<(Call, Answer)>,
+    pub steps: Vec<(Call, Reply)>,
     pub book: Vec<u32>,
 }
 
@@ -34,6 +36,9 @@ struct Seen {
     early: BTreeSet<early::Sort>,
     parties: BTreeSet<Sort>,
     orders: BTreeSet<orders::Sort>,
+    asks: BTreeSet<asking::Sort>,
+    /// What was asked in the table of now, and at which count.
+    asked: Vec<(u32, Request)>,
 }
 
 impl Seen {
@@ -43,7 +48,8 @@ impl Seen {
         let early = self.early.len() == early::Sort::ALL.len();
         let parties = parties_wanted().iter().all(|sort| self.parties.contains(sort));
         let orders = orders_wanted().iter().all(|sort| self.orders.contains(sort));
-        self.kinds_done.len() == 20 && numbers && sorts && early && parties && orders
+        let asks = ASKS_WANTED.iter().all(|sort| self.asks.contains(sort));
+        self.kinds_done.len() == 20 && numbers && sorts && early && parties && orders && asks
     }
 }
 
@@ -65,9 +71,13 @@ pub fn orders_wanted() -> Vec<orders::Sort> {
     orders::Sort::of_lists().into_iter().filter(|sort| !of_kinds(sort)).collect()
 }
 
+/// The sorts of asks and commits that occur in tables, whatever their kinds and numbers; none is at the greatest count.
+pub const ASKS_WANTED: [asking::Sort; 4] =
+    [asking::Sort::CommitRefused(29), asking::Sort::Old, asking::Sort::Ahead, asking::Sort::NoSetChanged];
+
 /// Tables of the seed: among them every kind is done, every number 3 to 22 is reached, every
 /// conflict of two questions, every sort of kind 9, of early times, of a small party and of an order occurs,
-/// every kind has every fault of its form, and small sites have a ride at every time.
+/// counts are seen and gone, every kind has every fault of its form, and small sites have a ride at every time.
 pub fn tables(seed: u64) -> Vec<Table> {
     let mut rng = Rng::new(seed);
     let mut seen = Seen::default();
@@ -90,11 +100,14 @@ fn table(rng: &mut Rng, seen: &mut Seen) -> Table {
     let (mut state, mut table) = opened(rng);
     let mut requests = opening(rng, &state.settings);
     requests.truncate(STEPS / 6);
+    seen.asked.clear();
     for turn in 0..STEPS {
         let call = match requests.pop() {
             Some(request) => Call::Request(request),
             None if turn % 5 == 4 => small_party(rng, &state, seen),
             None if turn % 5 == 1 => some_order(rng, &state, turn),
+            None if turn % 10 == 2 => Call::Ask(fitting(rng, &state)),
+            None if turn % 10 == 7 => a_commit(rng, &state, &seen.asked),
             None => Call::Request(next(rng, &state, seen, turn)),
         };
         add_step(&mut table, &mut state, seen, call);
@@ -162,7 +175,9 @@ fn some_order(rng: &mut Rng, state: &State, turn: usize) -> Call {
 
 fn add_step(table: &mut Table, state: &mut State, seen: &mut Seen, call: Call) {
     let before = state.clone();
-    let answer = perform(state, &call);
+    let reply = perform(state, &call);
+    let answer = reply.answer();
+    seen.asks.extend(asking::Sort::of(&before, &call));
     match &call {
         Call::Request(request) => {
             seen.conflicts.extend(conflicts_of(&before, request));
@@ -179,8 +194,10 @@ fn add_step(table: &mut Table, state: &mut State, seen: &mut Seen, call: Call) {
         Call::Party { meeting, guests } => {
             seen.parties.extend(Sort::of_party(&before, *meeting, guests, answer.words()));
         }
+        Call::Ask(request) => seen.asked.push((before.changes, *request)),
+        Call::Commit { .. } => {}
     }
-    table.steps.push((call, answer));
+    table.steps.push((call, reply));
 }
 
 /// How many guests a party of the tables has at most, and how many parties are drawn for a sort that is missing.
@@ -191,11 +208,11 @@ const TRIES: usize = 30;
 fn small_party(rng: &mut Rng, state: &State, seen: &Seen) -> Call {
     let missing = |call: &Call| match call {
         Call::Party { meeting, guests } => {
-            let answer = perform(&mut state.clone(), call).words();
+            let answer = perform(&mut state.clone(), call).answer().words();
             let sorts = Sort::of_party(state, *meeting, guests, answer);
             parties_wanted().iter().any(|sort| sorts.contains(sort) && !seen.parties.contains(sort))
         }
-        Call::Request(_) | Call::Order { .. } => false,
+        _ => false,
     };
     let drawn: Vec<Call> = (0..TRIES).map(|_| few_guests(rng, state)).collect();
     drawn.iter().find(|call| missing(call)).unwrap_or(&drawn[0]).clone()
@@ -245,18 +262,23 @@ pub fn party_text(meeting: u32, guests: &[Guest]) -> String {
     format!("{meeting} : {}", join(&guests.iter().flat_map(Guest::words).collect::<Vec<u32>>()))
 }
 
-/// The tables as plain text, one line an item: site, step (a request, an order or a party), book.
+fn call_text(call: &Call) -> String {
+    match call {
+        Call::Request(request) => join(&request.words()),
+        Call::Order { order, request } => join(&Sent { order: *order, request: *request }.words()),
+        Call::Party { meeting, guests } => party_text(*meeting, guests),
+        Call::Ask(request) => format!("ask : {}", join(&request.words())),
+        Call::Commit { count, request } => format!("commit : {count} : {}", join(&request.words())),
+    }
+}
+
+/// The tables as plain text, one line an item: site, step (a call and what it is told), book.
 pub fn text(tables: &[Table]) -> String {
     let mut out = String::new();
     for table in tables {
         out += &format!("site {}\n", join(&table.settings.words()));
-        for (call, answer) in &table.steps {
-            let asked = match call {
-                Call::Request(request) => join(&request.words()),
-                Call::Order { order, request } => join(&Sent { order: *order, request: *request }.words()),
-                Call::Party { meeting, guests } => party_text(*meeting, guests),
-            };
-            out += &format!("step {asked} -> {}\n", join(&answer.words()));
+        for (call, reply) in &table.steps {
+            out += &format!("step {} -> {}\n", call_text(call), join(&reply.words()));
         }
         out += &format!("book {}\n", join(&table.book));
     }

@@ -5,6 +5,11 @@ use super::site::Settings;
 /// The kinds are 1..20.
 pub const LAST_KIND: u32 = 20;
 
+/// The kinds that change something, if only the count: 1..16 (rules 4.21 and 19.2). The others only ask.
+pub fn changes_something(kind: u32) -> bool {
+    (1..=16).contains(&kind)
+}
+
 /// What the number in a or b names.
 #[derive(Clone, Copy, Debug, PartialEq, Eq)]
 pub enum Thing {

@@ -1,6 +1,8 @@
-//! The diary machine: `State` holds settings, sets (docs/RULES.md, section 3) and the ring of kept orders
-//! (section 18), `step` answers one request (section 6), `order` one that carries the number of an order.
+//! The diary machine: `State` holds settings, sets (docs/RULES.md, section 3), the ring of kept orders
+//! (section 18) and the change count (section 19), `step` answers one request (section 6), `order` one that carries the
+//! number of an order, `ask` says what a request would be answered, `commit` takes one at a count.
 
+pub mod asking;
 pub mod changes;
 pub mod kinds;
 pub mod questions;
@@ -9,10 +11,11 @@ pub mod site;
 
 use std::collections::{BTreeMap, BTreeSet};
 
+pub use asking::{ask, commit, Asked};
 pub use ring::{order, Kept, Ring};
 pub use site::{Date, Session, Settings, Time};
 
-/// The settings, the seven sets with the tuples of rules 3.1 to 3.7, and the kept orders.
+/// The settings, the seven sets with the tuples of rules 3.1 to 3.7, the kept orders, and the change count.
 #[derive(Clone, Debug, PartialEq, Eq)]
 pub struct State {
     pub settings: Settings,
@@ -32,6 +35,8 @@ pub struct State {
     pub lunch: BTreeMap<(Date, u32, u32), (u32, u32)>,
     /// The last orders; no request without an order changes it.
     pub ring: Ring,
+    /// How often the state was changed (rule 19.1); any word.
+    pub changes: u32,
 }
 
 impl State {
@@ -47,6 +52,7 @@ impl State {
             conf: BTreeMap::new(),
             lunch: BTreeMap::new(),
             ring: Ring::empty(),
+            changes: 0,
         }
     }
 
@@ -136,11 +142,15 @@ impl Answer {
 }
 
 /// Answers one request: the first question answered no refuses it and leaves the state as it is
-/// (rules 6.3 and 6.6); without one the change is made.
+/// (rules 6.3 and 6.6); without one the change is made, and counted (rule 19.2).
 pub fn step(state: &mut State, request: &Request) -> Answer {
     match questions::first_no(state, request) {
         Some((number, place)) => Answer::Refused { number, place },
-        None => Answer::Done(changes::change(state, request)),
+        None => {
+            let value = changes::change(state, request);
+            state.changes += u32::from(kinds::changes_something(request.kind));
+            Answer::Done(value)
+        }
     }
 }
 

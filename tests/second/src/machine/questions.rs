@@ -1,7 +1,7 @@
-//! Questions 3 to 22 (docs/RULES.md, section 5), each a function of the state and the request.
+//! Questions 3 to 22 and 30 (docs/RULES.md, section 5), each a function of the state and the request.
 //! A question answers Ok for yes and Err with the place for no; where it does not apply it says yes.
 
-use super::kinds::{uses, LAST_KIND};
+use super::kinds::{changes_something, uses, LAST_KIND};
 use super::site::{Date, Session, Time};
 use super::{Request, State};
 
@@ -34,14 +34,21 @@ pub const QUESTIONS: [(u32, Question); 20] = [
     (22, there_is_such_a_room),
 ];
 
+/// Question 30, which comes behind all of them (rule 19.3).
+pub const LAST_QUESTION: (u32, Question) = (30, count_can_rise);
+
 /// The number and place of the first question answered no.
 pub fn first_no(state: &State, request: &Request) -> Option<(u32, u32)> {
-    for (number, ask) in QUESTIONS {
-        if let Err(place) = ask(state, request) {
-            return Some((number, place));
-        }
-    }
-    None
+    first_before_30(state, request).or_else(|| said_no(LAST_QUESTION, state, request))
+}
+
+/// The same without question 30, as a guest of a party is asked.
+pub fn first_before_30(state: &State, request: &Request) -> Option<(u32, u32)> {
+    QUESTIONS.into_iter().find_map(|question| said_no(question, state, request))
+}
+
+fn said_no((number, ask): (u32, Question), state: &State, request: &Request) -> Option<(u32, u32)> {
+    ask(state, request).err().map(|place| (number, place))
 }
 
 /// A question over slots: no with the lowest slot that is answered no (rules 6.4 and 6.5).
@@ -296,6 +303,11 @@ fn there_is_such_a_room(state: &State, r: &Request) -> Verdict {
         20 => whole(lowest_free_room(state, r).is_some()),
         _ => Ok(()),
     }
+}
+
+/// Rule 5.30: a change can still be counted.
+fn count_can_rise(state: &State, r: &Request) -> Verdict {
+    whole(!changes_something(r.kind) || state.changes < u32::MAX)
 }
 
 /// The lowest conference room that no meeting holds in any of the slots (rule 4.20).

@@ -98,6 +98,11 @@ pub fn after(state: &State, request: &Request) -> (Answer, State) {
     (answer, state)
 }
 
+/// The state with its change count raised by so many.
+pub fn raised(state: &State, by: u32) -> State {
+    State { changes: state.changes + by, ..state.clone() }
+}
+
 /// "ofKind": the request with another kind, seats and information 0.
 pub fn of_kind(kind: u32, request: &Request) -> Request {
     Request { kind, n: 0, info: 0, ..*request }

@@ -7,9 +7,9 @@ use second::machine::{run, Date, Request, State};
 
 const SEED: u64 = 0x7e50;
 
-/// The entries of the first state on the dates that are meant, and those of the second on others.
+/// The entries of the first state on the dates that are meant, and those of the second on others; the first one's count.
 fn mixed(inside: &State, outside: &State, meant: impl Fn(Date) -> bool) -> State {
-    let mut state = State::empty(inside.settings.clone());
+    let mut state = State { changes: inside.changes, ..State::empty(inside.settings.clone()) };
     for (from, wanted) in [(inside, true), (outside, false)] {
         let s = &from.settings;
         let take = |date: Date| meant(date) == wanted;

@@ -2,6 +2,7 @@
 //! requests (crates/model/proofs) over seeded deep states and requests. Each test counts the cases
 //! in which its premise held and wants enough of every sort, so that none passes emptily.
 
+mod asking;
 mod common;
 mod frames;
 mod locality;

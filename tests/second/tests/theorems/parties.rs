@@ -39,7 +39,8 @@ fn requests_of(meeting: u32, guests: &[Guest]) -> Vec<Request> {
     guests.iter().map(|guest| guest.joining(meeting)).collect()
 }
 
-/// party-done and party-all: a party is done exactly when its requests one by one are, and leads where they do.
+/// party-done and party-all: a party is done exactly when its requests one by one are, and leads where they do, but
+/// that it counts as one change.
 #[test]
 fn a_done_party_is_its_requests() {
     let mut counts = Counts::new();
@@ -49,8 +50,10 @@ fn a_done_party_is_its_requests() {
         let (answer, later) = after_party(state, meeting, guests);
         assert_eq!(answer == DONE, all_done, "{meeting} {guests:?}");
         if all_done {
-            assert_eq!(later, reached, "{meeting} {guests:?}");
-            assert_eq!(words(&later), words(&reached));
+            assert_eq!((reached.changes, later.changes), (state.changes + guests.len() as u32, state.changes + 1));
+            let counted = State { changes: later.changes, ..reached };
+            assert_eq!(later, counted, "{meeting} {guests:?}");
+            assert_eq!(words(&later), words(&counted));
         }
         counts.add((all_done, guests.len().min(2) + usize::from(guests.len() == MOST_GUESTS)));
     });

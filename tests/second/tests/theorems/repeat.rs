@@ -1,6 +1,7 @@
 //! Theorem 1, proofs/Repeat: "Send an accepted request again and you are told what it already did."
 
-use crate::common::{after, walk, Counts};
+use crate::common::{after, raised, walk, Counts};
+use second::machine::kinds::changes_something;
 use second::machine::{Answer, Request};
 
 const SEED: u64 = 0x7e10;
@@ -26,7 +27,12 @@ fn a_request_sent_again_at_once() {
         let (answer, once) = after(state, request);
         let (again, twice) = after(&once, request);
         assert_eq!(again, answer_again(request, answer), "{request:?}");
-        assert_eq!(twice, once, "sending twice leaves what sending once leaves");
+        let counted = again.number() == 0 && changes_something(request.kind);
+        assert_eq!(
+            twice,
+            raised(&once, u32::from(counted)),
+            "sending twice leaves what sending once leaves, but the count"
+        );
         match answer {
             Answer::Done(_) => done.add(request.kind),
             Answer::Refused { number, .. } => refused.add(number),

@@ -1,4 +1,4 @@
-//! Theorem 4, proofs/Slots: "A range is its slots."
+//! Theorem 4, proofs/Slots: "A range is its slots." It counts as one change, and they as one each.
 
 use crate::common::{after, at_slot, is_done, slots_word, some_state, walk_ranges, Counts, DONE};
 use second::gen::requests::aim;
@@ -29,7 +29,8 @@ fn an_accepted_range_is_its_one_slot_requests() {
         let (values, singly) = slot_by_slot(state, request);
         let values = values.unwrap_or_else(|| panic!("a one-slot request was refused: {request:?}"));
         assert_eq!(values.iter().sum::<u32>(), value, "{request:?}");
-        assert_eq!(singly, whole, "{request:?}");
+        let counted = State { changes: state.changes + values.len() as u32, ..whole };
+        assert_eq!(singly, counted, "{request:?}");
         counts.add((request.kind, slots_word(request)));
     });
     let sorts = (1..=15).flat_map(|kind| [(kind, "one"), (kind, "more")]);
