@@ -1,11 +1,13 @@
--- Guests are added to a book and taken back: what one request leaves, what the loops keep, and what a party gives.
+-- Guests are added to a diary and taken back: what one request leaves, what the loops keep, and what a party gives, with the change count.
 -- Assumes nothing.
-use Prim.Native.Nat.{ℕ, zero, suc, _*_, _-_, _<_, _≤_}
+use Prim.Native.Nat.{ℕ, suc, _+_, _*_, _-_, _<_, _≤_}
 use mathlib.Core.Path.{_≡_, refl, sym, _∙_, ap, ap₂, subst}
-use mathlib.Core.Bool.{true, false}
-use mathlib.Core.List.{List, _∷_}
+use mathlib.Core.Bool.{Bool, true, false, cond}
+use mathlib.Core.List.{List, _∷_, _++_}
 use native.Mathlib.Omega.{arith}
-use lib.ListN.{length, drop}
+use lib.Dec.{eqb}
+use lib.ListN.{length, set, take, drop, length-append, take-append-drop}
+use lib.Seq.{length-take-le, take-at, drop-at}
 use Rattle.model.specs.declared.Settings.{Settings}
 use Rattle.model.specs.declared.Request.{Request}
 use Rattle.model.specs.declared.Guest.{Guest}
@@ -13,60 +15,73 @@ use Rattle.model.specs.declared.Answer.{Answer}
 use Rattle.model.specs.declared.Answer.the-variants.{Done, Refused}
 use Rattle.model.specs.State.{State}
 use Rattle.model.specs.Kinds.{Kind.addAttend}
-use Rattle.model.specs.Machine.{Outcome, step, change, joining, joined, allOrNone, partyFits, admit, request, party, told, stepped, perform}
+use Rattle.model.specs.Machine.{Outcome, step, change, joining, joined, allOrNone, partyFits, admit, party, told, Counted, mostChanges, raise, countedParty}
+use Rattle.model.specs.Machine.{stepped}
+use Rattle.model.specs.Words.{diaryLength, words}
+use Rattle.model.specs.Reading.{stateOf, readState}
 use Rattle.model.specs.Ledger.{Ledger, ledgerOf, bookWords}
-use Rattle.model.specs.Calls.{Called, called, callParty}
+use Rattle.model.specs.Laws.{wellLaid, lawful}
+use Rattle.model.specs.Calls.{Called, called, callOn, callParty, check}
+use Rattle.model.proofs.Laws.{Sound}
+use Rattle.model.proofs.Sound.{book-sound}
+use Rattle.model.proofs.ReadBack.{stateOf-words}
 use Rattle.model.proofs.Search.{never, within-true, true-within}
-use Rattle.model.proofs.Ledger.{words-ledgerOf, ledgerOf-words, ledger-sound}
-use Rattle.model.proofs.Calls.{perform-sound}
+use Rattle.model.proofs.Ledger.{LedgerSound, words-ledgerOf, ledger-sound, first-part, part-behind, behind-shown, diary-fits, recounted}
+use Rattle.model.proofs.Calls.{step-sound}
+use Rattle.model.proofs.Frame.{step-settings}
 use Rattle.model.proofs.Done.{Accepted, refused-keeps}
 use Rattle.model.proofs.Undo.{attend, undo-added}
 use Rattle.model.proofs.Party.{accepted-guest, added, joined-on, joined-off, admit-unfit}
-use Rattle.book.specs.Good.{GoodBook, answered}
-use Rattle.step.proofs.Kept.{good-step, good-call}
-use Rattle.parties.specs.Guests.{guestOf, guestsOf, guestRequest, Reaches, noneYet, oneMore, Within, Adds, TakenBack, Lent}
+use Rattle.book.specs.Good.{Good, GoodBook, answered, inWords}
+use Rattle.book.proofs.Goods.{good-laid, good-state, good-words}
+use Rattle.step.proofs.Kept.{good-diary, good-call, part-good}
+use Rattle.parties.specs.Guests.{guestOf, guestsOf, guestRequest, Reaches, noneYet, oneMore, Within, Adds, TakenBack, lastAsked, ofParty, Lent}
 use Rattle.parties.proofs.Guests.{from, from-first, from-next}
 
--- one request on a good book: the step of its diary, and a good book that shows the next ledger
-pub record After (S : Settings) (b : List ℕ) (r : Request) (a : Answer) (b′ : List ℕ) : Type 0 where
-  pub answer : a ≡ step (ledgerOf b .diary) r .answer
-  pub ledger : ledgerOf b′ ≡ perform (ledgerOf b) (request r) .ledger
-  pub good : GoodBook S b′
+done-refused : {n p v : ℕ} {A : Type 0} → Done v ≡ Refused n p → A
+done-refused e = absurd (let z : _≡_ {A = ℕ} 0 1 = cc in omega arith)
 
-pub after : {S : Settings} {b b′ : List ℕ} → GoodBook S b → (r : Request) {a : Answer} → answered a b′ ≡ called (perform (ledgerOf b) (request r))
-    → After S b r a b′
+refused-done : {n p v : ℕ} {A : Type 0} → Refused n p ≡ Done v → A
+refused-done e = done-refused (sym e)
+
+-- one request on a good diary: the step of what it shows, and a good diary that shows the next state
+pub record After (S : Settings) (b : List ℕ) (r : Request) (a : Answer) (b′ : List ℕ) : Type 0 where
+  pub answer : a ≡ step (stateOf b) r .answer
+  pub state : stateOf b′ ≡ step (stateOf b) r .state
+  pub good : Good S b′
+
+pub after : {S : Settings} {b b′ : List ℕ} → Good S b → (r : Request) {a : Answer} → answered a b′ ≡ inWords (step (stateOf b) r) → After S b r a b′
+unfolding readState
 after {S} {b} {b′} good r {a} e =
-    let w : b′ ≡ bookWords (perform (ledgerOf b) (request r) .ledger) = ap (λ (c : Called). c .book) e in
-    let q : told a ≡ told (step (ledgerOf b .diary) r .answer) = ap (λ (c : Called). c .reply) e in
+    let w : b′ ≡ words (step (stateOf b) r .state) = ap (λ (c : Called). c .book) e in
+    let q : told a ≡ told (step (stateOf b) r .answer) = ap (λ (c : Called). c .reply) e in
+    let s : Sound (step (stateOf b) r .state) = step-sound (stateOf b) (book-sound b (good .laid) (good .lawful)) r in
+    let same : step (stateOf b) r .state .settings ≡ S = step-settings (stateOf b) r ∙ ap (λ (x : State). x .settings) (good-state good) in
     record {
       answer = cc;
-      ledger =
-          ap ledgerOf w
-          ∙ ledgerOf-words (perform (ledgerOf b) (request r) .ledger)
-          (perform-sound (ledgerOf b) (ledger-sound b (good .laid) (good .lawful)) (request r));
-      good = subst (GoodBook S) (sym w) (good-step good 0 r);
+      state = ap stateOf w ∙ stateOf-words (step (stateOf b) r .state) s;
+      good =
+          subst (Good S) (sym w)
+          (subst (λ (T : Settings). Good T (words (step (stateOf b) r .state))) same (good-words (step (stateOf b) r .state) s));
     }
 
 -- the request that was made is the one that is meant
-pub asked-as : (b : List ℕ) {b′ : List ℕ} {a : Answer} {r q : Request} → r ≡ q → answered a b′ ≡ called (perform (ledgerOf b) (request r))
-    → answered a b′ ≡ called (perform (ledgerOf b) (request q))
-asked-as b f e = e ∙ ap (λ (r : Request). called (perform (ledgerOf b) (request r))) f
+pub asked-as : (b : List ℕ) {b′ : List ℕ} {a : Answer} {r q : Request} → r ≡ q → answered a b′ ≡ inWords (step (stateOf b) r)
+    → answered a b′ ≡ inWords (step (stateOf b) q)
+asked-as b f e = e ∙ ap (λ (r : Request). inWords (step (stateOf b) r)) f
 
--- the ledger with another diary and the tail of a book
-abbrev diaryIn : List ℕ → State → Ledger
-diaryIn b x = record { diary = x; tail = ledgerOf b .tail }
+-- good diaries under the same settings are of one length
+pub as-long : {S : Settings} {a b : List ℕ} → Good S a → Good S b → length b ≡ length a
+as-long g h = good-laid h .long ∙ sym (good-laid g .long)
 
--- the adding loop: the guests from the i-th on, added to the state so far, give what all give
+-- the adding loop: the guests from the i-th on, added to the diary so far, give what all give
 pub record Adding (S : Settings) (a : List ℕ) (m : ℕ) (w : List ℕ) (n i : ℕ) (b : List ℕ) : Type 0 where
   pub within : Within S a m w i b
-  pub rest : joined (ledgerOf a .diary) m (guestsOf n w) ≡ joined (within .state) m (from n i w)
+  pub rest : joined (stateOf a) m (guestsOf n w) ≡ joined (stateOf b) m (from n i w)
 
-pub adding-none : {S : Settings} {a : List ℕ} → GoodBook S a → (m : ℕ) (w : List ℕ) (n : ℕ) → Adding S a m w n 0 a
+pub adding-none : {S : Settings} {a : List ℕ} → Good S a → (m : ℕ) (w : List ℕ) (n : ℕ) → Adding S a m w n 0 a
 adding-none {S} {a} good m w n =
-    record {
-      within = record { good = good; state = ledgerOf a .diary; reaches = noneYet; shows = refl };
-      rest = ap (joined (ledgerOf a .diary) m) (from-first n w);
-    }
+    record { within = record { good = good; reaches = noneYet }; rest = ap (joined (stateOf a) m) (from-first n w) }
 
 module _ {S : Settings} {a : List ℕ} (m : ℕ) (w : List ℕ) (n i : ℕ) {b : List ℕ} (so : Adding S a m w n i b) (l : i < n) where
   -- the guest, and their request
@@ -76,55 +91,37 @@ module _ {S : Settings} {a : List ℕ} (m : ℕ) (w : List ℕ) (n i : ℕ) {b :
   abbrev asks : Request
   asks = guestRequest 10 m (drop (i * 3) w)
 
-  abbrev now : State
-  now = so .within .state
-
-  module _ {r : Answer} {b′ : List ℕ} (e : answered r b′ ≡ called (perform (ledgerOf b) (request asks))) where
+  module _ {r : Answer} {b′ : List ℕ} (e : answered r b′ ≡ inWords (step (stateOf b) asks)) where
     left : After S b asks r b′
     left = after (so .within .good) asks e
 
-    stepped-by : step (ledgerOf b .diary) asks ≡ step now asks
-    stepped-by = ap (λ (k : Ledger). step (k .diary) asks) (so .within .shows)
-
-    here : joined (ledgerOf a .diary) m (guestsOf n w) ≡ joined now m (guest ∷ from n (suc i) w)
-    here = so .rest ∙ ap (joined now m) (from-next n i w l)
-
-    ledger-is : ledgerOf b′ ≡ diaryIn a (step now asks .state)
-    ledger-is =
-        left .ledger
-        ∙ (λ j. record { diary = stepped-by j .state; tail = so .within .shows j .tail })
+    here : joined (stateOf a) m (guestsOf n w) ≡ joined (stateOf b) m (guest ∷ from n (suc i) w)
+    here = so .rest ∙ ap (joined (stateOf b) m) (from-next n i w l)
 
     pub adding-more : {v : ℕ} → r ≡ Done v → {j : ℕ} → suc i ≡ j → Adding S a m w n j b′
     adding-more {v} d {j} f =
         subst (λ (k : ℕ). Adding S a m w n k b′) f (
-        let h : Accepted now asks addAttend
-        = accepted-guest now m guest v (sym (left .answer ∙ ap (λ (o : Outcome). o .answer) stepped-by) ∙ d) in
-        let z : State = change now asks addAttend in
-        let q : step now asks ≡ record { answer = Done 0; state = z } = added now m guest h in
+        let h : Accepted (stateOf b) asks addAttend = accepted-guest (stateOf b) m guest v (sym (left .answer) ∙ d) in
+        let q : step (stateOf b) asks ≡ record { answer = Done 0; state = change (stateOf b) asks addAttend } = added (stateOf b) m guest h in
+        let z : change (stateOf b) asks addAttend ≡ stateOf b′ = sym (left .state ∙ ap (λ (o : Outcome). o .state) q) in
+        let t : step (stateOf b) asks ≡ record { answer = Done 0; state = stateOf b′ }
+        = q ∙ ap (λ (x : State). record { answer = Done 0; state = x }) z in
         record {
-          within = record {
-            good = left .good;
-            state = z;
-            reaches = oneMore i now z (so .within .reaches) q;
-            shows = ledger-is ∙ ap (λ (o : Outcome). diaryIn a (o .state)) q;
-          };
-          rest = here ∙ joined-on now m guest (from n (suc i) w) z q;
+          within = record { good = left .good; reaches = oneMore i (stateOf b) (stateOf b′) (so .within .reaches) t };
+          rest = here ∙ joined-on (stateOf b) m guest (from n (suc i) w) (stateOf b′) t;
         }
         )
 
     pub adding-stops : {k p : ℕ} → r ≡ Refused k p → Adds S a m w n i (Refused k p) b′
     adding-stops {k} {p} d =
-        let q : step now asks .answer ≡ Refused k p = sym (left .answer ∙ ap (λ (o : Outcome). o .answer) stepped-by) ∙ d in
-        let x : step now asks .state ≡ now = refused-keeps now asks k p q in
+        let q : step (stateOf b) asks .answer ≡ Refused k p = sym (left .answer) ∙ d in
+        let x : stateOf b ≡ stateOf b′ = sym (left .state ∙ refused-keeps (stateOf b) asks k p q) in
         record {
-          within = record {
-            good = left .good;
-            state = now;
-            reaches = so .within .reaches;
-            shows = ledger-is ∙ ap (diaryIn a) x;
-          };
+          within = record { good = left .good; reaches = subst (λ (y : State). Reaches (stateOf a) m w i y) x (so .within .reaches) };
           few = omega (arith, l);
-          outcome = here ∙ joined-off now m guest (from n (suc i) w) q ∙ (λ j. record { answer = q j; state = x j });
+          outcome =
+              here ∙ joined-off (stateOf b) m guest (from n (suc i) w) q
+              ∙ (λ j. record { answer = q j; state = sym (left .state) j });
         }
 
 pub adding-ends : {S : Settings} {a : List ℕ} (m : ℕ) (w : List ℕ) (n i : ℕ) {b : List ℕ} → Adding S a m w n i b → i ≡ n
@@ -136,14 +133,14 @@ adding-ends {S} {a} m w n i {b} so e =
     record {
       within = t .within;
       few = omega arith;
-      outcome = t .rest ∙ ap (λ (k : ℕ). joined (t .within .state) m (guestsOf k (drop (n * 3) w))) z;
+      outcome = t .rest ∙ ap (λ (k : ℕ). joined (stateOf b) m (guestsOf k (drop (n * 3) w))) z;
     }
 
 -- the last of the guests is taken back
 pub taken-one : {S : Settings} {a b : List ℕ} (m : ℕ) (w : List ℕ) {i : ℕ} (j : ℕ) → i ≡ suc j → Within S a m w i b → {r : Answer} {b′ : List ℕ}
-    → answered r b′ ≡ called (perform (ledgerOf b) (request (guestRequest 11 m (drop (j * 3) w))))
+    → answered r b′ ≡ inWords (step (stateOf b) (guestRequest 11 m (drop (j * 3) w)))
     → Within S a m w j b′
-taken-one {S} {a} {b} m w {i} j f so {r} {b′} e = go (so .state) (rw f at (so .reaches)) (so .shows)
+taken-one {S} {a} {b} m w {i} j f so {r} {b′} e = go (stateOf b) refl (rw f at (so .reaches))
   where
     asks : Request
     asks = guestRequest 11 m (drop (j * 3) w)
@@ -151,72 +148,149 @@ taken-one {S} {a} {b} m w {i} j f so {r} {b′} e = go (so .state) (rw f at (so 
     left : After S b asks r b′
     left = after (so .good) asks e
 
-    go : (z : State) → Reaches (ledgerOf a .diary) m w (suc j) z → ledgerOf b ≡ diaryIn a z → Within S a m w j b′
-    go u (oneMore k y z before q) shows =
+    go : (z : State) → stateOf b ≡ z → Reaches (stateOf a) m w (suc j) z → Within S a m w j b′
+    go u shows (oneMore k y z before q) =
         let g : Guest = guestOf (drop (k * 3) w) in
         let h : Accepted y (joining m g) addAttend = accepted-guest y m g 0 (ap (λ (o : Outcome). o .answer) q) in
         let c : z ≡ change y (joining m g) addAttend = ap (λ (o : Outcome). o .state) (sym q ∙ added y m g h) in
         let back : step z asks ≡ record { answer = Done 0; state = y } = ap (λ (x : State). step x asks) c ∙ undo-added y (joining m g) attend h in
-        record {
-          good = left .good;
-          state = y;
-          reaches = before;
-          shows =
-              left .ledger
-              ∙ (λ j. record { diary = step (shows j .diary) asks .state; tail = shows j .tail })
-              ∙ ap (λ (o : Outcome). diaryIn a (o .state)) back;
-        }
+        let is : stateOf b′ ≡ y
+        = left .state ∙ ap (λ (x : State). step x asks .state) shows ∙ ap (λ (o : Outcome). o .state) back in
+        record { good = left .good; reaches = subst (λ (x : State). Reaches (stateOf a) m w k x) (sym is) before }
 
--- the words of a good book, and of one with guests added
-good-words : {S : Settings} {b : List ℕ} → GoodBook S b → bookWords (ledgerOf b) ≡ b
-good-words {S} {b} good = words-ledgerOf b (good .laid) (good .lawful)
-
-within-words : {S : Settings} {a b : List ℕ} {m : ℕ} {w : List ℕ} {i : ℕ} (so : Within S a m w i b) → bookWords (diaryIn a (so .state)) ≡ b
-within-words so = ap bookWords (sym (so .shows)) ∙ good-words (so .good)
-
--- none is left: the book is as it was
-pub taken-all : {S : Settings} {a b : List ℕ} {m : ℕ} {w : List ℕ} {i : ℕ} → GoodBook S a → i ≡ 0 → Within S a m w i b → b ≡ a
-taken-all {S} {a} {b} {m} {w} good f so = go (so .state) (rw f at (so .reaches)) (so .shows)
+-- none is left: the diary is as it was
+pub taken-all : {S : Settings} {a b : List ℕ} {m : ℕ} {w : List ℕ} {i : ℕ} → Good S a → i ≡ 0 → Within S a m w i b → b ≡ a
+taken-all {S} {a} {b} {m} {w} good f so = go (stateOf b) refl (rw f at (so .reaches))
   where
-    go : (z : State) → Reaches (ledgerOf a .diary) m w 0 z → ledgerOf b ≡ diaryIn a z → b ≡ a
-    go z noneYet shows = sym (good-words (so .good)) ∙ ap bookWords shows ∙ good-words good
+    go : (z : State) → stateOf b ≡ z → Reaches (stateOf a) m w 0 z → b ≡ a
+    go z shows noneYet = sym (good-diary (so .good)) ∙ ap words shows ∙ good-diary good
 
--- all guests or none
-abbrev pub ofParty : List ℕ → ℕ → List Guest → Called
-ofParty a m gs = called (stepped (ledgerOf a .tail) (allOrNone (ledgerOf a .diary) (joined (ledgerOf a .diary) m gs)))
+-- what is done behind question 30 found a count that can rise
+pub last-open : (n : ℕ) (r : Answer) {v : ℕ} → lastAsked n r ≡ Done v → eqb n mostChanges ≡ false
+last-open n (Done u) {v} e = go (eqb n mostChanges) e
+  where
+    go : (t : Bool) → cond t (Refused 30 0) (Done u) ≡ Done v → t ≡ false
+    go true e = refused-done e
+    go false e = refl
+last-open n (Refused k p) e = refused-done e
 
-module _ {S : Settings} {a : List ℕ} (good : GoodBook S a) {m : ℕ} {w : List ℕ} {n i : ℕ} {r : Answer} {b : List ℕ}
-    (adds : Adds S a m w n i r b) where
-  outcome-is : ofParty a m (guestsOf n w)
-      ≡ called (stepped (ledgerOf a .tail) (allOrNone (ledgerOf a .diary) (record { answer = r; state = adds .within .state })))
-  outcome-is = ap (λ (o : Outcome). called (stepped (ledgerOf a .tail) (allOrNone (ledgerOf a .diary) o))) (adds .outcome)
+-- What all the guests, or none, make of a diary x at the count n, by what they give one by one: with the answer r, question 30 behind it
+-- says whether they are refused or done.
+abbrev counted : State → ℕ → Outcome → Counted
+counted x n o = raise x n (allOrNone x o) (allOrNone x o .answer)
 
-  pub none-joined : {k p : ℕ} → r ≡ Refused k p → {b′ : List ℕ} → TakenBack S m w i b b′ → answered (Refused k p) b′ ≡ ofParty a m (guestsOf n w)
-  none-joined {k} {p} e back =
-      ap (answered (Refused k p)) (back a good (adds .within) ∙ sym (good-words good))
-      ∙ sym (outcome-is
-      ∙ ap (λ (r : Answer). called (stepped (ledgerOf a .tail) (allOrNone (ledgerOf a .diary)
-          (record { answer = r; state = adds .within .state })))) e)
+module _ (x : State) (n : ℕ) where
+  counted-none : (r : Answer) (z : State) {k p : ℕ} → lastAsked n r ≡ Refused k p
+      → counted x n (record { answer = r; state = z }) ≡ record { answer = Refused k p; state = x; changes = n }
+  unfolding raise
+  counted-none (Done v) z {k} {p} e = go (eqb n mostChanges) e
+    where
+      go : (t : Bool) → cond t (Refused 30 0) (Done v) ≡ Refused k p
+          → cond {A = Counted} t (record { answer = Refused 30 0; state = x; changes = n }) (record { answer = Done v; state = z; changes = suc n })
+          ≡ record { answer = Refused k p; state = x; changes = n }
+      go true e = λ j. record { answer = e j; state = x; changes = n }
+      go false e = done-refused e
+  counted-none (Refused k p) z e = λ j. record { answer = e j; state = x; changes = n }
 
-  pub all-joined : {v : ℕ} → r ≡ Done v → answered r b ≡ ofParty a m (guestsOf n w)
-  all-joined {v} e =
-      ap₂ answered e (sym (within-words (adds .within)))
-      ∙ sym (outcome-is
-      ∙ ap (λ (r : Answer). called (stepped (ledgerOf a .tail) (allOrNone (ledgerOf a .diary)
-          (record { answer = r; state = adds .within .state })))) e)
+  counted-all : (r : Answer) (z : State) {v : ℕ} → lastAsked n r ≡ Done v
+      → counted x n (record { answer = r; state = z }) ≡ record { answer = Done v; state = z; changes = suc n }
+  unfolding raise
+  counted-all (Done u) z {v} e = go (eqb n mostChanges) e
+    where
+      go : (t : Bool) → cond t (Refused 30 0) (Done u) ≡ Done v
+          → cond {A = Counted} t (record { answer = Refused 30 0; state = x; changes = n }) (record { answer = Done u; state = z; changes = suc n })
+          ≡ record { answer = Done v; state = z; changes = suc n }
+      go true e = refused-done e
+      go false e = λ j. record { answer = e j; state = z; changes = suc n }
+  counted-all (Refused k p) z e = refused-done e
+
+-- the guests on the first part of a good book, with its count
+module _ {S : Settings} {b : List ℕ} (good : GoodBook S b) {k : ℕ} (e : k ≡ diaryLength S) {m : ℕ} {w : List ℕ} {n i : ℕ} {r : Answer}
+    {d : List ℕ} (adds : Adds S (take k b) m w n i r d) where
+  fits : k ≤ length b
+  fits = diary-fits b (good .laid) (good .read) e
+
+  -- what is written is as long as what was there, and can be lent again
+  diary-there : length d ≡ k
+  diary-there = as-long (part-good good k e) (adds .within .good) ∙ length-take-le k b fits
+
+  pub relent-fits : k ≤ length (d ++ drop k b)
+  relent-fits = omega (arith, length-append d (drop k b), diary-there)
+
+  lent-back : take k (d ++ drop k b) ≡ d
+  lent-back = take-at d (drop k b) k diary-there
+
+  pub relent-good : Good S (take k (d ++ drop k b))
+  relent-good = subst (Good S) (sym lent-back) (adds .within .good)
+
+  pub relent-long : k ≡ length (take k (d ++ drop k b))
+  relent-long = sym (ap length lent-back ∙ diary-there)
+
+  party-is : ofParty b m (guestsOf n w)
+      ≡ called (stepped (ledgerOf b .tail) (counted (ledgerOf b .diary) (ledgerOf b .changes) (record { answer = r; state = stateOf d })))
+  unfolding ledgerOf
+  party-is =
+      ap (λ (o : Outcome). called (stepped (ledgerOf b .tail) (counted (ledgerOf b .diary) (ledgerOf b .changes) o)))
+      (ap (λ (v : List ℕ). joined (stateOf v) m (guestsOf n w)) (first-part b (good .read) e) ∙ adds .outcome)
+
+  module _ {c : ℕ} (count : c ≡ ledgerOf b .changes) {q : Answer} (last : q ≡ lastAsked c r) where
+    last-is : lastAsked (ledgerOf b .changes) r ≡ q
+    last-is = ap (λ (n : ℕ). lastAsked n r) (sym count) ∙ sym last
+
+    -- refused: the guests who were added are taken back
+    pub none-joined : {j p : ℕ} → q ≡ Refused j p → {d′ : List ℕ} → TakenBack S m w i (take k (d ++ drop k b)) d′
+        → answered (Refused j p) (d′ ++ drop k (d ++ drop k b)) ≡ ofParty b m (guestsOf n w)
+    none-joined {j} {p} f {d′} back =
+        let was : d′ ≡ take k b
+        = back (take k b) (part-good good k e) (subst (λ (v : List ℕ). Within S (take k b) m w i v) (sym lent-back) (adds .within)) in
+        let whole : d′ ++ drop k (d ++ drop k b) ≡ b
+        = ap₂ (λ (u v : List ℕ). u ++ v) was (drop-at d (drop k b) k diary-there) ∙ take-append-drop k b in
+        ap (answered (Refused j p)) (whole ∙ sym (words-ledgerOf b (good .laid) (good .lawful)))
+        ∙ sym (party-is
+        ∙ ap (λ (o : Counted). called (stepped (ledgerOf b .tail) o))
+        (counted-none (ledgerOf b .diary) (ledgerOf b .changes) r (stateOf d) (last-is ∙ f)))
+
+    -- done: the diary with the guests, the tail as it was, and one change more
+    pub all-joined : {v : ℕ} → q ≡ Done v
+        → answered q (set (d ++ drop k b) (length (d ++ drop k b) - 1) (c + 1)) ≡ ofParty b m (guestsOf n w)
+    unfolding bookWords
+    all-joined {v} f =
+        let s = ledger-sound b (good .laid) (good .lawful) in
+        let g = adds .within .good in
+        let l : Ledger = record { diary = stateOf d; tail = ledgerOf b .tail; changes = ledgerOf b .changes } in
+        let sound : LedgerSound l = record { diary = book-sound d (g .laid) (g .lawful); tail = s .tail } in
+        let is : d ++ drop k b ≡ bookWords l
+        = ap₂ (λ (u v : List ℕ). u ++ v) (sym (good-diary g)) (sym (part-behind b (good .read) e) ∙ sym (behind-shown b (good .laid) (good .lawful))) in
+        let one : c + 1 ≡ suc (ledgerOf b .changes) = omega (arith, count) in
+        ap₂ answered f (ap₂ (λ (u : List ℕ) (n : ℕ). set u (length u - 1) n) is one ∙ recounted l sound (suc (ledgerOf b .changes)))
+        ∙ sym (party-is
+        ∙ ap (λ (o : Counted). called (stepped (ledgerOf b .tail) o))
+        (counted-all (ledgerOf b .diary) (ledgerOf b .changes) r (stateOf d) (last-is ∙ f)))
+
+-- questions 1 and 2, which come first
+pub not-good : (b : List ℕ) (m : ℕ) (gs : List Guest) {n p : ℕ} → check b ≡ Refused n p → answered (Refused n p) b ≡ callParty b m gs
+unfolding check callOn
+not-good b m gs {n} {p} e = go (wellLaid b) refl (lawful b) refl e
+  where
+    go : (o : Bool) → wellLaid b ≡ o → (t : Bool) → lawful b ≡ t → check b ≡ Refused n p → answered (Refused n p) b ≡ callParty b m gs
+    go true q true s e = done-refused (rw (q, s) at e)
+    go true q false s e = rw (q, s) (ap (λ (x : Answer). answered x b) (sym (rw (q, s) at e)))
+    go false q t s e = rw q (ap (λ (x : Answer). answered x b) (sym (rw q at e)))
 
 -- question 27, and the party behind it
 module _ {S : Settings} {b : List ℕ} (good : GoodBook S b) (m : ℕ) {n : ℕ} {w : List ℕ} (gs : List Guest) (lent : Lent n w gs) where
   pub unfit : (1 ≤ n → n ≤ 64 → ⊥) → answered (Refused 27 0) b ≡ callParty b m gs
+  unfolding countedParty raise
   unfit h =
       let f : partyFits gs ≡ false = never (partyFits gs) (λ t.
       let l = within-true 1 64 (length gs) t in h (omega (arith, lent .many, l .0)) (omega (arith, lent .many, l .1))) in
-      ap (answered (Refused 27 0)) (sym (good-words good))
+      ap (answered (Refused 27 0)) (sym (words-ledgerOf b (good .laid) (good .lawful)))
       ∙ sym (good-call good (party m gs)
-      ∙ ap (λ (o : Outcome). called (stepped (ledgerOf b .tail) o)) (admit-unfit (ledgerOf b .diary) m gs f))
+      ∙ ap (λ (o : Outcome). called (stepped (ledgerOf b .tail) (raise (ledgerOf b .diary) (ledgerOf b .changes) o (o .answer))))
+      (admit-unfit (ledgerOf b .diary) m gs f))
 
   pub fit : 1 ≤ n → (l : n ≤ 64) {r : Answer} {b′ : List ℕ} → answered r b′ ≡ ofParty b m (guestsOf n w) → answered r b′ ≡ callParty b m gs
-  unfolding admit
+  unfolding admit countedParty
   fit k l e =
       let f : partyFits gs ≡ true = true-within 1 64 (length gs) (omega (arith, lent .many, k)) (omega (arith, lent .many, l)) in
       e ∙ ap (ofParty b m) (lent .words l)

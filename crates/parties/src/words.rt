@@ -112,7 +112,8 @@ fn join(book: &mut [u32], s: Settings, meeting: u32, records: &[u32], n: usize) 
     let diary = diary_len(s);
     let changes = count(book);
     let added = add_guests(&mut book[..diary], s, meeting, records, n);
-    let answer = last_asked(added.answer, changes);
+    let guests_answer = added.answer;
+    let answer = last_asked(guests_answer, changes);
     if let Answer::Refused { number, place } = answer {
         take_back(&mut book[..diary], s, meeting, records, added.guests);
         return Answer::Refused { number, place };

@@ -1,43 +1,126 @@
--- `words::join`: all guests are added, or those who were are taken back.
+-- `words::join`: all guests are added and the count raised once, or those who were added are taken back.
 -- Assumes nothing.
+use mathlib.Core.Path.{sym, _∙_, ap}
+use native.Mathlib.Omega.{arith}
+use lib.Seq.{length-take-le}
 use borrow.Author.Needs.{needs}
-use Rattle.parties.proofs.Joining.{none-joined, all-joined}
+use Rattle.model.proofs.Ledger.{diary-fits, last-word}
+use Rattle.book.specs.Lent.{reading}
+use Rattle.book.specs.Good.{answered}
+use Rattle.book.proofs.Goods.{good-laid, good-part}
+use Rattle.step.proofs.Kept.{part-good, count-is, whole-long}
+use Rattle.parties.proofs.Joining.{relent-good, relent-long, relent-fits, last-open, none-joined, all-joined}
 use Rattle.parties.proofs.words.join.Statement.{statement}
 use Rattle.parties.proofs.words.join.Tie as tie
 
+diary-len-requires : tie.Need-diary-len-requires
+diary-len-requires c κs = good-laid (good-part (c .before .before .pre .0)) .ranges
+
+count-requires : tie.Need-count-requires
+count-requires c κs = last-word _ (c .before .before .before .before .pre .0 .laid)
+
+slice-relend-prefix-add-guests : tie.Need-slice-relend-prefix-add-guests
+slice-relend-prefix-add-guests c =
+    let g = c .before .before .before .before .before .pre .0 in
+    diary-fits _ (g .laid) (g .read) (c .before .before .diary-len .ensures)
+
+slice-aggregate-add-guests : tie.Need-slice-aggregate-add-guests
+slice-aggregate-add-guests c =
+    let g = c .before .before .before .before .before .before .pre .0 in
+    sym (length-take-le _ _ (diary-fits _ (g .laid) (g .read) (c .before .before .before .diary-len .ensures)))
+
 add-guests-requires : tie.Need-add-guests-requires
-add-guests-requires c κs = search needs
+unfolding reading
+add-guests-requires c κs =
+    let p = c .before .before .before .before .before .before .pre in
+    (part-good (p .0) _ (c .before .before .before .diary-len .ensures), p .1)
+
+last-asked-requires : tie.Need-last-asked-requires
+last-asked-requires c κs = search needs
 
 enum-known-answer : tie.Need-enum-known-answer
 enum-known-answer c = search needs
 
+slice-relend-prefix-take-back : tie.Need-slice-relend-prefix-take-back
+unfolding reading
+slice-relend-prefix-take-back c =
+    let a = c .before .before .before .before .before .before in
+    let len = a .before .before .before .before in
+    relent-fits (len .before .before .before .pre .0) (len .diary-len .ensures) (a .add-guests .ensures)
+
+slice-aggregate-take-back : tie.Need-slice-aggregate-take-back
+unfolding reading
+slice-aggregate-take-back c =
+    let a = c .before .before .before .before .before .before .before in
+    let len = a .before .before .before .before in
+    relent-long (len .before .before .before .pre .0) (len .diary-len .ensures) (a .add-guests .ensures)
+
 take-back-requires : tie.Need-take-back-requires
-take-back-requires c κs = search needs
+unfolding reading
+take-back-requires c κs =
+    let a = c .before .before .before .before .before .before .before in
+    let len = a .before .before .before .before in
+    let p = len .before .before .before .pre in
+    (relent-good (p .0) (len .diary-len .ensures) (a .add-guests .ensures), omega (arith, p .1, a .add-guests .ensures .few))
 
 same-length : tie.Need-same-length
 same-length c = search needs
 
 returns : tie.Need-returns
-returns c = none-joined (c .before .before .before .before .before .before .before .before .before .before .before .before .before .pre .0) (c .before .before .before .before .before .before .before .before .before .add-guests .ensures) (c .before .before .before .before .before .answer .given .1) (c .before .before .take-back .ensures)
+unfolding reading
+returns c =
+    let a = c .before .before .before .before .before .before .before .before .before .before in
+    let len = a .before .before .before .before in
+    let g = len .before .before .before .pre .0 in
+    none-joined g (len .diary-len .ensures) (a .add-guests .ensures) (a .before .before .count .ensures ∙ count-is g)
+    (c .before .before .before .before .before .before .before .last-asked .ensures) (c .before .before .before .before .before .answer .given .1) (c .before .before .take-back .ensures)
 
 enum-told : tie.Need-enum-told
 enum-told c = search needs
+
+raise-requires : tie.Need-raise-requires
+unfolding reading
+raise-requires c κs =
+    let a = c .before .before .before .before .before .before in
+    let len = a .before .before .before .before in
+    let s = len .before .before .before in
+    let g = s .pre .0 in
+    let fits = diary-fits _ (g .laid) (g .read) (len .diary-len .ensures) in (
+      omega (arith, last-word _ (g .laid), whole-long (s .args .book .now) (a .add-guests .last .0) _ fits (a .add-guests .kept .0)),
+      last-open (a .before .before .count .result) (a .add-guests .result .answer) (sym (c .before .before .before .last-asked .ensures) ∙ c .before .enum-told .given .1),
+    )
 
 same-length-2 : tie.Need-same-length-2
 same-length-2 c = search needs
 
 returns-2 : tie.Need-returns-2
-returns-2 c = all-joined (c .before .before .before .before .before .before .before .before .pre .0) (c .before .before .before .before .add-guests .ensures) (c .enum-told .given .1)
+unfolding reading
+returns-2 c =
+    let a = c .before .before .before .before .before .before .before .before .before in
+    let len = a .before .before .before .before in
+    let g = len .before .before .before .pre .0 in
+    let last = c .before .before .before .before .before .before .last-asked in
+    ap (answered (last .result)) (c .before .before .raise .ensures)
+    ∙ all-joined g (len .diary-len .ensures) (a .add-guests .ensures) (a .before .before .count .ensures ∙ count-is g) (last .ensures)
+    (c .before .before .before .before .enum-told .given .1)
 
 pub join-spec : {M : Type 1} → statement M
 join-spec =
     tie.close
     (tie.spec
+    diary-len-requires
+    count-requires
+    slice-relend-prefix-add-guests
+    slice-aggregate-add-guests
     add-guests-requires
+    last-asked-requires
     enum-known-answer
+    slice-relend-prefix-take-back
+    slice-aggregate-take-back
     take-back-requires
     same-length
     returns
     enum-told
+    raise-requires
     same-length-2
     returns-2)

@@ -1,23 +1,24 @@
 -- `words::take_back`: each turn takes the last guest back.
 -- Assumes nothing.
 use Prim.Native.Nat.{ℕ, _-_, _≤_}
-use mathlib.Core.Path.{sym, _∙_}
+use mathlib.Core.Path.{ap}
 use mathlib.Core.List.{List}
 use native.Mathlib.Omega.{arith}
 use borrow.Author.Needs.{needs}
-use Rattle.book.specs.Good.{GoodBook}
-use Rattle.book.proofs.Goods.{good-long}
+use Rattle.model.specs.declared.Request.{Request}
+use Rattle.book.specs.Good.{Good}
+use Rattle.book.specs.Lent.{reading}
 use Rattle.parties.specs.Guests.{Within}
-use Rattle.parties.proofs.Joining.{after, asked-as, taken-one, taken-all}
+use Rattle.parties.proofs.Joining.{after, as-long, asked-as, taken-one, taken-all}
 use Rattle.parties.proofs.words.take_back.Statement.{statement}
 use Rattle.parties.proofs.words.take_back.Tie as tie
 
 abbrev Inv-loop : tie.InvT-loop
-Inv-loop book₀ s meeting records n i₀ book i =
-    GoodBook s book × ((i ≤ n) × ((a : List ℕ) → GoodBook s a → Within s a meeting records n book₀ → Within s a meeting records i book))
+Inv-loop diary₀ s meeting records n i₀ diary i =
+    Good s (reading diary) × ((i ≤ n) × ((a : List ℕ) → Good s a → Within s a meeting records n (reading diary₀) → Within s a meeting records i (reading diary)))
 
 abbrev μ-loop : tie.MeasureT-loop
-μ-loop book₀ s meeting records n i₀ book i = i
+μ-loop diary₀ s meeting records n i₀ diary i = i
 
 loop-holds : tie.Need-loop-holds Inv-loop μ-loop
 loop-holds c = (c .before .before .pre .0, (omega arith, λ a g so. so))
@@ -28,8 +29,8 @@ sub-i c = search needs
 request-for-requires : tie.Need-request-for-requires Inv-loop μ-loop
 request-for-requires c κs = search needs
 
-answer-one-requires : tie.Need-answer-one-requires Inv-loop μ-loop
-answer-one-requires c κs = c .before .before .before .loop .inv .0
+erase-attend-requires : tie.Need-erase-attend-requires Inv-loop μ-loop
+erase-attend-requires c κs = (c .before .before .before .loop .inv .0, ap (λ (r : Request). r .kind) (c .before .request-for .ensures))
 
 loop-less : tie.Need-loop-less Inv-loop μ-loop
 loop-less c = search needs
@@ -38,13 +39,14 @@ loop-again : tie.Need-loop-again Inv-loop μ-loop
 loop-again c =
     let l = c .before .before .before .before .before .before .loop in
     let t = c .before .before .before .before .before .loop-test .taken in
-    let e = asked-as _ (c .before .before .before .before .request-for .ensures) (c .before .before .answer-one .ensures) in (
+    let e = asked-as _ (c .before .before .before .before .request-for .ensures) (c .before .before .erase-attend .ensures) in (
       after (l .inv .0) _ e .good,
       (omega (arith, l .inv .1 .0), λ a g so. taken-one _ _ (l .i - 1) (omega (arith, t)) (l .inv .1 .1 a g so) e),
     )
 
 same-length : tie.Need-same-length Inv-loop μ-loop
-same-length c = good-long (c .before .loop .inv .0) ∙ sym (good-long (c .before .before .before .before .pre .0))
+unfolding reading
+same-length c = as-long (c .before .before .before .before .pre .0) (c .before .loop .inv .0)
 
 returns : tie.Need-returns Inv-loop μ-loop
 returns c = λ a g so. taken-all g (omega (arith, c .loop-test .left)) (c .before .loop .inv .1 .1 a g so)
@@ -58,7 +60,7 @@ take-back-spec =
     loop-holds
     sub-i
     request-for-requires
-    answer-one-requires
+    erase-attend-requires
     loop-less
     loop-again
     same-length
