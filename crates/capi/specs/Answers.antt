@@ -4,6 +4,7 @@ use Prim.Native.Nat.{ℕ}
 use mathlib.Core.Path.{_≡_}
 use mathlib.Core.List.{List, [], _∷_}
 use Rattle.capi.specs.declared.AnswerWords.{AnswerWords}
+use Rattle.capi.specs.declared.ChargedWords.{ChargedWords}
 use Rattle.capi.specs.declared.RequestWords.{RequestWords}
 use Rattle.model.specs.declared.Request.{Request}
 use Rattle.model.specs.Messages.{answerWords, requestOf}
@@ -11,9 +12,12 @@ use Rattle.model.specs.Machine.{replyWords}
 use Rattle.model.specs.Calls.{Called, Listed}
 use Rattle.model.specs.Page.{Paged}
 
--- the three words of the struct, in the order of its fields
+-- the three words of the struct, in the order of its fields; of an answer, and of a charge
 abbrev pub wordsOf : AnswerWords → List ℕ
 wordsOf r = r .number ∷ r .place ∷ r .value ∷ []
+
+abbrev pub chargeOf : ChargedWords → List ℕ
+chargeOf r = r .number ∷ r .place ∷ r .value ∷ []
 
 -- the request that the seven words of the struct are
 abbrev pub requestBy : RequestWords → Request
