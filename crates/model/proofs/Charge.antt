@@ -14,22 +14,23 @@ use Rattle.model.specs.declared.Request.{Request}
 use Rattle.model.specs.declared.Tariff.{Tariff}
 use Rattle.model.specs.declared.Charged.{Charged}
 use Rattle.model.specs.declared.Charged.the-variants.{Cents, Refused}
-use Rattle.model.specs.Bounded.{within, isSome, sum, sumFrom, one, count, count2}
+use Rattle.model.specs.Bounded.{lowest, any, within, isSome, sum, sumFrom, one, count, count2, list}
 use Rattle.model.specs.Site.{allSessions, dateOfSession}
-use Rattle.model.specs.State.{State, emptyState, seatsOf, reserved}
+use Rattle.model.specs.State.{State, confs, emptyState, seatsOf, reserved}
 use Rattle.model.specs.Kinds.{Kind, kindOf}
 use Rattle.model.specs.Kinds.{Kind.addLeave, Kind.endLeave, Kind.removeVisitor, Kind.addHotel, Kind.eraseHotel, Kind.addRide, Kind.eraseRide}
 use Rattle.model.specs.Kinds.{Kind.addStanding, Kind.endStanding, Kind.addAttend, Kind.eraseAttend, Kind.addConf, Kind.eraseConf}
 use Rattle.model.specs.Kinds.{Kind.addLunch, Kind.eraseLunch, Kind.eraseConfAndLunch, Kind.whichMeeting, Kind.countLeave, Kind.seatsLeft}
 use Rattle.model.specs.Kinds.{Kind.freeRoom}
 use Rattle.model.specs.Questions.{bookings, standsOn, confHeld, lunchHeld, meetingOf, lowestFree, ask, test, judge, always, further, Refusal}
-use Rattle.model.specs.Machine.{step, steps, change, value, finish, stepKind, request, perform}
+use Rattle.model.specs.Machine.{slot, step, steps, change, value, finish, stepKind, request, perform}
 use Rattle.model.specs.Ledger.{Ledger, ledgerOf}
 use Rattle.model.specs.Laws.{wellLaid, lawful}
 use Rattle.model.specs.Calls.{callOn, call}
-use Rattle.model.specs.Charge.{roomSessions, seatsOn, lunchSeats, reduced, roomCharge, cost, tariffFits, charged, chargeFrom, charge}
-use Rattle.model.proofs.Search.{within-true}
-use Rattle.model.proofs.Sums.{sum-same, sum-agree, sum-add, sum-nothing, count2-add}
+use Rattle.model.specs.Charge.{roomSessions, seatsOn, lunchSeats, reduced, roomCharge, cost, tariffFits, chargeBy, charged, charge}
+use Rattle.model.proofs.Search.{never}
+use Rattle.model.proofs.Sums.{sum-same, sum-agree, sum-empty, sum-add, sum-nothing, count2-add}
+use Rattle.model.proofs.Laws.{Sound}
 use Rattle.model.proofs.Frame.{step-settings}
 use Rattle.model.proofs.Shows.{Shows, Passes, shows-passes, shown-is, passes-shows, passes-next}
 use Rattle.model.proofs.Locality.{onDate, local-change}
@@ -259,3 +260,254 @@ module _ (x : State) (first last : ℕ) where
       ∙ ap₂ _+_ (sum-times room (t .room) 0 n ∙ ap (λ (k : ℕ). k * t .room) rooms-of-all)
       (sum-times seat (t .seat) 0 n ∙ ap (λ (k : ℕ). k * t .seat) seats-of-all)
 
+-- Where a room has one meeting in a session, as in every lawful state, the conf entries of a session are its rooms in use.
+module _ (p : ℕ → Bool) (only : (u v : ℕ) → p u ≡ true → p v ≡ true → u ≡ v) where
+  count-one : (i n : ℕ) → sumFrom (λ j. one (p j)) i n ≡ one (isSome (lowest p i n))
+  count-one i zero = refl
+  count-one i (suc n) = go (p i) refl (count-one (suc i) n)
+    where
+      go : (t : Bool) → p i ≡ t → sumFrom (λ j. one (p j)) (suc i) n ≡ one (isSome (lowest p (suc i) n))
+          → one t + sumFrom (λ j. one (p j)) (suc i) n ≡ one (isSome (cond t (some i) (lowest p (suc i) n)))
+      go true e rest =
+          let z : sumFrom (λ j. one (p j)) (suc i) n ≡ 0
+          = sum-empty (λ j. one (p j)) (suc i) n (λ j l k. ap one (never (p j) (λ q. omega (arith, l, only i j e q)))) in
+          omega (arith, z)
+      go false e rest = omega (arith, rest)
+
+pub rooms-in-use : (x : State) → Sound x → (s : ℕ) → confEntries x s
+    ≡ count (λ c. any (λ m. isSome (x .conf s c m)) (x .settings .meetings)) (x .settings .rooms)
+unfolding confEntries
+rooms-in-use x sound s =
+    sum-same (λ c. count (λ m. isSome (x .conf s c m)) (x .settings .meetings)) (λ c. one (any (λ m. isSome (x .conf s c m)) (x .settings .meetings))) 0
+    (x .settings .rooms)
+    (λ c. count-one (λ m. isSome (x .conf s c m)) (λ u v e f. sound .oneB confs refl s c u v e f) 0 (x .settings .meetings))
+
+-- two states of one site agree on the rooms of meeting m and the seats of its lunches on the dates first..last
+pub record SameFor (x y : State) (m first last : ℕ) : Type 0 where
+  pub settings : x .settings ≡ y .settings
+  pub conf : (s c : ℕ) → within first last (dateOfSession (x .settings) s) ≡ true → isSome (x .conf s c m) ≡ isSome (y .conf s c m)
+  pub lunch : (d g : ℕ) → within first last d ≡ true → seatsOf (x .lunch d g m) ≡ seatsOf (y .lunch d g m)
+
+-- "A charge says nothing but which rooms the meeting holds on those dates, and how many seats its lunches have."
+module _ (x y : State) (m first last : ℕ) (h : SameFor x y m first last) where
+  same-rooms : roomSessions x m first last ≡ roomSessions y m first last
+  unfolding roomSessions
+  same-rooms =
+      let S = x .settings in
+      sum-same (λ s. count (λ c. within first last (dateOfSession S s) && isSome (x .conf s c m)) (S .rooms))
+      (λ s. count (λ c. within first last (dateOfSession S s) && isSome (y .conf s c m)) (S .rooms)) 0 (allSessions S)
+      (λ s. sum-same (λ c. one (within first last (dateOfSession S s) && isSome (x .conf s c m)))
+      (λ c. one (within first last (dateOfSession S s) && isSome (y .conf s c m))) 0 (S .rooms)
+      (λ c. ap one (under (within first last (dateOfSession S s)) (h .conf s c))))
+      ∙ ap (λ (T : Settings). count2 (λ s c. within first last (dateOfSession T s) && isSome (y .conf s c m)) (allSessions T) (T .rooms)) (h .settings)
+    where
+      under : {a b : Bool} (t : Bool) → (t ≡ true → a ≡ b) → t && a ≡ t && b
+      under true f = f refl
+      under false f = refl
+
+  same-seats : lunchSeats x m first last ≡ lunchSeats y m first last
+  unfolding lunchSeats seatsOn
+  same-seats =
+      let S = x .settings in
+      sum-same (λ d. cond (within first last d) (sum (λ g. seatsOf (x .lunch d g m)) (S .dining)) 0)
+      (λ d. cond (within first last d) (sum (λ g. seatsOf (y .lunch d g m)) (S .dining)) 0) 0 (S .dates)
+      (λ d. under (within first last d) (λ e. sum-same (λ g. seatsOf (x .lunch d g m)) (λ g. seatsOf (y .lunch d g m)) 0 (S .dining) (λ g. h .lunch d g e)))
+      ∙ ap (λ (T : Settings). sum (λ d. cond (within first last d) (sum (λ g. seatsOf (y .lunch d g m)) (T .dining)) 0) (T .dates)) (h .settings)
+    where
+      under : {a b : ℕ} (t : Bool) → (t ≡ true → a ≡ b) → cond t a 0 ≡ cond t b 0
+      under true f = f refl
+      under false f = refl
+
+  pub same-cost : (t : Tariff) → cost x m first last t ≡ cost y m first last t
+  unfolding cost
+  same-cost t = ap₂ (λ (n k : ℕ). roomCharge t n + k * t .seat) same-rooms same-seats
+
+  pub same-charged : (t : Tariff) → charged x m first last t ≡ charged y m first last t
+  unfolding charged
+  same-charged t =
+      ap₂ (λ (T : Settings) (c : ℕ). chargeBy (ltb m (T .meetings)) (leb first last && ltb last (T .dates)) (tariffFits t) c) (h .settings) (same-cost t)
+
+-- the kinds that change conf or lunch entries, 12 to 16, whose meeting is b: the request is one of them for meeting m
+abbrev charges : Option Kind → Bool
+charges none = false
+charges (some addLeave) = false
+charges (some endLeave) = false
+charges (some removeVisitor) = false
+charges (some addHotel) = false
+charges (some eraseHotel) = false
+charges (some addRide) = false
+charges (some eraseRide) = false
+charges (some addStanding) = false
+charges (some endStanding) = false
+charges (some addAttend) = false
+charges (some eraseAttend) = false
+charges (some addConf) = true
+charges (some eraseConf) = true
+charges (some addLunch) = true
+charges (some eraseLunch) = true
+charges (some eraseConfAndLunch) = true
+charges (some whichMeeting) = false
+charges (some countLeave) = false
+charges (some seatsLeft) = false
+charges (some freeRoom) = false
+
+unfoldable pub booksFor : Request → ℕ → Bool
+booksFor r m = charges (kindOf (r .kind)) && eqb m (r .b)
+
+-- by the numbers of the kinds
+pub kinds-that-book : (list (λ k. one (charges (kindOf k))) 22) ≡ 0 ∷ 0 ∷ 0 ∷ 0 ∷ 0 ∷ 0 ∷ 0 ∷ 0 ∷ 0 ∷ 0 ∷ 0 ∷ 0 ∷ 1 ∷ 1 ∷ 1 ∷ 1 ∷ 1 ∷ 0 ∷ 0 ∷ 0 ∷ 0 ∷ 0 ∷ []
+unfolding kindOf
+kinds-that-book = refl
+
+-- the entries of meeting m are the same
+record Kept (x y : State) (m : ℕ) : Type 0 where
+  pub conf : (s c : ℕ) → x .conf s c m ≡ y .conf s c m
+  pub lunch : (d g : ℕ) → x .lunch d g m ≡ y .lunch d g m
+
+same-sets : (x y : State) (m : ℕ) → x .conf ≡ y .conf → x .lunch ≡ y .lunch → Kept x y m
+same-sets x y m e f = record { conf = λ s c. ap (λ g. g s c m) e; lunch = λ d g. ap (λ h. h d g m) f }
+
+ends-no : (t u : Bool) → u ≡ false → t && u ≡ false
+ends-no true u e = e
+ends-no false u e = refl
+
+change-kept : (x : State) (r : Request) (m : ℕ) (k : Kind) → charges (some k) && eqb m (r .b) ≡ false → Kept (change x r k) x m
+unfolding change
+change-kept x r m addLeave e = same-sets _ x m refl refl
+change-kept x r m endLeave e = same-sets _ x m refl refl
+change-kept x r m removeVisitor e = same-sets _ x m refl refl
+change-kept x r m addHotel e = same-sets _ x m refl refl
+change-kept x r m eraseHotel e = same-sets _ x m refl refl
+change-kept x r m addRide e = same-sets _ x m refl refl
+change-kept x r m eraseRide e = same-sets _ x m refl refl
+change-kept x r m addStanding e = same-sets _ x m refl refl
+change-kept x r m endStanding e = same-sets _ x m refl refl
+change-kept x r m addAttend e = same-sets _ x m refl refl
+change-kept x r m eraseAttend e = same-sets _ x m refl refl
+change-kept x r m addConf e =
+    record {
+      conf = λ s c. ap (λ (t : Bool). cond t (some (r .info)) (x .conf s c m)) (ends-no (slot r s && eqb c (r .a)) (eqb m (r .b)) e);
+      lunch = λ d g. refl;
+    }
+change-kept x r m eraseConf e =
+    record { conf = λ s c. ap (λ (t : Bool). cond t none (x .conf s c m)) (ends-no (slot r s) (eqb m (r .b)) e); lunch = λ d g. refl }
+change-kept x r m addLunch e =
+    record {
+      conf = λ s c. refl;
+      lunch = λ d g.
+          ap (λ (t : Bool). cond t (some (record { seats = r .n; info = r .info })) (x .lunch d g m))
+          (ends-no (slot r d && eqb g (r .a)) (eqb m (r .b)) e);
+    }
+change-kept x r m eraseLunch e =
+    record {
+      conf = λ s c. refl;
+      lunch = λ d g. ap (λ (t : Bool). cond t none (x .lunch d g m)) (ends-no (slot r d && eqb g (r .a)) (eqb m (r .b)) e);
+    }
+change-kept x r m eraseConfAndLunch e =
+    record {
+      conf = λ s c. ap (λ (t : Bool). cond t none (x .conf s c m)) (ends-no (slot r s) (eqb m (r .b)) e);
+      lunch = λ d g.
+          ap (λ (t : Bool). cond t none (x .lunch d g m))
+          (ends-no (within (dateOfSession (x .settings) (r .first)) (dateOfSession (x .settings) (r .last)) d) (eqb m (r .b)) e);
+    }
+change-kept x r m whichMeeting e = same-sets _ x m refl refl
+change-kept x r m countLeave e = same-sets _ x m refl refl
+change-kept x r m seatsLeft e = same-sets _ x m refl refl
+change-kept x r m freeRoom e = same-sets _ x m refl refl
+
+step-kept : (x : State) (r : Request) (m : ℕ) → booksFor r m ≡ false → Kept (step x r .state) x m
+unfolding step booksFor
+step-kept x r m h = kind (kindOf (r .kind)) h
+  where
+    done : (k : Kind) (o : Option Refusal) → charges (some k) && eqb m (r .b) ≡ false → Kept (finish x r k o .state) x m
+    done k none e = change-kept x r m k e
+    done k (some f) e = same-sets x x m refl refl
+
+    kind : (o : Option Kind) → charges o && eqb m (r .b) ≡ false → Kept (stepKind x r o .state) x m
+    kind none e = same-sets x x m refl refl
+    kind (some k) e = done k (judge x r k (always ++ further k)) e
+
+-- "Requests of other meetings leave a meeting's charge as it is": every request, done or refused, but those of kinds 12 to 16 with b = m
+pub other-meeting : (x : State) (r : Request) (m first last : ℕ) → booksFor r m ≡ false → SameFor (step x r .state) x m first last
+other-meeting x r m first last h =
+    let k = step-kept x r m h in
+    record { settings = step-settings x r; conf = λ s c _. ap isSome (k .conf s c); lunch = λ d g _. ap seatsOf (k .lunch d g) }
+
+-- "So do requests of other dates": every request, done or refused, none of whose slots is on a date of first..last
+pub other-dates : (x : State) (r : Request) (m first last : ℕ) → ((d : ℕ) → within first last d ≡ true → onDate (x .settings) r d ≡ false)
+    → SameFor (step x r .state) x m first last
+other-dates x r m first last h =
+    let S = step-settings x r in
+    record {
+      settings = S;
+      conf = λ s c e.
+          let q = ap (λ (T : Settings). dateOfSession T s) (sym S) in
+          let w = ap (within first last) q ∙ e in
+          ap isSome (local-change x r (dateOfSession (x .settings) s) (h _ w) .conf s c m refl);
+      lunch = λ d g e. ap seatsOf (local-change x r d (h d e) .lunch g m);
+    }
+
+-- the charge from a book that shows a ledger
+shown-charge : (b : List ℕ) (l : Ledger) → Shows b l → (m first last : ℕ) (t : Tariff) → charge b m first last t ≡ charged (l .diary) m first last t
+unfolding charge
+shown-charge b l h m first last t = let q = shows-passes b l h in rw (q .one, q .two, shown-is b l h)
+
+-- "Two books that agree on what the meeting holds charge the same."
+pub same-charge : (b c : List ℕ) → Passes b → Passes c → (m first last : ℕ) → SameFor (ledgerOf b .diary) (ledgerOf c .diary) m first last → (t : Tariff)
+    → charge b m first last t ≡ charge c m first last t
+same-charge b c q r m first last h t =
+    shown-charge b (ledgerOf b) (passes-shows b q) m first last t
+    ∙ same-charged (ledgerOf b .diary) (ledgerOf c .diary) m first last h t
+    ∙ sym (shown-charge c (ledgerOf c) (passes-shows c r) m first last t)
+
+-- what a request leaves of a ledger's diary is what its step leaves
+after-request : (l : Ledger) (r : Request) (m first last : ℕ) → SameFor (step (l .diary) r .state) (l .diary) m first last
+    → SameFor (perform l (request r) .ledger .diary) (l .diary) m first last
+after-request l r m first last h = h
+
+-- a request that leaves what the meeting holds leaves its charge, on every list of words
+untouched : (b : List ℕ) (r : Request) (m first last : ℕ) → SameFor (step (ledgerOf b .diary) r .state) (ledgerOf b .diary) m first last → (t : Tariff)
+    → charge (call b r .book) m first last t ≡ charge b m first last t
+unfolding callOn
+untouched b r m first last h t = go (wellLaid b) refl (lawful b) refl
+  where
+    go : (o : Bool) → wellLaid b ≡ o → (u : Bool) → lawful b ≡ u → charge (call b r .book) m first last t ≡ charge b m first last t
+    go true e true f =
+        let q : Passes b = record { one = e; two = f } in
+        let l = perform (ledgerOf b) (request r) .ledger in
+        shown-charge (call b r .book) l (passes-next b q (request r)) m first last t
+        ∙ same-charged (l .diary) (ledgerOf b .diary) m first last (after-request (ledgerOf b) r m first last h) t
+        ∙ sym (shown-charge b (ledgerOf b) (passes-shows b q) m first last t)
+    go true e false f = ap (λ (c : List ℕ). charge c m first last t) (rw (e, f))
+    go false e u f = ap (λ (c : List ℕ). charge c m first last t) (rw e)
+
+-- and so on every list of words, one that questions 1 and 2 refuse included
+pub other-meeting-book : (b : List ℕ) (r : Request) (m first last : ℕ) → booksFor r m ≡ false → (t : Tariff)
+    → charge (call b r .book) m first last t ≡ charge b m first last t
+other-meeting-book b r m first last h t = untouched b r m first last (other-meeting (ledgerOf b .diary) r m first last h) t
+
+pub other-dates-book : (b : List ℕ) (r : Request) (m first last : ℕ)
+    → ((d : ℕ) → within first last d ≡ true → onDate (ledgerOf b .diary .settings) r d ≡ false) → (t : Tariff)
+    → charge (call b r .book) m first last t ≡ charge b m first last t
+other-dates-book b r m first last h t = untouched b r m first last (other-dates (ledgerOf b .diary) r m first last h) t
+
+-- what a book that passes charges, where questions 6, 7 and 31 say yes
+pub charge-is : (b : List ℕ) → Passes b → (m first last : ℕ) (t : Tariff) → m < ledgerOf b .diary .settings .meetings → first ≤ last
+    → last < ledgerOf b .diary .settings .dates → tariffFits t ≡ true → charge b m first last t ≡ Cents (cost (ledgerOf b .diary) m first last t)
+unfolding charged
+charge-is b q m first last t h k l f =
+    shown-charge b (ledgerOf b) (passes-shows b q) m first last t ∙ rw (lt-ltb m _ h, le-leb first last k, lt-ltb last _ l, f)
+
+-- the cents of a charge, 0 where it is refused
+abbrev pub centsOf : Charged → ℕ
+centsOf (Cents c) = c
+centsOf (Refused n p) = 0
+
+-- "With p = 0 the meetings' charges add up": of every book that passes, for dates of the site and a tariff within its limits
+pub charges-add-up-book : (b : List ℕ) → Passes b → (first last : ℕ) (t : Tariff) → first ≤ last → last < ledgerOf b .diary .settings .dates
+    → tariffFits t ≡ true → t .percent ≡ 0 → sum (λ m. centsOf (charge b m first last t)) (ledgerOf b .diary .settings .meetings)
+    ≡ allRoomSessions (ledgerOf b .diary) first last * t .room + allSeats (ledgerOf b .diary) first last * t .seat
+charges-add-up-book b q first last t k l f e =
+    sum-agree (λ m. centsOf (charge b m first last t)) (λ m. cost (ledgerOf b .diary) m first last t) 0 (ledgerOf b .diary .settings .meetings)
+    (λ m _ h. ap centsOf (charge-is b q m first last t (omega (arith, h)) k l f))
+    ∙ charges-add-up (ledgerOf b .diary) first last t e
