@@ -11,6 +11,10 @@ use lib.Dec.{leb, ltb, eqb}
 use borrow.Author.Tests.{le-leb, lt-leb, lt-ltb, leb-true, leb-false}
 use Rattle.model.specs.declared.Settings.{Settings}
 use Rattle.model.specs.declared.Request.{Request}
+use Rattle.model.specs.declared.Guest.{Guest}
+use Rattle.model.specs.declared.Answer.{Answer}
+use Rattle.model.specs.declared.Answer.the-variants.{Done}
+use Rattle.model.specs.declared.Answer.the-variants as answer
 use Rattle.model.specs.declared.Tariff.{Tariff}
 use Rattle.model.specs.declared.Charged.{Charged}
 use Rattle.model.specs.declared.Charged.the-variants.{Cents, Refused}
@@ -23,10 +27,12 @@ use Rattle.model.specs.Kinds.{Kind.addStanding, Kind.endStanding, Kind.a
 use Rattle.model.specs.Kinds.{Kind.addLunch, Kind.eraseLunch, Kind.eraseConfAndLunch, Kind.whichMeeting, Kind.countLeave, Kind.seatsLeft}
 use Rattle.model.specs.Kinds.{Kind.freeRoom}
 use Rattle.model.specs.Questions.{bookings, standsOn, confHeld, lunchHeld, meetingOf, lowestFree, ask, test, judge, always, further, Refusal}
-use Rattle.model.specs.Machine.{slot, step, steps, change, value, finish, stepKind, request, perform}
+use Rattle.model.specs.Machine.{slot, step, steps, change, value, finish, stepKind, Call, ordered, answerOrder, party, perform}
+use Rattle.model.specs.Machine.{joining, ifDone, joined, allOrNone, partyFits, admit}
+use Rattle.model.specs.Tail.{keptAt}
 use Rattle.model.specs.Ledger.{Ledger, ledgerOf}
 use Rattle.model.specs.Laws.{wellLaid, lawful}
-use Rattle.model.specs.Calls.{callOn, call}
+use Rattle.model.specs.Calls.{callOn, callOrder, callParty}
 use Rattle.model.specs.Charge.{roomSessions, seatsOn, lunchSeats, reduced, roomCharge, cost, tariffFits, chargeBy, charged, charge}
 use Rattle.model.proofs.Search.{never}
 use Rattle.model.proofs.Sums.{sum-same, sum-agree, sum-empty, sum-add, sum-nothing, count2-add}
@@ -427,6 +433,9 @@ step-kept x r m h = kind (kindOf (r .kind)) h
     kind none e = same-sets x x m refl refl
     kind (some k) e = done k (judge x r k (always ++ further k)) e
 
+same-all : (x : State) (m first last : ℕ) → SameFor x x m first last
+same-all x m first last = record { settings = refl; conf = λ s c e. refl; lunch = λ d g e. refl }
+
 -- "Requests of other meetings leave a meeting's charge as it is": every request, done or refused, but those of kinds 12 to 16 with b = m
 pub other-meeting : (x : State) (r : Request) (m first last : ℕ) → booksFor r m ≡ false → SameFor (step x r .state) x m first last
 other-meeting x r m first last h =
@@ -460,36 +469,86 @@ same-charge b c q r m first last h t =
     ∙ same-charged (ledgerOf b .diary) (ledgerOf c .diary) m first last h t
     ∙ sym (shown-charge c (ledgerOf c) (passes-shows c r) m first last t)
 
--- what a request leaves of a ledger's diary is what its step leaves
-after-request : (l : Ledger) (r : Request) (m first last : ℕ) → SameFor (step (l .diary) r .state) (l .diary) m first last
-    → SameFor (perform l (request r) .ledger .diary) (l .diary) m first last
-after-request l r m first last h = h
-
--- a request that leaves what the meeting holds leaves its charge, on every list of words
-untouched : (b : List ℕ) (r : Request) (m first last : ℕ) → SameFor (step (ledgerOf b .diary) r .state) (ledgerOf b .diary) m first last → (t : Tariff)
-    → charge (call b r .book) m first last t ≡ charge b m first last t
+-- a call that leaves what the meeting holds leaves its charge, on every list of words
+untouched : (b : List ℕ) (c : Call) (m first last : ℕ) → SameFor (perform (ledgerOf b) c .ledger .diary) (ledgerOf b .diary) m first last → (t : Tariff)
+    → charge (callOn b c .book) m first last t ≡ charge b m first last t
 unfolding callOn
-untouched b r m first last h t = go (wellLaid b) refl (lawful b) refl
+untouched b c m first last h t = go (wellLaid b) refl (lawful b) refl
   where
-    go : (o : Bool) → wellLaid b ≡ o → (u : Bool) → lawful b ≡ u → charge (call b r .book) m first last t ≡ charge b m first last t
+    go : (o : Bool) → wellLaid b ≡ o → (u : Bool) → lawful b ≡ u → charge (callOn b c .book) m first last t ≡ charge b m first last t
     go true e true f =
         let q : Passes b = record { one = e; two = f } in
-        let l = perform (ledgerOf b) (request r) .ledger in
-        shown-charge (call b r .book) l (passes-next b q (request r)) m first last t
-        ∙ same-charged (l .diary) (ledgerOf b .diary) m first last (after-request (ledgerOf b) r m first last h) t
+        let l = perform (ledgerOf b) c .ledger in
+        shown-charge (callOn b c .book) l (passes-next b q c) m first last t
+        ∙ same-charged (l .diary) (ledgerOf b .diary) m first last h t
         ∙ sym (shown-charge b (ledgerOf b) (passes-shows b q) m first last t)
-    go true e false f = ap (λ (c : List ℕ). charge c m first last t) (rw (e, f))
-    go false e u f = ap (λ (c : List ℕ). charge c m first last t) (rw e)
+    go true e false f = ap (λ (d : List ℕ). charge d m first last t) (rw (e, f))
+    go false e u f = ap (λ (d : List ℕ). charge d m first last t) (rw e)
 
--- and so on every list of words, one that questions 1 and 2 refuse included
-pub other-meeting-book : (b : List ℕ) (r : Request) (m first last : ℕ) → booksFor r m ≡ false → (t : Tariff)
-    → charge (call b r .book) m first last t ≡ charge b m first last t
-other-meeting-book b r m first last h t = untouched b r m first last (other-meeting (ledgerOf b .diary) r m first last h) t
+-- an order leaves of a diary what the step of its request leaves, or all of it where it is kept
+after-order : (l : Ledger) (n : ℕ) (r : Request) (m first last : ℕ) → SameFor (step (l .diary) r .state) (l .diary) m first last
+    → SameFor (perform l (ordered n r) .ledger .diary) (l .diary) m first last
+after-order l n r m first last h = go (keptAt (l .tail) n)
+  where
+    go : (o : Option ℕ) → SameFor (answerOrder l n r o .ledger .diary) (l .diary) m first last
+    go none = h
+    go (some i) = same-all (l .diary) m first last
 
-pub other-dates-book : (b : List ℕ) (r : Request) (m first last : ℕ)
+-- and so on every list of words, one that questions 1 and 2 refuse included, with the number of an order or with 0 for none
+pub other-meeting-book : (b : List ℕ) (n : ℕ) (r : Request) (m first last : ℕ) → booksFor r m ≡ false → (t : Tariff)
+    → charge (callOrder b n r .book) m first last t ≡ charge b m first last t
+other-meeting-book b n r m first last h t =
+    untouched b (ordered n r) m first last (after-order (ledgerOf b) n r m first last (other-meeting (ledgerOf b .diary) r m first last h)) t
+
+pub other-dates-book : (b : List ℕ) (n : ℕ) (r : Request) (m first last : ℕ)
     → ((d : ℕ) → within first last d ≡ true → onDate (ledgerOf b .diary .settings) r d ≡ false) → (t : Tariff)
-    → charge (call b r .book) m first last t ≡ charge b m first last t
-other-dates-book b r m first last h t = untouched b r m first last (other-dates (ledgerOf b .diary) r m first last h) t
+    → charge (callOrder b n r .book) m first last t ≡ charge b m first last t
+other-dates-book b n r m first last h t =
+    untouched b (ordered n r) m first last (after-order (ledgerOf b) n r m first last (other-dates (ledgerOf b .diary) r m first last h)) t
+
+-- "A party leaves every meeting's charge as it is": its guests attend, and hold no room and no lunch
+same-trans : (x y z : State) (m first last : ℕ) → SameFor x y m first last → SameFor y z m first last → SameFor x z m first last
+same-trans x y z m first last g h =
+    record {
+      settings = g .settings ∙ h .settings;
+      conf = λ s c e. g .conf s c e ∙ h .conf s c (ap (λ (T : Settings). within first last (dateOfSession T s)) (sym (g .settings)) ∙ e);
+      lunch = λ d k e. g .lunch d k e ∙ h .lunch d k e;
+    }
+
+joining-books : (p : ℕ) (g : Guest) (m : ℕ) → booksFor (joining p g) m ≡ false
+unfolding booksFor kindOf
+joining-books p g m = refl
+
+module _ (p m first last : ℕ) where
+  joined-same : (x : State) (gs : List Guest) → SameFor (joined x p gs .state) x m first last
+  unfolding joined
+  joined-same x [] = same-all x m first last
+  joined-same x (g ∷ gs) = go (joined-same (step x (joining p g) .state) gs) (step x (joining p g) .answer)
+    where
+      one-guest : SameFor (step x (joining p g) .state) x m first last
+      one-guest = other-meeting x (joining p g) m first last (joining-books p g m)
+
+      go : SameFor (joined (step x (joining p g) .state) p gs .state) (step x (joining p g) .state) m first last → (a : Answer)
+          → SameFor (ifDone a (joined (step x (joining p g) .state) p gs) (step x (joining p g)) .state) x m first last
+      go rest (Done v) = same-trans _ (step x (joining p g) .state) x m first last rest one-guest
+      go rest (answer.Refused n i) = one-guest
+
+  admit-same : (x : State) (gs : List Guest) → SameFor (admit x p gs .state) x m first last
+  unfolding admit
+  admit-same x gs = fits (partyFits gs)
+    where
+      all : (a : Answer) (y : State) → SameFor y x m first last
+          → SameFor (ifDone a (record { answer = a; state = y }) (record { answer = a; state = x }) .state) x m first last
+      all (Done v) y h = h
+      all (answer.Refused n i) y h = same-all x m first last
+
+      fits : (t : Bool) → SameFor (cond t (allOrNone x (joined x p gs)) (record { answer = answer.Refused 27 0; state = x }) .state) x m first last
+      fits true = all (joined x p gs .answer) (joined x p gs .state) (joined-same x gs)
+      fits false = same-all x m first last
+
+pub party-charge : (b : List ℕ) (p : ℕ) (gs : List Guest) (m first last : ℕ) (t : Tariff)
+    → charge (callParty b p gs .book) m first last t ≡ charge b m first last t
+party-charge b p gs m first last t = untouched b (party p gs) m first last (admit-same p m first last (ledgerOf b .diary) gs) t
 
 -- what a book that passes charges, where questions 6, 7 and 31 say yes
 pub charge-is : (b : List ℕ) → Passes b → (m first last : ℕ) (t : Tariff) → m < ledgerOf b .diary .settings .meetings → first ≤ last
