@@ -174,7 +174,8 @@ module _ (x : State) (m first k last : ℕ) (h : first ≤ suc k) (l : k ≤ las
   unfolding roomSessions
   rooms-parts =
       let S = x .settings in
-      count2-add (λ s c. within first k (dateOfSession S s) && isSome (x .conf s c m)) (λ s c. within (suc k) last (dateOfSession S s) && isSome (x .conf s c m))
+      count2-add (λ s c. within first k (dateOfSession S s) && isSome (x .conf s c m))
+      (λ s c. within (suc k) last (dateOfSession S s) && isSome (x .conf s c m))
       (λ s c. within first last (dateOfSession S s) && isSome (x .conf s c m)) (allSessions S) (S .rooms)
       (λ s c. one-and (within first last (dateOfSession S s)) (isSome (x .conf s c m))
       ∙ in-parts first k last h l (dateOfSession S s) (one (isSome (x .conf s c m)))
@@ -184,8 +185,8 @@ module _ (x : State) (m first k last : ℕ) (h : first ≤ suc k) (l : k ≤ las
   seats-parts : lunchSeats x m first last ≡ lunchSeats x m first k + lunchSeats x m (suc k) last
   unfolding lunchSeats
   seats-parts =
-      sum-same (λ d. cond (within first last d) (seatsOn x m d) 0) (λ d. cond (within first k d) (seatsOn x m d) 0 + cond (within (suc k) last d) (seatsOn x m d) 0)
-      0 (x .settings .dates) (λ d. in-parts first k last h l d (seatsOn x m d))
+      sum-same (λ d. cond (within first last d) (seatsOn x m d) 0)
+      (λ d. cond (within first k d) (seatsOn x m d) 0 + cond (within (suc k) last d) (seatsOn x m d) 0) 0 (x .settings .dates) (λ d. in-parts first k last h l d (seatsOn x m d))
       ∙ sum-add (λ d. cond (within first k d) (seatsOn x m d) 0) (λ d. cond (within (suc k) last d) (seatsOn x m d) 0) 0 (x .settings .dates)
 
   -- "With no reduction, a charge over dates is the sum of the charges over two parts of them."
@@ -237,7 +238,8 @@ module _ (x : State) (first last : ℕ) where
       sum-swap (λ m s. count (λ c. w s && isSome (x .conf s c m)) (S .rooms)) 0 (S .meetings) (allSessions S)
       ∙ sum-same (λ s. sum (λ m. count (λ c. w s && isSome (x .conf s c m)) (S .rooms)) (S .meetings))
       (λ s. cond (w s) (count2 (λ c m. isSome (x .conf s c m)) (S .rooms) (S .meetings)) 0) 0 (allSessions S)
-      (λ s. sum-same (λ m. count (λ c. w s && isSome (x .conf s c m)) (S .rooms)) (λ m. cond (w s) (count (λ c. isSome (x .conf s c m)) (S .rooms)) 0) 0 (S .meetings)
+      (λ s. sum-same (λ m. count (λ c. w s && isSome (x .conf s c m)) (S .rooms))
+      (λ m. cond (w s) (count (λ c. isSome (x .conf s c m)) (S .rooms)) 0) 0 (S .meetings)
       (λ m. sum-same (λ c. one (w s && isSome (x .conf s c m))) (λ c. cond (w s) (one (isSome (x .conf s c m))) 0) 0 (S .rooms)
       (λ c. one-and (w s) (isSome (x .conf s c m)))
       ∙ sum-chosen (w s) (λ c. one (isSome (x .conf s c m))) (S .rooms))
@@ -284,8 +286,8 @@ pub rooms-in-use : (x : State) → Sound x → (s : ℕ) → confEntries x s
     ≡ count (λ c. any (λ m. isSome (x .conf s c m)) (x .settings .meetings)) (x .settings .rooms)
 unfolding confEntries
 rooms-in-use x sound s =
-    sum-same (λ c. count (λ m. isSome (x .conf s c m)) (x .settings .meetings)) (λ c. one (any (λ m. isSome (x .conf s c m)) (x .settings .meetings))) 0
-    (x .settings .rooms)
+    sum-same (λ c. count (λ m. isSome (x .conf s c m)) (x .settings .meetings))
+    (λ c. one (any (λ m. isSome (x .conf s c m)) (x .settings .meetings))) 0 (x .settings .rooms)
     (λ c. count-one (λ m. isSome (x .conf s c m)) (λ u v e f. sound .oneB confs refl s c u v e f) 0 (x .settings .meetings))
 
 -- two states of one site agree on the rooms of meeting m and the seats of its lunches on the dates first..last
@@ -317,7 +319,8 @@ module _ (x y : State) (m first last : ℕ) (h : SameFor x y m first last) where
       let S = x .settings in
       sum-same (λ d. cond (within first last d) (sum (λ g. seatsOf (x .lunch d g m)) (S .dining)) 0)
       (λ d. cond (within first last d) (sum (λ g. seatsOf (y .lunch d g m)) (S .dining)) 0) 0 (S .dates)
-      (λ d. under (within first last d) (λ e. sum-same (λ g. seatsOf (x .lunch d g m)) (λ g. seatsOf (y .lunch d g m)) 0 (S .dining) (λ g. h .lunch d g e)))
+      (λ d. under (within first last d)
+      (λ e. sum-same (λ g. seatsOf (x .lunch d g m)) (λ g. seatsOf (y .lunch d g m)) 0 (S .dining) (λ g. h .lunch d g e)))
       ∙ ap (λ (T : Settings). sum (λ d. cond (within first last d) (sum (λ g. seatsOf (y .lunch d g m)) (T .dining)) 0) (T .dates)) (h .settings)
     where
       under : {a b : ℕ} (t : Bool) → (t ≡ true → a ≡ b) → cond t a 0 ≡ cond t b 0
@@ -361,7 +364,8 @@ unfoldable pub booksFor : Request → ℕ → Bool
 booksFor r m = charges (kindOf (r .kind)) && eqb m (r .b)
 
 -- by the numbers of the kinds
-pub kinds-that-book : (list (λ k. one (charges (kindOf k))) 22) ≡ 0 ∷ 0 ∷ 0 ∷ 0 ∷ 0 ∷ 0 ∷ 0 ∷ 0 ∷ 0 ∷ 0 ∷ 0 ∷ 0 ∷ 1 ∷ 1 ∷ 1 ∷ 1 ∷ 1 ∷ 0 ∷ 0 ∷ 0 ∷ 0 ∷ 0 ∷ []
+pub kinds-that-book : list (λ k. one (charges (kindOf k))) 22
+    ≡ 0 ∷ 0 ∷ 0 ∷ 0 ∷ 0 ∷ 0 ∷ 0 ∷ 0 ∷ 0 ∷ 0 ∷ 0 ∷ 0 ∷ 1 ∷ 1 ∷ 1 ∷ 1 ∷ 1 ∷ 0 ∷ 0 ∷ 0 ∷ 0 ∷ 0 ∷ []
 unfolding kindOf
 kinds-that-book = refl
 
@@ -570,3 +574,12 @@ charges-add-up-book b q first last t k l f e =
     sum-agree (λ m. centsOf (charge b m first last t)) (λ m. cost (ledgerOf b .diary) m first last t) 0 (ledgerOf b .diary .settings .meetings)
     (λ m _ h. ap centsOf (charge-is b q m first last t (omega (arith, h)) k l f))
     ∙ charges-add-up (ledgerOf b .diary) first last t e
+
+-- "and a charge over dates is the sum over two parts of them": the same, for a meeting of the site
+pub charge-parts-book : (b : List ℕ) → Passes b → (m first k last : ℕ) (t : Tariff) → m < ledgerOf b .diary .settings .meetings → first ≤ k → k < last
+    → last < ledgerOf b .diary .settings .dates → tariffFits t ≡ true → t .percent ≡ 0
+    → centsOf (charge b m first last t) ≡ centsOf (charge b m first k t) + centsOf (charge b m (suc k) last t)
+charge-parts-book b q m first k last t h i j l f e =
+    ap centsOf (charge-is b q m first last t h (omega arith) l f)
+    ∙ charge-parts (ledgerOf b .diary) m first k last (omega arith) (omega arith) t e
+    ∙ sym (ap₂ (λ (c d : Charged). centsOf c + centsOf d) (charge-is b q m first k t h i (omega arith) f) (charge-is b q m (suc k) last t h (omega arith) l f))
