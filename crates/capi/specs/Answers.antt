@@ -4,20 +4,17 @@ use Prim.Native.Nat.{ℕ}
 use mathlib.Core.Path.{_≡_}
 use mathlib.Core.List.{List, [], _∷_}
 use Rattle.capi.specs.declared.AnswerWords.{AnswerWords}
-use Rattle.capi.specs.declared.ChargedWords.{ChargedWords}
 use Rattle.capi.specs.declared.RequestWords.{RequestWords}
+use Rattle.capi.specs.declared.ChargedWords.{ChargedWords}
 use Rattle.model.specs.declared.Request.{Request}
 use Rattle.model.specs.Messages.{answerWords, requestOf}
 use Rattle.model.specs.Machine.{replyWords}
 use Rattle.model.specs.Calls.{Called, Listed}
 use Rattle.model.specs.Page.{Paged}
 
--- the three words of the struct, in the order of its fields; of an answer, and of a charge
+-- the three words of the struct, in the order of its fields
 abbrev pub wordsOf : AnswerWords → List ℕ
 wordsOf r = r .number ∷ r .place ∷ r .value ∷ []
-
-abbrev pub chargeOf : ChargedWords → List ℕ
-chargeOf r = r .number ∷ r .place ∷ r .value ∷ []
 
 -- the request that the seven words of the struct are
 abbrev pub requestBy : RequestWords → Request
@@ -38,3 +35,7 @@ pub record TellsList (l : Listed) (r : AnswerWords) (b a : List ℕ) : Type 0 wh
 pub record TellsPage (c : Paged) (r : AnswerWords) (p : List ℕ) : Type 0 where
   pub answer : wordsOf r ≡ answerWords (c .answer)
   pub page : p ≡ c .page
+
+-- the three words of a charge, in the order of the struct's fields
+abbrev pub chargeOf : ChargedWords → List ℕ
+chargeOf r = r .number ∷ r .place ∷ r .value ∷ []

@@ -20,7 +20,8 @@ ghost use Rattle.model.specs.Calls.{settingsGood};
 ghost use Rattle.model.specs.Page;
 ghost use Rattle.model.specs.Charge;
 ghost use Rattle.model.specs.Charge.{chargedWords};
-ghost use Rattle.capi.specs.Answers.{wordsOf, chargeOf, requestBy, Tells, TellsList, TellsPage};
+ghost use Rattle.capi.specs.Answers.{wordsOf, requestBy, Tells, TellsList, TellsPage};
+ghost use Rattle.capi.specs.Answers.{chargeOf};
 
 // An answer as three words: a number, which is 0 where the call is done, a place and a value.
 #[repr(C)]
