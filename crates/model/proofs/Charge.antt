@@ -490,25 +490,24 @@ untouched b c m first last h t = go (wellLaid b) refl (lawful b) refl
     go false e u f = ap (λ (d : List ℕ). charge d m first last t) (rw e)
 
 -- an order leaves of a diary what the step of its request leaves, or all of it where it is kept
-after-order : (l : Ledger) (n : ℕ) (r : Request) (m first last : ℕ) → SameFor (step (l .diary) r .state) (l .diary) m first last
-    → SameFor (perform l (ordered n r) .ledger .diary) (l .diary) m first last
-after-order l n r m first last h = go (keptAt (l .tail) n)
-  where
-    go : (o : Option ℕ) → SameFor (answerOrder l n r o .ledger .diary) (l .diary) m first last
-    go none = h
-    go (some i) = same-all (l .diary) m first last
+after-order : (l : Ledger) (n : ℕ) (r : Request) (m first last : ℕ) → SameFor (step (l .diary) r .state) (l .diary) m first last → (o : Option ℕ)
+    → SameFor (answerOrder l n r o .ledger .diary) (l .diary) m first last
+after-order l n r m first last h none = h
+after-order l n r m first last h (some i) = same-all (l .diary) m first last
 
 -- and so on every list of words, one that questions 1 and 2 refuse included, with the number of an order or with 0 for none
 pub other-meeting-book : (b : List ℕ) (n : ℕ) (r : Request) (m first last : ℕ) → booksFor r m ≡ false → (t : Tariff)
     → charge (callOrder b n r .book) m first last t ≡ charge b m first last t
 other-meeting-book b n r m first last h t =
-    untouched b (ordered n r) m first last (after-order (ledgerOf b) n r m first last (other-meeting (ledgerOf b .diary) r m first last h)) t
+    untouched b (ordered n r) m first last
+    (after-order (ledgerOf b) n r m first last (other-meeting (ledgerOf b .diary) r m first last h) (keptAt (ledgerOf b .tail) n)) t
 
 pub other-dates-book : (b : List ℕ) (n : ℕ) (r : Request) (m first last : ℕ)
     → ((d : ℕ) → within first last d ≡ true → onDate (ledgerOf b .diary .settings) r d ≡ false) → (t : Tariff)
     → charge (callOrder b n r .book) m first last t ≡ charge b m first last t
 other-dates-book b n r m first last h t =
-    untouched b (ordered n r) m first last (after-order (ledgerOf b) n r m first last (other-dates (ledgerOf b .diary) r m first last h)) t
+    untouched b (ordered n r) m first last
+    (after-order (ledgerOf b) n r m first last (other-dates (ledgerOf b .diary) r m first last h) (keptAt (ledgerOf b .tail) n)) t
 
 -- "A party leaves every meeting's charge as it is": its guests attend, and hold no room and no lunch
 same-trans : (x y z : State) (m first last : ℕ) → SameFor x y m first last → SameFor y z m first last → SameFor x z m first last
