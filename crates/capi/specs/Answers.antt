@@ -6,6 +6,7 @@ use mathlib.Core.List.{List, [], _∷_}
 use Rattle.capi.specs.declared.AnswerWords.{AnswerWords}
 use Rattle.capi.specs.declared.AskedWords.{AskedWords}
 use Rattle.capi.specs.declared.RequestWords.{RequestWords}
+use Rattle.capi.specs.declared.ChargedWords.{ChargedWords}
 use Rattle.model.specs.declared.Request.{Request}
 use Rattle.model.specs.Messages.{answerWords, requestOf}
 use Rattle.model.specs.Machine.{replyWords}
@@ -44,3 +45,7 @@ pub record TellsList (l : Listed) (r : AnswerWords) (b a : List ℕ) : Type 0 wh
 pub record TellsPage (c : Paged) (r : AnswerWords) (p : List ℕ) : Type 0 where
   pub answer : wordsOf r ≡ answerWords (c .answer)
   pub page : p ≡ c .page
+
+-- the three words of a charge, in the order of the struct's fields
+abbrev pub chargeOf : ChargedWords → List ℕ
+chargeOf r = r .number ∷ r .place ∷ r .value ∷ []

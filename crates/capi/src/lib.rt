@@ -5,11 +5,14 @@ use header::lay::lay;
 use header::settings::book_len;
 use model::Answer;
 use model::Asked;
+use model::Charged;
 use model::Guest;
 use model::Request;
+use model::Tariff;
 use parties::party;
 ghost use mathlib.Core.Path.{_≡_};
 ghost use mathlib.Core.Bool.{cond};
+ghost use mathlib.Core.List.{[], _∷_};
 ghost use Rattle.model.specs.Messages.{answerWords, requestLength, orderLength};
 ghost use Rattle.model.specs.Machine.{asked, replyWords};
 ghost use Rattle.model.specs.Reading.{settingsOf};
@@ -17,7 +20,9 @@ ghost use Rattle.model.specs.Ledger.{bookLength};
 ghost use Rattle.model.specs.Calls;
 ghost use Rattle.model.specs.Calls.{settingsGood};
 ghost use Rattle.model.specs.Page;
-ghost use Rattle.capi.specs.Answers.{wordsOf, askedWordsOf, requestBy, Tells, TellsAsked, TellsList, TellsPage};
+ghost use Rattle.model.specs.Charge;
+ghost use Rattle.model.specs.Charge.{chargedWords};
+ghost use Rattle.capi.specs.Answers.{wordsOf, askedWordsOf, chargeOf, requestBy, Tells, TellsAsked, TellsList, TellsPage};
 
 // An answer as three words: a number, which is 0 where the call is done, a place and a value.
 #[repr(C)]
@@ -223,4 +228,45 @@ pub extern "C" fn caviar_party(book: &mut [u32], meeting: u32, guests: &[Guest])
     ensures { λ r. ⌜ Tells (Calls.callParty (now (book .entry)) meeting (now (guests .entry))) r (now (book .exit)) ⌝ }
 {
     told(party(book, meeting, guests))
+}
+
+// What a meeting is charged: a number, which is 0 where the call is done, a place, and a value of 64 bits, the cents.
+#[repr(C)]
+pub struct ChargedWords {
+    pub number: u32,
+    pub place: u32,
+    pub value: u64,
+}
+
+fn charged_words(number: u32, place: u32, value: u64) -> ChargedWords
+    ensures { λ r. ⌜ chargeOf r ≡ number ∷ place ∷ value ∷ [] ⌝ }
+{
+    ChargedWords {
+        number,
+        place,
+        value,
+    }
+}
+
+fn told_cents(c: Charged) -> ChargedWords
+    ensures { λ r. ⌜ chargeOf r ≡ chargedWords c ⌝ }
+{
+    match c {
+        Charged::Cents(value) => charged_words(0, 0, value),
+        Charged::Refused { number, place } => charged_words(number, place, 0),
+    }
+}
+
+// What a meeting costs over the dates first..last by a tariff, from any words as a book.
+#[no_mangle]
+pub extern "C" fn caviar_charge(
+    book: &[u32],
+    meeting: u32,
+    first: u32,
+    last: u32,
+    tariff: Tariff,
+) -> ChargedWords
+    ensures { λ r. ⌜ chargeOf r ≡ chargedWords (Charge.charge (now (book .entry)) meeting first last tariff) ⌝ }
+{
+    told_cents(charges::charge(book, meeting, first, last, tariff))
 }
