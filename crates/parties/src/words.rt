@@ -122,8 +122,8 @@ fn join(book: &mut [u32], s: Settings, meeting: u32, records: &[u32], n: usize) 
     answer
 }
 
-// A party of n guests on any words as a book: questions 1, 2 and 27, then all the guests or none. The words of the guests are looked at
-// only where there are at most 64, for which the array has room.
+// A party of n guests on any words as a book: questions 1, 2 and 27, then all the guests, with 30 behind them, or none. The words of the
+// guests are looked at only where there are at most 64, for which the array has room.
 pub fn party_of(book: &mut [u32], meeting: u32, records: [u32; 192], n: usize) -> Answer
     ensures { λ a. ⌜ Parties (now (book .entry)) meeting n records a (now (book .exit)) ⌝ }
 {
