@@ -87,11 +87,12 @@ fn told(a: Answer) -> AnswerWords
 fn told_beside(a: Asked) -> AskedWords
     ensures { λ r. ⌜ askedWordsOf r ≡ replyWords (asked (a .answer) (a .count)) ⌝ }
 {
-    let answer = told(a.answer);
+    let answer = a.answer;
+    let words = told(answer);
     AskedWords {
-        number: answer.number,
-        place: answer.place,
-        value: answer.value,
+        number: words.number,
+        place: words.place,
+        value: words.value,
         count: a.count,
     }
 }

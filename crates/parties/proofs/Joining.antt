@@ -6,8 +6,9 @@ use mathlib.Core.Bool.{Bool, true, false, cond}
 use mathlib.Core.List.{List, _∷_, _++_}
 use native.Mathlib.Omega.{arith}
 use lib.Dec.{eqb}
-use lib.ListN.{length, set, take, drop, length-append, take-append-drop}
+use lib.ListN.{length, getD, set, take, drop, length-append, length-drop, take-append-drop}
 use lib.Seq.{length-take-le, take-at, drop-at}
+use borrow.Author.Tests.{eq-eqb, ne-eqb}
 use Rattle.model.specs.declared.Settings.{Settings}
 use Rattle.model.specs.declared.Request.{Request}
 use Rattle.model.specs.declared.Guest.{Guest}
@@ -26,7 +27,7 @@ use Rattle.model.proofs.Laws.{Sound}
 use Rattle.model.proofs.Sound.{book-sound}
 use Rattle.model.proofs.ReadBack.{stateOf-words}
 use Rattle.model.proofs.Search.{never, within-true, true-within}
-use Rattle.model.proofs.Ledger.{LedgerSound, words-ledgerOf, ledger-sound, first-part, part-behind, behind-shown, diary-fits, recounted}
+use Rattle.model.proofs.Ledger.{LedgerSound, words-ledgerOf, ledger-sound, first-part, part-behind, behind-shown, diary-fits, last-word, recounted}
 use Rattle.model.proofs.Calls.{step-sound}
 use Rattle.model.proofs.Frame.{step-settings}
 use Rattle.model.proofs.Done.{Accepted, refused-keeps}
@@ -34,7 +35,7 @@ use Rattle.model.proofs.Undo.{attend, undo-added}
 use Rattle.model.proofs.Party.{accepted-guest, added, joined-on, joined-off, admit-unfit}
 use Rattle.book.specs.Good.{Good, GoodBook, answered, inWords}
 use Rattle.book.proofs.Goods.{good-laid, good-state, good-words}
-use Rattle.step.proofs.Kept.{good-diary, good-call, part-good}
+use Rattle.step.proofs.Kept.{good-diary, good-call, part-good, count-is}
 use Rattle.parties.specs.Guests.{guestOf, guestsOf, guestRequest, Reaches, noneYet, oneMore, Within, Adds, TakenBack, lastAsked, ofParty, Lent}
 use Rattle.parties.proofs.Guests.{from, from-first, from-next}
 
@@ -165,14 +166,24 @@ taken-all {S} {a} {b} {m} {w} good f so = go (stateOf b) refl (rw f at (so .reac
     go : (z : State) → stateOf b ≡ z → Reaches (stateOf a) m w 0 z → b ≡ a
     go z shows noneYet = sym (good-diary (so .good)) ∙ ap words shows ∙ good-diary good
 
--- what is done behind question 30 found a count that can rise
-pub last-open : (n : ℕ) (r : Answer) {v : ℕ} → lastAsked n r ≡ Done v → eqb n mostChanges ≡ false
-last-open n (Done u) {v} e = go (eqb n mostChanges) e
+-- question 30 behind an answer: a refusal stays, and what is done is refused at the greatest count
+pub last-refused : (n : ℕ) {a : Answer} {k p : ℕ} → a ≡ Refused k p → Refused k p ≡ lastAsked n a
+last-refused n e = sym (ap (lastAsked n) e)
+
+pub last-full : {n : ℕ} {a : Answer} {v : ℕ} → a ≡ Done v → n ≡ mostChanges → Refused 30 0 ≡ lastAsked n a
+last-full {n} {a} {v} e f = sym (ap (lastAsked n) e ∙ rw (eq-eqb n mostChanges f))
+
+pub last-done : {n : ℕ} {a : Answer} {v : ℕ} → a ≡ Done v → (n ≡ mostChanges → ⊥) → a ≡ lastAsked n a
+last-done {n} {a} {v} e f = e ∙ sym (ap (lastAsked n) e ∙ rw (ne-eqb n mostChanges f))
+
+-- what is done behind it found a count that can rise
+pub last-open : (n : ℕ) (r : Answer) {q : Answer} {v : ℕ} → q ≡ lastAsked n r → q ≡ Done v → eqb n mostChanges ≡ false
+last-open n (Done u) {q} {v} l e = go (eqb n mostChanges) (sym l ∙ e)
   where
     go : (t : Bool) → cond t (Refused 30 0) (Done u) ≡ Done v → t ≡ false
     go true e = refused-done e
     go false e = refl
-last-open n (Refused k p) e = refused-done e
+last-open n (Refused k p) l e = refused-done (sym l ∙ e)
 
 -- What all the guests, or none, make of a diary x at the count n, by what they give one by one: with the answer r, question 30 behind it
 -- says whether they are refused or done.
@@ -217,6 +228,9 @@ module _ {S : Settings} {b : List ℕ} (good : GoodBook S b) {k : ℕ} (e : k �
   pub relent-fits : k ≤ length (d ++ drop k b)
   relent-fits = omega (arith, length-append d (drop k b), diary-there)
 
+  pub word-there : 0 < length (d ++ drop k b)
+  word-there = omega (arith, length-append d (drop k b), length-drop k b, diary-there, fits, last-word b (good .laid))
+
   lent-back : take k (d ++ drop k b) ≡ d
   lent-back = take-at d (drop k b) k diary-there
 
@@ -233,7 +247,10 @@ module _ {S : Settings} {b : List ℕ} (good : GoodBook S b) {k : ℕ} (e : k �
       ap (λ (o : Outcome). called (stepped (ledgerOf b .tail) (counted (ledgerOf b .diary) (ledgerOf b .changes) o)))
       (ap (λ (v : List ℕ). joined (stateOf v) m (guestsOf n w)) (first-part b (good .read) e) ∙ adds .outcome)
 
-  module _ {c : ℕ} (count : c ≡ ledgerOf b .changes) {q : Answer} (last : q ≡ lastAsked c r) where
+  module _ {c : ℕ} (counts : c ≡ getD b (length b - 1) 0) {q : Answer} (last : q ≡ lastAsked c r) where
+    count : c ≡ ledgerOf b .changes
+    count = counts ∙ count-is good
+
     last-is : lastAsked (ledgerOf b .changes) r ≡ q
     last-is = ap (λ (n : ℕ). lastAsked n r) (sym count) ∙ sym last
 

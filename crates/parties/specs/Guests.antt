@@ -71,10 +71,11 @@ abbrev pub lastAsked : ℕ → Answer → Answer
 lastAsked n (Done v) = cond (eqb n mostChanges) (Refused 30 0) (Done v)
 lastAsked n (Refused k p) = Refused k p
 
--- what the guests, all or none, make of the book a, with the count
+-- all the guests on a diary, or none
 abbrev pub allIn : State → ℕ → List Guest → Outcome
 allIn x m gs = allOrNone x (joined x m gs)
 
+-- what they make of the book a, with question 30 behind them and the change count
 abbrev pub ofParty : List ℕ → ℕ → List Guest → Called
 ofParty a m gs =
     let o = allIn (ledgerOf a .diary) m gs in

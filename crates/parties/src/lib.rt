@@ -35,8 +35,9 @@ fn take_apart(guests: &[Guest]) -> [u32; 192]
     words
 }
 
-// A party on any words as a book: questions 1, 2 and 27, then the guests in the order of the list, each as kind 10 adds them. Done, all are
-// added; refused, with the number and place of the first refusal, every word of the book is as it was.
+// A party on any words as a book: questions 1, 2 and 27, then the guests in the order of the list, each as kind 10 adds them, and 30 behind
+// them. Done, all are added, and the change count is one more; refused, with the number and place of the first refusal, every word of the
+// book is as it was.
 pub fn party(book: &mut [u32], meeting: u32, guests: &[Guest]) -> Answer
     ensures { λ a. ⌜ answered a (now (book .exit)) ≡ callParty (now (book .entry)) meeting (now (guests .entry)) ⌝ }
 {

@@ -88,10 +88,10 @@ fn take_back(diary: &mut [u32], s: Settings, meeting: u32, records: &[u32], n: u
 }
 
 // Question 30, behind all the guests: a party that is done is refused where the count cannot rise.
-fn last_asked(answer: Answer, changes: u32) -> Answer
-    ensures { λ a. ⌜ a ≡ lastAsked changes answer ⌝ }
+fn last_asked(given: Answer, changes: u32) -> Answer
+    ensures { λ a. ⌜ a ≡ lastAsked changes given ⌝ }
 {
-    if let Answer::Refused { number, place } = answer {
+    if let Answer::Refused { number, place } = given {
         return Answer::Refused { number, place };
     }
     if changes == MOST_CHANGES {
@@ -100,7 +100,7 @@ fn last_asked(answer: Answer, changes: u32) -> Answer
             place: 0,
         };
     }
-    answer
+    given
 }
 
 // All n guests and one change more, or none.
@@ -112,8 +112,8 @@ fn join(book: &mut [u32], s: Settings, meeting: u32, records: &[u32], n: usize) 
     let diary = diary_len(s);
     let changes = count(book);
     let added = add_guests(&mut book[..diary], s, meeting, records, n);
-    let guests_answer = added.answer;
-    let answer = last_asked(guests_answer, changes);
+    let given = added.answer;
+    let answer = last_asked(given, changes);
     if let Answer::Refused { number, place } = answer {
         take_back(&mut book[..diary], s, meeting, records, added.guests);
         return Answer::Refused { number, place };
@@ -122,8 +122,8 @@ fn join(book: &mut [u32], s: Settings, meeting: u32, records: &[u32], n: usize) 
     answer
 }
 
-// A party of n guests on any words as a book: questions 1, 2 and 27, then all the guests or none. The words of the guests are looked at
-// only where there are at most 64, for which the array has room.
+// A party of n guests on any words as a book: questions 1, 2 and 27, then all the guests, with 30 behind them, or none. The words of the
+// guests are looked at only where there are at most 64, for which the array has room.
 pub fn party_of(book: &mut [u32], meeting: u32, records: [u32; 192], n: usize) -> Answer
     ensures { λ a. ⌜ Parties (now (book .entry)) meeting n records a (now (book .exit)) ⌝ }
 {

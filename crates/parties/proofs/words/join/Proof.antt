@@ -8,10 +8,15 @@ use Rattle.model.proofs.Ledger.{diary-fits, last-word}
 use Rattle.book.specs.Lent.{reading}
 use Rattle.book.specs.Good.{answered}
 use Rattle.book.proofs.Goods.{good-laid, good-part}
-use Rattle.step.proofs.Kept.{part-good, count-is, whole-long}
-use Rattle.parties.proofs.Joining.{relent-good, relent-long, relent-fits, last-open, none-joined, all-joined}
+use Rattle.step.proofs.Kept.{part-good}
+use Rattle.parties.proofs.Joining.{relent-good, relent-long, last-open, word-there, relent-fits, none-joined, all-joined}
 use Rattle.parties.proofs.words.join.Statement.{statement}
 use Rattle.parties.proofs.words.join.Tie as tie
+
+-- the count is raised only where it can rise, whatever the way to it
+raise-requires : tie.Need-raise-requires
+unfolding reading
+raise-requires c κs = (search word-there, search last-open)
 
 diary-len-requires : tie.Need-diary-len-requires
 diary-len-requires c κs = good-laid (good-part (c .before .before .pre .0)) .ranges
@@ -43,25 +48,17 @@ enum-known-answer c = search needs
 
 slice-relend-prefix-take-back : tie.Need-slice-relend-prefix-take-back
 unfolding reading
-slice-relend-prefix-take-back c =
-    let a = c .before .before .before .before .before .before in
-    let len = a .before .before .before .before in
-    relent-fits (len .before .before .before .pre .0) (len .diary-len .ensures) (a .add-guests .ensures)
+slice-relend-prefix-take-back c = search relent-fits
 
 slice-aggregate-take-back : tie.Need-slice-aggregate-take-back
 unfolding reading
-slice-aggregate-take-back c =
-    let a = c .before .before .before .before .before .before .before in
-    let len = a .before .before .before .before in
-    relent-long (len .before .before .before .pre .0) (len .diary-len .ensures) (a .add-guests .ensures)
+slice-aggregate-take-back c = search relent-long
 
 take-back-requires : tie.Need-take-back-requires
 unfolding reading
 take-back-requires c κs =
     let a = c .before .before .before .before .before .before .before in
-    let len = a .before .before .before .before in
-    let p = len .before .before .before .pre in
-    (relent-good (p .0) (len .diary-len .ensures) (a .add-guests .ensures), omega (arith, p .1, a .add-guests .ensures .few))
+    (search relent-good, omega (arith, a .before .before .before .before .before .before .before .pre .1, a .add-guests .ensures .few))
 
 same-length : tie.Need-same-length
 same-length c = search needs
@@ -71,24 +68,11 @@ unfolding reading
 returns c =
     let a = c .before .before .before .before .before .before .before .before .before .before in
     let len = a .before .before .before .before in
-    let g = len .before .before .before .pre .0 in
-    none-joined g (len .diary-len .ensures) (a .add-guests .ensures) (a .before .before .count .ensures ∙ count-is g)
+    none-joined (len .before .before .before .pre .0) (len .diary-len .ensures) (a .add-guests .ensures) (a .before .before .count .ensures)
     (c .before .before .before .before .before .before .before .last-asked .ensures) (c .before .before .before .before .before .answer .given .1) (c .before .before .take-back .ensures)
 
 enum-told : tie.Need-enum-told
 enum-told c = search needs
-
-raise-requires : tie.Need-raise-requires
-unfolding reading
-raise-requires c κs =
-    let a = c .before .before .before .before .before .before in
-    let len = a .before .before .before .before in
-    let s = len .before .before .before in
-    let g = s .pre .0 in
-    let fits = diary-fits _ (g .laid) (g .read) (len .diary-len .ensures) in (
-      omega (arith, last-word _ (g .laid), whole-long (s .args .book .now) (a .add-guests .last .0) _ fits (a .add-guests .kept .0)),
-      last-open (a .before .before .count .result) (a .add-guests .result .answer) (sym (c .before .before .before .last-asked .ensures) ∙ c .before .enum-told .given .1),
-    )
 
 same-length-2 : tie.Need-same-length-2
 same-length-2 c = search needs
@@ -96,13 +80,8 @@ same-length-2 c = search needs
 returns-2 : tie.Need-returns-2
 unfolding reading
 returns-2 c =
-    let a = c .before .before .before .before .before .before .before .before .before in
-    let len = a .before .before .before .before in
-    let g = len .before .before .before .pre .0 in
-    let last = c .before .before .before .before .before .before .last-asked in
-    ap (answered (last .result)) (c .before .before .raise .ensures)
-    ∙ all-joined g (len .diary-len .ensures) (a .add-guests .ensures) (a .before .before .count .ensures ∙ count-is g) (last .ensures)
-    (c .before .before .before .before .enum-told .given .1)
+    ap (answered (c .before .before .before .before .before .before .last-asked .result)) (c .before .before .raise .ensures)
+    ∙ search all-joined
 
 pub join-spec : {M : Type 1} → statement M
 join-spec =
