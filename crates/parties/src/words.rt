@@ -1,6 +1,8 @@
 // A party whose guests come as words, three a guest: each is added by kind 10's own function, and where one is refused those before are
 // taken back by kind 11's, the last one first. So a refusal leaves every word as it was, and no copy of the book is kept. Both work on the
 // diary: the change count is raised once, when all the guests are in.
+use crate::guest::add_attend;
+use crate::guest::erase_attend;
 use header::settings::diary_len;
 use header::settings::settings;
 use model::Answer;
@@ -9,8 +11,6 @@ use model::Settings;
 use ring::changes::MOST_CHANGES;
 use ring::changes::count;
 use ring::changes::raise;
-use step::meetings::add_attend;
-use step::meetings::erase_attend;
 ghost use mathlib.Core.Path.{_≡_};
 ghost use Prim.Native.Nat.{_*_, _+_, _≤_};
 ghost use lib.ListN.{length, drop};
