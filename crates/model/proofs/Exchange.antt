@@ -6,29 +6,38 @@ use mathlib.Core.Path.{_≡_, refl, sym, _∙_, ap, ap₂, subst}
 use mathlib.Core.Logic.{_⊎_, inl, inr}
 use mathlib.Core.Bool.{Bool, true, false, not, _&&_, _||_, cond, false≢true}
 use mathlib.Core.Option.{Option, none, some}
-use mathlib.Core.List.{List, [], _∷_, _++_}
+use mathlib.Core.List.{List, [], _∷_, _++_, map, map-append}
 use native.Mathlib.Nat.{add-div-right, div-zero, eq-zero-or-pos}
 use native.Mathlib.Omega.{arith}
 use lib.Dec.{leb, ltb, eqb}
-use lib.ListN.{length}
+use lib.ListN.{length, getD}
 use borrow.Author.Tests.{leb-true, leb-false}
 use Rattle.model.specs.declared.Settings.{Settings}
 use Rattle.model.specs.declared.Request.{Request}
 use Rattle.model.specs.declared.Answer.{Answer}
 use Rattle.model.specs.declared.Answer.the-variants.{Refused}
-use Rattle.model.specs.State.{State}
+use Rattle.model.specs.Site.{validSettings}
+use Rattle.model.specs.State.{State, emptyState}
 use Rattle.model.specs.Kinds.{Kind, Unit, dates, sessions, times, kindOf, row, limit, slotsOf, dateOf}
 use Rattle.model.specs.Questions.{Refusal, below, ask, judge, always, further, test}
-use Rattle.model.specs.Machine.{slot, finish, stepKind, step, Counted, isChange, countedStep, Call, request, told, perform, Run, run}
-use Rattle.model.specs.Ledger.{Ledger}
-use Rattle.model.specs.Exchange.{NoDateShared}
+use Rattle.model.specs.Machine.{finish, stepKind, step, Counted, mostChanges, isChange, countedStep, Call, request, Reply, told, perform, Run, run}
+use Rattle.model.specs.Ledger.{Ledger, emptyLedger, bookWords, ledgerOf}
+use Rattle.model.specs.Calls.{Called, refusing, call, Calls, calls, freshBook, shownBy}
+use Rattle.model.specs.Seen.{lastWord}
+use Rattle.model.specs.Exchange.{NoDateShared, PastSeven}
 use Rattle.model.proofs.Search.{within-true, true-within}
 use Rattle.model.proofs.Keeps.{said-in, judged, slots-fit}
 use Rattle.model.proofs.Done.{judge-some, judge-same}
-use Rattle.model.proofs.Counting.{counted-refused}
+use Rattle.model.proofs.Counting.{answerTo, counted-refused}
 use Rattle.model.proofs.Local.{div-mono}
-use Rattle.model.proofs.Locality.{datesOf, onDate, Apart}
-use Rattle.model.proofs.Effect.{OneLeft, Swaps, swaps, only-asked, counted-settings}
+use Rattle.model.proofs.Locality.{datesOf, onDate, Apart, Exchanged}
+use Rattle.model.proofs.Effect.{OneLeft, Swaps, swaps, only-asked, below-most, counted-settings}
+use Rattle.model.proofs.Calls.{run-sound}
+use Rattle.model.proofs.Shows.{Shows, Passes, passes-shows, shown-call, shown-calls, fresh-shows}
+use Rattle.model.proofs.Raised.{last-changes}
+use Rattle.model.proofs.OnBooks.{LastChange}
+use Rattle.model.proofs.Before.{run-settings}
+use Rattle.model.proofs.Seen.{Unfit, fit-or-not}
 
 -- ---- the dates of the slots
 
@@ -200,3 +209,172 @@ pub as-many-replies : (l : Ledger) (cs : List Call) → length (run l cs .replie
 unfolding run
 as-many-replies l [] = refl
 as-many-replies l (c ∷ cs) = ap suc (as-many-replies (perform l c .ledger) cs)
+
+-- the ledger with the diary and the count that a request leaves; without an order it leaves the tail
+abbrev left : Ledger → Counted → Ledger
+left l o = record { diary = o .state; tail = l .tail; changes = o .changes }
+
+-- the two right at the beginning
+exchange-first : (l : Ledger) (ds : List Call) (r r′ : Request) → Swaps (l .diary) (l .changes) r r′
+    → Exchanged [] (perform l (request r) .reply) (perform l (request r′) .reply) (run l (request r ∷ request r′ ∷ ds) .replies)
+    (run l (request r′ ∷ request r ∷ ds) .replies)
+    × (run l (request r ∷ request r′ ∷ ds) .ledger ≡ run l (request r′ ∷ request r ∷ ds) .ledger)
+unfolding run
+exchange-first l ds r r′ s =
+    let x : State = l .diary in
+    let n : ℕ = l .changes in
+    let o : Counted = countedStep x n r in
+    let o′ : Counted = countedStep x n r′ in
+    let one : Counted = countedStep (o .state) (o .changes) r′ in
+    let other : Counted = countedStep (o′ .state) (o′ .changes) r in
+    let same : left l one ≡ left l other
+    = ap₂ (λ (z : State) (k : ℕ). record { diary = z; tail = l .tail; changes = k }) (s .state) (s .changes) in (
+      record {
+        later = run (left l one) ds .replies;
+        first = ap (λ (a : Answer). told (o .answer) ∷ told a ∷ run (left l one) ds .replies) (s .second);
+        second =
+            ap (λ (a : Answer). told (o′ .answer) ∷ told a ∷ run (left l other) ds .replies) (s .first)
+            ∙ ap (λ (m : Ledger). told (o′ .answer) ∷ told (o .answer) ∷ run m ds .replies) (sym same);
+      },
+      ap (λ (m : Ledger). run m ds .ledger) same,
+    )
+
+-- "Reception works on today, catering on next month, and order does not matter": anywhere in a list of calls of every sort, from any
+-- ledger, two neighbouring requests without orders whose slots share no date can be exchanged. In the one list stand the replies to cs,
+-- the answer to r, the answer to r′, and those to ds; in the other the same replies to cs, the same answer to r′, the same answer to r, and
+-- the same replies to ds. Each of the two answers is the one that its request has right after cs. The ledger is the same. Of all kinds,
+-- unknown ones too, and whatever questions 3 to 7 say; but not where the ledger after cs can count one change more and both would be done.
+pub exchange-run : (l : Ledger) (cs ds : List Call) (r r′ : Request) → NoDateShared (l .diary .settings) r r′
+    → (OneLeft (run l cs .ledger .diary) (run l cs .ledger .changes) r r′ → ⊥)
+    → Exchanged (run l cs .replies) (perform (run l cs .ledger) (request r) .reply) (perform (run l cs .ledger) (request r′) .reply)
+    (run l (cs ++ request r ∷ request r′ ∷ ds) .replies) (run l (cs ++ request r′ ∷ request r ∷ ds) .replies)
+    × (run l (cs ++ request r ∷ request r′ ∷ ds) .ledger ≡ run l (cs ++ request r′ ∷ request r ∷ ds) .ledger)
+exchange-run l cs ds r r′ h spare =
+    let m : Ledger = run l cs .ledger in
+    let e = exchange-first m ds r r′
+    (slots-swap (m .diary) (m .changes) r r′ (subst (λ (S : Settings). NoDateShared S r r′) (sym (run-settings l cs)) h) spare) in
+    let one = run-append l cs (request r ∷ request r′ ∷ ds) in
+    let other = run-append l cs (request r′ ∷ request r ∷ ds) in (
+      record {
+        later = e .0 .later;
+        first = ap (λ (u : Run). u .replies) one ∙ ap (λ (k : List Reply). run l cs .replies ++ k) (e .0 .first);
+        second = ap (λ (u : Run). u .replies) other ∙ ap (λ (k : List Reply). run l cs .replies ++ k) (e .0 .second);
+      },
+      ap (λ (u : Run). u .ledger) one ∙ e .1 ∙ sym (ap (λ (u : Run). u .ledger) other),
+    )
+
+-- a count that can rise by two is none at which only one change more is counted
+pub room-for-two : (x : State) (n : ℕ) (r r′ : Request) → n ≤ 4294967293 → OneLeft x n r r′ → ⊥
+room-for-two x n r r′ h o = omega (arith, h, o .left)
+
+-- ---- books
+
+-- of two lists of calls on a book, which differ in the order of two requests behind cs: the replies, as `Exchanged` says, and the book
+pub record ExchangedOn (b : List ℕ) (cs : List Call) (r r′ : Request) (one other : Calls) : Type 0 where
+  pub replies : Exchanged (calls b cs .replies) (call (calls b cs .book) r .reply) (call (calls b cs .book) r′ .reply) (one .replies) (other .replies)
+  pub book : one .book ≡ other .book
+
+exchange-shown : (b : List ℕ) (l : Ledger) → Shows b l → (cs ds : List Call) (r r′ : Request) → NoDateShared (l .diary .settings) r r′
+    → (LastChange (calls b cs .book) r r′ → ⊥)
+    → ExchangedOn b cs r r′ (calls b (cs ++ request r ∷ request r′ ∷ ds)) (calls b (cs ++ request r′ ∷ request r ∷ ds))
+exchange-shown b l h cs ds r r′ apart spare =
+    let m : Ledger = run l cs .ledger in
+    let after : Shows (calls b cs .book) m
+    = record { sound = run-sound l (h .sound) cs; is = ap (λ (c : Calls). c .book) (shown-calls b l h cs) } in
+    let told-of : (q : Request) → call (calls b cs .book) q .reply ≡ told (answerTo m q)
+    = λ q. ap (λ (c : Called). c .reply) (shown-call (calls b cs .book) m after (request q)) in
+    let count : lastWord (calls b cs .book) ≡ m .changes = ap lastWord (after .is) ∙ last-changes m in
+    let last : OneLeft (m .diary) (m .changes) r r′ → LastChange (calls b cs .book) r r′
+    = λ o. let room : m .changes ≡ mostChanges → ⊥ = λ z. omega (arith, z, o .left) in
+    record {
+      count = count ∙ omega (arith, o .left);
+      one = o .one;
+      other = o .other;
+      first = (o .first .0, told-of r ∙ ap told (below-most (m .diary) (m .changes) r room ∙ o .first .1));
+      second = (o .second .0, told-of r′ ∙ ap told (below-most (m .diary) (m .changes) r′ room ∙ o .second .1));
+    } in
+    let e = exchange-run l cs ds r r′ apart (λ o. spare (last o)) in
+    let shown : (k : List Call) → calls b k ≡ shownBy (run l k) = shown-calls b l h in
+    record {
+      replies =
+          rw (ap (λ (c : Calls). c .replies) (shown cs), told-of r, told-of r′,
+          ap (λ (c : Calls). c .replies) (shown (cs ++ request r ∷ request r′ ∷ ds)),
+          ap (λ (c : Calls). c .replies) (shown (cs ++ request r′ ∷ request r ∷ ds))) (e .0);
+      book =
+          ap (λ (c : Calls). c .book) (shown (cs ++ request r ∷ request r′ ∷ ds)) ∙ ap bookWords (e .1)
+          ∙ sym (ap (λ (c : Calls). c .book) (shown (cs ++ request r′ ∷ request r ∷ ds)));
+    }
+
+-- a list of calls on a book that questions 1 and 2 refuse: each is refused, and the book stays
+unfit-calls : (b : List ℕ) (u : Unfit b) (cs : List Call)
+    → calls b cs ≡ record { replies = map (λ c. refusing c (Refused (u .number) 0)) cs; book = b }
+unfolding calls
+unfit-calls b u [] = refl
+unfit-calls b u (c ∷ cs) =
+    ap (λ (k : Called). record { replies = k .reply ∷ calls (k .book) cs .replies; book = calls (k .book) cs .book }) (u .refused c)
+    ∙ ap (λ (k : Calls). record { replies = refusing c (Refused (u .number) 0) ∷ k .replies; book = k .book }) (unfit-calls b u cs)
+
+exchange-unfit : (b : List ℕ) → Unfit b → (cs ds : List Call) (r r′ : Request)
+    → ExchangedOn b cs r r′ (calls b (cs ++ request r ∷ request r′ ∷ ds)) (calls b (cs ++ request r′ ∷ request r ∷ ds))
+exchange-unfit b u cs ds r r′ =
+    let f : Call → Reply = λ c. refusing c (Refused (u .number) 0) in
+    let all : (k : List Call) → calls b k ≡ record { replies = map f k; book = b } = unfit-calls b u in
+    let stays : calls b cs .book ≡ b = ap (λ (c : Calls). c .book) (all cs) in
+    let told-of : (q : Request) → call (calls b cs .book) q .reply ≡ told (Refused (u .number) 0)
+    = λ q. ap (λ (w : List ℕ). call w q .reply) stays ∙ ap (λ (c : Called). c .reply) (u .refused (request q)) in
+    let a = all (cs ++ request r ∷ request r′ ∷ ds) in
+    let b′ = all (cs ++ request r′ ∷ request r ∷ ds) in
+    record {
+      replies =
+          rw (ap (λ (c : Calls). c .replies) (all cs), told-of r, told-of r′) (record {
+            later = map f ds;
+            first = ap (λ (c : Calls). c .replies) a ∙ map-append f cs (request r ∷ request r′ ∷ ds);
+            second = ap (λ (c : Calls). c .replies) b′ ∙ map-append f cs (request r′ ∷ request r ∷ ds);
+          });
+      book = ap (λ (c : Calls). c .book) a ∙ sym (ap (λ (c : Calls). c .book) b′);
+    }
+
+-- the theorem on every list of words: those that questions 1 and 2 refuse answer every call with that refusal
+pub exchange-words : (b : List ℕ) (cs ds : List Call) (r r′ : Request) → NoDateShared (ledgerOf b .diary .settings) r r′
+    → (LastChange (calls b cs .book) r r′ → ⊥)
+    → ExchangedOn b cs r r′ (calls b (cs ++ request r ∷ request r′ ∷ ds)) (calls b (cs ++ request r′ ∷ request r ∷ ds))
+exchange-words b cs ds r r′ apart spare = go (fit-or-not b)
+  where
+    go : Passes b ⊎ Unfit b → ExchangedOn b cs r r′ (calls b (cs ++ request r ∷ request r′ ∷ ds)) (calls b (cs ++ request r′ ∷ request r ∷ ds))
+    go (inl q) = exchange-shown b (ledgerOf b) (passes-shows b q) cs ds r r′ apart spare
+    go (inr u) = exchange-unfit b u cs ds r r′
+
+-- and from a fresh book on
+pub exchange-fresh : (S : Settings) → validSettings S ≡ true → (cs ds : List Call) (r r′ : Request) → NoDateShared S r r′
+    → (LastChange (calls (freshBook S) cs .book) r r′ → ⊥)
+    → ExchangedOn (freshBook S) cs r r′ (calls (freshBook S) (cs ++ request r ∷ request r′ ∷ ds)) (calls (freshBook S) (cs ++ request r′ ∷ request r ∷ ds))
+unfolding emptyLedger emptyState
+exchange-fresh S e cs ds r r′ apart spare = exchange-shown (freshBook S) (emptyLedger S) (fresh-shows S e) cs ds r r′ apart spare
+
+-- "For two neighbouring requests of kinds 1 to 16 without order numbers that pass questions 3 to 7, whose slots share no date, either order
+-- gives each the same answer and leaves the same book, if the change count can still rise by two. This holds anywhere in a list from a
+-- fresh book." The kinds and questions 3 to 7 are not needed, as `exchange-fresh` says, and of the count only that it is not the last but
+-- one while both are done.
+pub two-dates : (S : Settings) → validSettings S ≡ true → (cs ds : List Call) (r r′ : Request) → isChange r ≡ true → isChange r′ ≡ true
+    → PastSeven (emptyState S) r → PastSeven (emptyState S) r′ → NoDateShared S r r′ → lastWord (calls (freshBook S) cs .book) ≤ 4294967293
+    → ExchangedOn (freshBook S) cs r r′ (calls (freshBook S) (cs ++ request r ∷ request r′ ∷ ds)) (calls (freshBook S) (cs ++ request r′ ∷ request r ∷ ds))
+two-dates S e cs ds r r′ c c′ p p′ apart room = exchange-fresh S e cs ds r r′ apart (λ o. omega (arith, room, o .count))
+
+-- ---- two calls
+
+-- what two calls on a list of words tell and leave, made in either order
+pub record EitherOrder (b : List ℕ) (r r′ : Request) : Type 0 where
+  pub first : call (call b r′ .book) r .reply ≡ call b r .reply
+  pub second : call (call b r .book) r′ .reply ≡ call b r′ .reply
+  pub book : call (call b r .book) r′ .book ≡ call (call b r′ .book) r .book
+
+-- two books of the same words, and the two requests called in either order: each is told the same, and the words are the same
+pub exchange-call : (b : List ℕ) (r r′ : Request) → NoDateShared (ledgerOf b .diary .settings) r r′ → (LastChange b r r′ → ⊥) → EitherOrder b r r′
+unfolding calls
+exchange-call b r r′ apart spare =
+    let e = exchange-words b [] [] r r′ apart spare in
+    record {
+      first = ap (λ (l : List Reply). getD l 1 (call b r .reply)) (e .replies .second);
+      second = ap (λ (l : List Reply). getD l 1 (call b r .reply)) (e .replies .first);
+      book = e .book;
+    }
