@@ -180,7 +180,7 @@ turned-swaps x n r r′ h =
 
 -- ---- two neighbours
 
-no-date-sym : (S : Settings) (r r′ : Request) → NoDateShared S r r′ → NoDateShared S r′ r
+pub no-date-sym : (S : Settings) (r r′ : Request) → NoDateShared S r r′ → NoDateShared S r′ r
 no-date-sym S r r′ h k k′ q q′ i i′ s s′ e = h k′ k q′ q i′ i s′ s (sym e)
 
 -- Two requests whose slots share no date, of whatever kinds and whatever their answers; but not where both are done as changes and the
