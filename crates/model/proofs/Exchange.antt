@@ -306,7 +306,7 @@ exchange-shown b l h cs ds r r′ apart spare =
     }
 
 -- a list of calls on a book that questions 1 and 2 refuse: each is refused, and the book stays
-unfit-calls : (b : List ℕ) (u : Unfit b) (cs : List Call)
+pub unfit-calls : (b : List ℕ) (u : Unfit b) (cs : List Call)
     → calls b cs ≡ record { replies = map (λ c. refusing c (Refused (u .number) 0)) cs; book = b }
 unfolding calls
 unfit-calls b u [] = refl

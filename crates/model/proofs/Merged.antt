@@ -12,14 +12,22 @@ use lib.ListN.{length}
 use Rattle.model.specs.declared.Settings.{Settings}
 use Rattle.model.specs.declared.Request.{Request}
 use Rattle.model.specs.declared.Answer.{Answer}
-use Rattle.model.specs.State.{State}
-use Rattle.model.specs.Machine.{Counted, mostChanges, countedStep}
-use Rattle.model.specs.Seen.{nth}
+use Rattle.model.specs.declared.Answer.the-variants.{Refused}
+use Rattle.model.specs.Site.{validSettings}
+use Rattle.model.specs.State.{State, emptyState}
+use Rattle.model.specs.Machine.{Counted, mostChanges, countedStep, Call, request, Reply, told, Run, run}
+use Rattle.model.specs.Ledger.{Ledger, emptyLedger, bookWords, ledgerOf}
+use Rattle.model.specs.Calls.{refusing, Calls, calls, freshBook, shownBy}
+use Rattle.model.specs.Seen.{lastWord, nth}
 use Rattle.model.specs.Exchange.{NoDateShared, NoDatesShared, merge}
 use Rattle.model.proofs.Effect.{counted-settings}
-use Rattle.model.proofs.Runs.{CountedSteps, countedSteps}
-use Rattle.model.proofs.Seen.{request-later}
-use Rattle.model.proofs.Exchange.{slots-swap, no-date-sym}
+use Rattle.model.proofs.Calls.{run-sound}
+use Rattle.model.proofs.Shows.{Shows, Passes, passes-shows, shown-calls, fresh-shows}
+use Rattle.model.proofs.Raised.{last-changes}
+use Rattle.model.proofs.Before.{run-settings}
+use Rattle.model.proofs.Runs.{CountedSteps, countedSteps, sent, stepsRun, run-sent}
+use Rattle.model.proofs.Seen.{request-later, Unfit, fit-or-not}
+use Rattle.model.proofs.Exchange.{slots-swap, no-date-sym, run-append, unfit-calls}
 
 -- ---- one request and a list
 
@@ -115,3 +123,141 @@ merged x n (false ∷ w) rs (r ∷ rs′) h room =
       state = rest .state ∙ ap (λ (u : CountedSteps). u .state) same;
       changes = rest .changes ∙ ap (λ (u : CountedSteps). u .changes) same;
     }
+
+-- ---- lists of calls
+
+merge-map : {A B : Type 0} (f : A → B) (w : List Bool) (l m : List A) → map f (merge w l m) ≡ merge w (map f l) (map f m)
+merge-map f [] l m = map-append f l m
+merge-map f (true ∷ w) [] m = refl
+merge-map {B = B} f (true ∷ w) (a ∷ l) m = ap (λ (k : List B). f a ∷ k) (merge-map f w l m)
+merge-map f (false ∷ w) l [] = refl
+merge-map {B = B} f (false ∷ w) l (a ∷ m) = ap (λ (k : List B). f a ∷ k) (merge-map f w l m)
+
+merge-here : (l : Ledger) (w : List Bool) (rs rs′ : List Request) → NoDatesShared (l .diary .settings) rs rs′
+    → l .changes + length rs + length rs′ ≤ mostChanges
+    → (run l (sent (merge w rs rs′)) .replies ≡ merge w (run l (sent rs) .replies) (run l (sent rs′) .replies))
+    × (run l (sent (merge w rs rs′)) .ledger ≡ run (run l (sent rs) .ledger) (sent rs′) .ledger)
+merge-here l w rs rs′ h room =
+    let x : State = l .diary in
+    let n : ℕ = l .changes in
+    let m = merged x n w rs rs′ h room in
+    let all : (ks : List Request) → run l (sent ks) ≡ stepsRun (l .tail) (countedSteps x n ks) = run-sent l in
+    let replied : (ks : List Request) → map told (countedSteps x n ks .answers) ≡ run l (sent ks) .replies
+    = λ ks. sym (ap (λ (u : Run). u .replies) (all ks)) in
+    let after : run l (sent rs) .ledger ≡ stepsRun (l .tail) (countedSteps x n rs) .ledger = ap (λ (u : Run). u .ledger) (all rs) in (
+      ap (λ (u : Run). u .replies) (all (merge w rs rs′)) ∙ ap (map told) (m .answers)
+      ∙ merge-map told w (countedSteps x n rs .answers) (countedSteps x n rs′ .answers)
+      ∙ ap₂ (λ (a b : List Reply). merge w a b) (replied rs) (replied rs′),
+      ap (λ (u : Run). u .ledger) (all (merge w rs rs′))
+      ∙ ap₂ (λ (z : State) (k : ℕ). record { diary = z; tail = l .tail; changes = k }) (m .state) (m .changes)
+      ∙ sym (ap (λ (k : Ledger). run k (sent rs′) .ledger) after
+      ∙ ap (λ (u : Run). u .ledger) (run-sent (stepsRun (l .tail) (countedSteps x n rs) .ledger) rs′)),
+    )
+
+-- Two lists of requests without orders, of which no request of the one shares a date with one of the other, merged by whatever choices,
+-- between calls of every sort: the replies are those to cs; those that the one list has alone right after cs and those that the other has
+-- alone there, merged by the same choices; and those to ds. The ledger, and what is replied to ds, is as if the one list had come before
+-- the other, whatever the choices. At a count that can rise by as many as there are requests.
+pub record MergedIn (l : Ledger) (cs ds : List Call) (w : List Bool) (rs rs′ : List Request) : Type 0 where
+  pub replies : run l (cs ++ (sent (merge w rs rs′) ++ ds)) .replies
+      ≡ run l cs .replies
+      ++ (merge w (run (run l cs .ledger) (sent rs) .replies) (run (run l cs .ledger) (sent rs′) .replies)
+      ++ run (run l (cs ++ (sent rs ++ sent rs′)) .ledger) ds .replies)
+  pub ledger : run l (cs ++ (sent (merge w rs rs′) ++ ds)) .ledger ≡ run l (cs ++ (sent rs ++ (sent rs′ ++ ds))) .ledger
+
+pub merge-run : (l : Ledger) (cs ds : List Call) (w : List Bool) (rs rs′ : List Request) → NoDatesShared (l .diary .settings) rs rs′
+    → run l cs .ledger .changes + length rs + length rs′ ≤ mostChanges → MergedIn l cs ds w rs rs′
+merge-run l cs ds w rs rs′ h room =
+    let m : Ledger = run l cs .ledger in
+    let e = merge-here m w rs rs′
+    (λ i j r r′ p q. subst (λ (S : Settings). NoDateShared S r r′) (sym (run-settings l cs)) (h i j r r′ p q)) room in
+    let k : Ledger = run (run m (sent rs) .ledger) (sent rs′) .ledger in
+    let both : run l (cs ++ (sent rs ++ sent rs′)) .ledger ≡ k
+    = ap (λ (u : Run). u .ledger) (run-append l cs (sent rs ++ sent rs′)) ∙ ap (λ (u : Run). u .ledger) (run-append m (sent rs) (sent rs′)) in
+    let middle : run m (sent (merge w rs rs′) ++ ds)
+    ≡ record {
+      replies = merge w (run m (sent rs) .replies) (run m (sent rs′) .replies) ++ run k ds .replies;
+      ledger = run k ds .ledger;
+    }
+    = run-append m (sent (merge w rs rs′)) ds
+    ∙ ap₂ (λ (a : List Reply) (z : Ledger). record { replies = a ++ run z ds .replies; ledger = run z ds .ledger }) (e .0) (e .1) in
+    let all = run-append l cs (sent (merge w rs rs′) ++ ds) in
+    record {
+      replies =
+          ap (λ (u : Run). u .replies) all ∙ ap (λ (u : Run). run l cs .replies ++ u .replies) middle
+          ∙ ap (λ (z : Ledger). run l cs .replies
+          ++ (merge w (run m (sent rs) .replies) (run m (sent rs′) .replies) ++ run z ds .replies)) (sym both);
+      ledger =
+          ap (λ (u : Run). u .ledger) all ∙ ap (λ (u : Run). u .ledger) middle
+          ∙ sym (ap (λ (u : Run). u .ledger) (run-append l cs (sent rs ++ (sent rs′ ++ ds)))
+          ∙ ap (λ (u : Run). u .ledger) (run-append m (sent rs) (sent rs′ ++ ds))
+          ∙ ap (λ (u : Run). u .ledger) (run-append (run m (sent rs) .ledger) (sent rs′) ds));
+    }
+
+-- ---- books
+
+-- the same of calls on a list of words
+pub record MergedOn (b : List ℕ) (cs ds : List Call) (w : List Bool) (rs rs′ : List Request) : Type 0 where
+  pub replies : calls b (cs ++ (sent (merge w rs rs′) ++ ds)) .replies
+      ≡ calls b cs .replies
+      ++ (merge w (calls (calls b cs .book) (sent rs) .replies) (calls (calls b cs .book) (sent rs′) .replies)
+      ++ calls (calls b (cs ++ (sent rs ++ sent rs′)) .book) ds .replies)
+  pub book : calls b (cs ++ (sent (merge w rs rs′) ++ ds)) .book ≡ calls b (cs ++ (sent rs ++ (sent rs′ ++ ds))) .book
+
+merge-shown : (b : List ℕ) (l : Ledger) → Shows b l → (cs ds : List Call) (w : List Bool) (rs rs′ : List Request)
+    → NoDatesShared (l .diary .settings) rs rs′ → lastWord (calls b cs .book) + length rs + length rs′ ≤ mostChanges → MergedOn b cs ds w rs rs′
+merge-shown b l h cs ds w rs rs′ apart room =
+    let shown : (k : List Call) → calls b k ≡ shownBy (run l k) = shown-calls b l h in
+    let after : (k : List Call) → Shows (calls b k .book) (run l k .ledger)
+    = λ k. record { sound = run-sound l (h .sound) k; is = ap (λ (c : Calls). c .book) (shown k) } in
+    let count : lastWord (calls b cs .book) ≡ run l cs .ledger .changes = ap lastWord (after cs .is) ∙ last-changes (run l cs .ledger) in
+    let e = merge-run l cs ds w rs rs′ apart (omega (arith, room, count)) in
+    let behind : (k ks : List Call) → calls (calls b k .book) ks .replies ≡ run (run l k .ledger) ks .replies
+    = λ k ks. ap (λ (c : Calls). c .replies) (shown-calls (calls b k .book) (run l k .ledger) (after k) ks) in
+    record {
+      replies =
+          rw (ap (λ (c : Calls). c .replies) (shown cs), ap (λ (c : Calls). c .replies) (shown (cs ++ (sent (merge w rs rs′) ++ ds))),
+          behind cs (sent rs), behind cs (sent rs′), behind (cs ++ (sent rs ++ sent rs′)) ds) (e .replies);
+      book =
+          ap (λ (c : Calls). c .book) (shown (cs ++ (sent (merge w rs rs′) ++ ds))) ∙ ap bookWords (e .ledger)
+          ∙ sym (ap (λ (c : Calls). c .book) (shown (cs ++ (sent rs ++ (sent rs′ ++ ds)))));
+    }
+
+merge-unfit : (b : List ℕ) → Unfit b → (cs ds : List Call) (w : List Bool) (rs rs′ : List Request) → MergedOn b cs ds w rs rs′
+merge-unfit b u cs ds w rs rs′ =
+    let f : Call → Reply = λ c. refusing c (Refused (u .number) 0) in
+    let all : (k : List Call) → calls b k ≡ record { replies = map f k; book = b } = unfit-calls b u in
+    let stays : (k : List Call) → calls b k .book ≡ b = λ k. ap (λ (c : Calls). c .book) (all k) in
+    let behind : (k ks : List Call) → calls (calls b k .book) ks .replies ≡ map f ks
+    = λ k ks. ap (λ (v : List ℕ). calls v ks .replies) (stays k) ∙ ap (λ (c : Calls). c .replies) (all ks) in
+    record {
+      replies =
+          rw (ap (λ (c : Calls). c .replies) (all cs), behind cs (sent rs), behind cs (sent rs′), behind (cs ++ (sent rs ++ sent rs′)) ds)
+          (ap (λ (c : Calls). c .replies) (all (cs ++ (sent (merge w rs rs′) ++ ds)))
+          ∙ map-append f cs (sent (merge w rs rs′) ++ ds)
+          ∙ ap (λ (k : List Reply). map f cs ++ k) (map-append f (sent (merge w rs rs′)) ds)
+          ∙ ap (λ (k : List Call). map f cs ++ (map f k ++ map f ds)) (merge-map request w rs rs′)
+          ∙ ap (λ (k : List Reply). map f cs ++ (k ++ map f ds)) (merge-map f w (sent rs) (sent rs′)));
+      book = stays (cs ++ (sent (merge w rs rs′) ++ ds)) ∙ sym (stays (cs ++ (sent rs ++ (sent rs′ ++ ds))));
+    }
+
+-- on every list of words
+pub merge-words : (b : List ℕ) (cs ds : List Call) (w : List Bool) (rs rs′ : List Request) → NoDatesShared (ledgerOf b .diary .settings) rs rs′
+    → lastWord (calls b cs .book) + length rs + length rs′ ≤ mostChanges → MergedOn b cs ds w rs rs′
+merge-words b cs ds w rs rs′ apart room = go (fit-or-not b)
+  where
+    go : Passes b ⊎ Unfit b → MergedOn b cs ds w rs rs′
+    go (inl q) = merge-shown b (ledgerOf b) (passes-shows b q) cs ds w rs rs′ apart room
+    go (inr u) = merge-unfit b u cs ds w rs rs′
+
+-- and from a fresh book on
+pub merge-fresh : (S : Settings) → validSettings S ≡ true → (cs ds : List Call) (w : List Bool) (rs rs′ : List Request) → NoDatesShared S rs rs′
+    → lastWord (calls (freshBook S) cs .book) + length rs + length rs′ ≤ mostChanges → MergedOn (freshBook S) cs ds w rs rs′
+unfolding emptyLedger emptyState
+merge-fresh S e cs ds w rs rs′ apart room = merge-shown (freshBook S) (emptyLedger S) (fresh-shows S e) cs ds w rs rs′ apart room
+
+-- so the book is the same whatever the merge
+pub any-merge : (b : List ℕ) (cs ds : List Call) (w w′ : List Bool) (rs rs′ : List Request) → NoDatesShared (ledgerOf b .diary .settings) rs rs′
+    → lastWord (calls b cs .book) + length rs + length rs′ ≤ mostChanges
+    → calls b (cs ++ (sent (merge w rs rs′) ++ ds)) .book ≡ calls b (cs ++ (sent (merge w′ rs rs′) ++ ds)) .book
+any-merge b cs ds w w′ rs rs′ apart room = merge-words b cs ds w rs rs′ apart room .book ∙ sym (merge-words b cs ds w′ rs rs′ apart room .book)
