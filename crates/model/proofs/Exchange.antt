@@ -22,7 +22,7 @@ use Rattle.model.specs.Kinds.{Kind, Unit, dates, sessions, times, kindOf
 use Rattle.model.specs.Questions.{Refusal, below, ask, judge, always, further, test}
 use Rattle.model.specs.Machine.{finish, stepKind, step, Counted, mostChanges, isChange, countedStep, Call, request, Reply, told, perform, Run, run}
 use Rattle.model.specs.Ledger.{Ledger, emptyLedger, bookWords, ledgerOf}
-use Rattle.model.specs.Calls.{Called, refusing, call, Calls, calls, freshBook, shownBy}
+use Rattle.model.specs.Calls.{Called, refusing, callOn, call, Calls, calls, freshBook, shownBy}
 use Rattle.model.specs.Seen.{lastWord}
 use Rattle.model.specs.Exchange.{NoDateShared, PastSeven}
 use Rattle.model.proofs.Search.{within-true, true-within}
@@ -209,6 +209,11 @@ pub as-many-replies : (l : Ledger) (cs : List Call) → length (run l cs .replie
 unfolding run
 as-many-replies l [] = refl
 as-many-replies l (c ∷ cs) = ap suc (as-many-replies (perform l c .ledger) cs)
+
+pub as-many-told : (b : List ℕ) (cs : List Call) → length (calls b cs .replies) ≡ length cs
+unfolding calls
+as-many-told b [] = refl
+as-many-told b (c ∷ cs) = ap suc (as-many-told (callOn b c .book) cs)
 
 -- the ledger with the diary and the count that a request leaves; without an order it leaves the tail
 abbrev left : Ledger → Counted → Ledger

@@ -8,7 +8,7 @@ use mathlib.Core.Bool.{Bool, true, false}
 use mathlib.Core.Option.{some}
 use mathlib.Core.List.{List, [], _∷_, _++_, append-nil, map, map-append}
 use native.Mathlib.Omega.{arith}
-use lib.ListN.{length}
+use lib.ListN.{length, replicate, length-map}
 use Rattle.model.specs.declared.Settings.{Settings}
 use Rattle.model.specs.declared.Request.{Request}
 use Rattle.model.specs.declared.Answer.{Answer}
@@ -19,7 +19,7 @@ use Rattle.model.specs.Machine.{Counted, mostChanges, countedStep, Call,
 use Rattle.model.specs.Ledger.{Ledger, emptyLedger, bookWords, ledgerOf}
 use Rattle.model.specs.Calls.{refusing, Calls, calls, freshBook, shownBy}
 use Rattle.model.specs.Seen.{lastWord, nth}
-use Rattle.model.specs.Exchange.{NoDateShared, NoDatesShared, merge}
+use Rattle.model.specs.Exchange.{NoDateShared, NoDatesShared, merge, Interleaved, neither, first, second, sides, picked}
 use Rattle.model.proofs.Effect.{counted-settings}
 use Rattle.model.proofs.Calls.{run-sound}
 use Rattle.model.proofs.Shows.{Shows, Passes, passes-shows, shown-calls, fresh-shows}
@@ -27,7 +27,63 @@ use Rattle.model.proofs.Raised.{last-changes}
 use Rattle.model.proofs.Before.{run-settings}
 use Rattle.model.proofs.Runs.{CountedSteps, countedSteps, sent, stepsRun, run-sent}
 use Rattle.model.proofs.Seen.{request-later, Unfit, fit-or-not}
-use Rattle.model.proofs.Exchange.{slots-swap, no-date-sym, run-append, unfit-calls}
+use Rattle.model.proofs.Exchange.{slots-swap, no-date-sym, run-append, as-many-told, unfit-calls}
+
+-- ---- merges
+
+-- the merges of two lists are the lists that go through both, each in its order
+pub merge-interleaved : {A : Type 0} (w : List Bool) (l m : List A) → Interleaved l m (merge w l m)
+merge-interleaved [] [] [] = neither
+merge-interleaved [] [] (b ∷ m) = second b [] m m (merge-interleaved [] [] m)
+merge-interleaved [] (a ∷ l) m = first a l m (l ++ m) (merge-interleaved [] l m)
+merge-interleaved (true ∷ w) [] [] = neither
+merge-interleaved (true ∷ w) [] (b ∷ m) = second b [] m m (merge-interleaved (true ∷ w) [] m)
+merge-interleaved (true ∷ w) (a ∷ l) m = first a l m (merge w l m) (merge-interleaved w l m)
+merge-interleaved (false ∷ w) [] [] = neither
+merge-interleaved (false ∷ w) (a ∷ l) [] = first a l [] l (merge-interleaved (false ∷ w) l [])
+merge-interleaved (false ∷ w) l (b ∷ m) = second b l m (merge w l m) (merge-interleaved w l m)
+
+pub interleaved-merge : {A : Type 0} {l m k : List A} → Interleaved l m k → (w : List Bool) × (k ≡ merge w l m)
+interleaved-merge neither = ([], refl)
+interleaved-merge {A = A} (first a l m k h) =
+    let e = interleaved-merge h in
+    (true ∷ e .0, ap (λ (z : List A). a ∷ z) (e .1))
+interleaved-merge {A = A} (second a l m k h) =
+    let e = interleaved-merge h in
+    (false ∷ e .0, ap (λ (z : List A). a ∷ z) (e .1))
+
+-- each list, picked out of the merge
+only-first : {A : Type 0} (l : List A) → picked true (replicate (length l) true) l ≡ l
+only-first [] = refl
+only-first {A = A} (a ∷ l) = ap (λ (z : List A). a ∷ z) (only-first l)
+
+not-first : {A : Type 0} (l : List A) → picked true (replicate (length l) false) l ≡ []
+not-first [] = refl
+not-first (a ∷ l) = not-first l
+
+only-second : {A : Type 0} (l : List A) → picked false (replicate (length l) false) l ≡ l
+only-second [] = refl
+only-second {A = A} (a ∷ l) = ap (λ (z : List A). a ∷ z) (only-second l)
+
+not-second : {A : Type 0} (l : List A) → picked false (replicate (length l) true) l ≡ []
+not-second [] = refl
+not-second (a ∷ l) = not-second l
+
+pub pick-first : {A : Type 0} (w : List Bool) (l m : List A) → picked true (sides w (length l) (length m)) (merge w l m) ≡ l
+pick-first [] [] m = not-first m
+pick-first {A = A} [] (a ∷ l) m = ap (λ (z : List A). a ∷ z) (pick-first [] l m)
+pick-first (true ∷ w) [] m = not-first m
+pick-first {A = A} (true ∷ w) (a ∷ l) m = ap (λ (z : List A). a ∷ z) (pick-first w l m)
+pick-first (false ∷ w) l [] = only-first l
+pick-first (false ∷ w) l (b ∷ m) = pick-first w l m
+
+pub pick-second : {A : Type 0} (w : List Bool) (l m : List A) → picked false (sides w (length l) (length m)) (merge w l m) ≡ m
+pick-second [] [] m = only-second m
+pick-second [] (a ∷ l) m = pick-second [] l m
+pick-second (true ∷ w) [] m = only-second m
+pick-second (true ∷ w) (a ∷ l) m = pick-second w l m
+pick-second (false ∷ w) l [] = not-second l
+pick-second {A = A} (false ∷ w) l (b ∷ m) = ap (λ (z : List A). b ∷ z) (pick-second w l m)
 
 -- ---- one request and a list
 
@@ -261,3 +317,22 @@ pub any-merge : (b : List ℕ) (cs ds : List Call) (w w′ : List Bool) (rs rs�
     → lastWord (calls b cs .book) + length rs + length rs′ ≤ mostChanges
     → calls b (cs ++ (sent (merge w rs rs′) ++ ds)) .book ≡ calls b (cs ++ (sent (merge w′ rs rs′) ++ ds)) .book
 any-merge b cs ds w w′ rs rs′ apart room = merge-words b cs ds w rs rs′ apart room .book ∙ sym (merge-words b cs ds w′ rs rs′ apart room .book)
+
+-- "Each office is told what it would be told alone": of the replies to a merge of the two lists, those to the requests of the one list are
+-- the replies that this list has alone on the same words, and those to the requests of the other likewise
+pub alone : (b : List ℕ) (w : List Bool) (rs rs′ : List Request) → NoDatesShared (ledgerOf b .diary .settings) rs rs′
+    → lastWord b + length rs + length rs′ ≤ mostChanges
+    → (picked true (sides w (length rs) (length rs′)) (calls b (sent (merge w rs rs′)) .replies) ≡ calls b (sent rs) .replies)
+    × (picked false (sides w (length rs) (length rs′)) (calls b (sent (merge w rs rs′)) .replies) ≡ calls b (sent rs′) .replies)
+unfolding calls
+alone b w rs rs′ apart room =
+    let a : List Reply = calls b (sent rs) .replies in
+    let a′ : List Reply = calls b (sent rs′) .replies in
+    let whole : calls b (sent (merge w rs rs′)) .replies ≡ merge w a a′
+    = ap (λ (k : List Call). calls b k .replies) (sym (append-nil (sent (merge w rs rs′))))
+    ∙ merge-words b [] [] w rs rs′ apart room .replies ∙ append-nil (merge w a a′) in
+    let long : (ks : List Request) → length (calls b (sent ks) .replies) ≡ length ks = λ ks. as-many-told b (sent ks) ∙ length-map ks request in
+    let shape : sides w (length rs) (length rs′) ≡ sides w (length a) (length a′) = ap₂ (λ (n k : ℕ). sides w n k) (sym (long rs)) (sym (long rs′)) in (
+      ap₂ (λ (s : List Bool) (l : List Reply). picked true s l) shape whole ∙ pick-first w a a′,
+      ap₂ (λ (s : List Bool) (l : List Reply). picked false s l) shape whole ∙ pick-second w a a′,
+    )

@@ -2,9 +2,10 @@
 -- Assumes nothing.
 use Prim.Native.Nat.{ℕ}
 use mathlib.Core.Path.{_≡_}
-use mathlib.Core.Bool.{Bool, true, false}
+use mathlib.Core.Bool.{Bool, true, false, not, cond}
 use mathlib.Core.Option.{none, some}
 use mathlib.Core.List.{List, [], _∷_, _++_}
+use lib.ListN.{replicate}
 use Rattle.model.specs.declared.Settings.{Settings}
 use Rattle.model.specs.declared.Request.{Request}
 use Rattle.model.specs.State.{State}
@@ -30,12 +31,30 @@ pub record PastSeven (x : State) (r : Request) : Type 0 where
   pub known : kindOf (r .kind) ≡ some kind
   pub judged : judge x r kind always ≡ none
 
--- Two lists merged by a list of choices: true takes the next of the first, false the next of the second, as long as that list has one. If
--- it has none, the rest of the other follows; behind the last choice comes what is left, the first list's before the second's. Every way
--- to go through the two lists, each in its order, is such a merge.
+-- Two lists merged by a list of choices: true takes the next of the first, false the next of the second. Where that list has no more, the
+-- rest of the other follows; behind the last choice comes what is left, the first list's before the second's.
 abbrev pub merge : {A : Type 0} → List Bool → List A → List A → List A
 merge [] l m = l ++ m
 merge (true ∷ w) [] m = m
 merge (true ∷ w) (a ∷ l) m = a ∷ merge w l m
 merge (false ∷ w) l [] = l
 merge (false ∷ w) l (b ∷ m) = b ∷ merge w l m
+
+-- k goes through l and m, each in its order: these are the merges (`merge-interleaved`, `interleaved-merge`, proofs/Merged)
+pub data Interleaved {A : Type 0} : List A → List A → List A → Type 0 where
+  neither : Interleaved [] [] []
+  first : (a : A) (l m k : List A) → Interleaved l m k → Interleaved (a ∷ l) m (a ∷ k)
+  second : (a : A) (l m k : List A) → Interleaved l m k → Interleaved l (a ∷ m) (a ∷ k)
+
+-- from which list each of a merge of n and m is, true for the first; and what a list has at the places of one of the two
+abbrev pub sides : List Bool → ℕ → ℕ → List Bool
+sides w n m = merge w (replicate n true) (replicate m false)
+
+abbrev pub same : Bool → Bool → Bool
+same true t = t
+same false t = not t
+
+abbrev pub picked : {A : Type 0} → Bool → List Bool → List A → List A
+picked t [] l = []
+picked t (s ∷ w) [] = []
+picked t (s ∷ w) (a ∷ l) = cond (same t s) (a ∷ picked t w l) (picked t w l)
