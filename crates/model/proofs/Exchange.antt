@@ -29,8 +29,8 @@ use Rattle.model.proofs.Search.{within-true, true-within}
 use Rattle.model.proofs.Keeps.{said-in, judged, slots-fit}
 use Rattle.model.proofs.Done.{judge-some, judge-same}
 use Rattle.model.proofs.Counting.{answerTo, counted-refused}
-use Rattle.model.proofs.Local.{div-mono}
-use Rattle.model.proofs.Locality.{datesOf, onDate, Apart, Exchanged}
+use Rattle.model.proofs.Local.{div-mono, slot-reach}
+use Rattle.model.proofs.Locality.{datesOf, onDate, Apart, apart-before, Exchanged}
 use Rattle.model.proofs.Effect.{OneLeft, Swaps, swaps, only-asked, below-most, counted-settings}
 use Rattle.model.proofs.Calls.{run-sound}
 use Rattle.model.proofs.Shows.{Shows, Passes, passes-shows, shown-call, shown-calls, fresh-shows}
@@ -91,7 +91,7 @@ slot-on S u from (suc n) d a b = go (leb d (dateOf S u (from + n))) refl (slot-o
         }
 
 -- requests with slots that share no date have no date in common
-slots-apart : (S : Settings) (r r′ : Request) → NoDateShared S r r′ → r .first ≤ r .last → r′ .first ≤ r′ .last → Apart S r r′
+pub slots-apart : (S : Settings) (r r′ : Request) → NoDateShared S r r′ → r .first ≤ r .last → r′ .first ≤ r′ .last → Apart S r r′
 unfolding onDate
 slots-apart S r r′ h f f′ d e e′ = kind (kindOf (r .kind)) refl (kindOf (r′ .kind)) refl e e′
   where
@@ -109,6 +109,17 @@ slots-apart S r r′ h f f′ d e e′ = kind (kindOf (r .kind)) refl (kindOf (r
         let a = on r k f e in
         let b = on r′ k′ f′ e′ in
         h k k′ q q′ (a .at) (b .at) (true-within _ _ _ (a .low) (a .high)) (true-within _ _ _ (b .low) (b .high)) (a .on ∙ sym (b .on))
+
+-- and the other way round; so do two requests of which one ends on a date before the other begins
+pub apart-slots : (S : Settings) (r r′ : Request) → Apart S r r′ → NoDateShared S r r′
+unfolding onDate
+apart-slots S r r′ h k k′ q q′ i i′ s s′ e =
+    h (dateOf S (row k .unit) i) (ap (λ (o : Option Kind). datesOf S r o (dateOf S (row k .unit) i)) q ∙ slot-reach S r k i s)
+    (ap₂ (λ (o : Option Kind) (d : ℕ). datesOf S r′ o d) q′ e ∙ slot-reach S r′ k′ i′ s′)
+
+pub before-slots : (S : Settings) (r r′ : Request) (k k′ : Kind) → kindOf (r .kind) ≡ some k → kindOf (r′ .kind) ≡ some k′
+    → dateOf S (row k .unit) (r .last) < dateOf S (row k′ .unit) (r′ .first) → NoDateShared S r r′
+before-slots S r r′ k k′ q q′ h = apart-slots S r r′ (apart-before S r r′ k k′ q q′ h)
 
 -- ---- requests without slots
 
@@ -268,9 +279,12 @@ exchange-run l cs ds r r′ h spare =
       ap (λ (u : Run). u .ledger) one ∙ e .1 ∙ sym (ap (λ (u : Run). u .ledger) other),
     )
 
--- a count that can rise by two is none at which only one change more is counted
-pub room-for-two : (x : State) (n : ℕ) (r r′ : Request) → n ≤ 4294967293 → OneLeft x n r r′ → ⊥
-room-for-two x n r r′ h o = omega (arith, h, o .left)
+-- so wherever the count can rise by two
+pub exchange-room : (l : Ledger) (cs ds : List Call) (r r′ : Request) → NoDateShared (l .diary .settings) r r′ → run l cs .ledger .changes ≤ 4294967293
+    → Exchanged (run l cs .replies) (perform (run l cs .ledger) (request r) .reply) (perform (run l cs .ledger) (request r′) .reply)
+    (run l (cs ++ request r ∷ request r′ ∷ ds) .replies) (run l (cs ++ request r′ ∷ request r ∷ ds) .replies)
+    × (run l (cs ++ request r ∷ request r′ ∷ ds) .ledger ≡ run l (cs ++ request r′ ∷ request r ∷ ds) .ledger)
+exchange-room l cs ds r r′ h room = exchange-run l cs ds r r′ h (λ o. omega (arith, room, o .left))
 
 -- ---- books
 
