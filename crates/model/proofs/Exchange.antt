@@ -123,16 +123,23 @@ before-slots S r r′ k k′ q q′ h = apart-slots S r r′ (apart-before S r r
 
 -- ---- requests without slots
 
--- questions 3 to 7 ask the settings alone
-always-alike : (x y : State) (r : Request) (k : Kind) → y .settings ≡ x .settings → judge x r k always ≡ judge y r k always
+-- questions 4 to 7 ask the settings alone, as question 3 asks the request alone
+pub always-alike : (x y : State) (r : Request) (k : Kind) → y .settings ≡ x .settings → judge x r k always ≡ judge y r k always
 unfolding ask test
 always-alike x y r k e =
     judge-same x y r k always (
       refl,
-      (ap (λ (S : Settings). whole (below (limit S (row k .a)) (r .a))) (sym e),
-      (ap (λ (S : Settings). whole (below (limit S (row k .b)) (r .b))) (sym e),
-      (ap (λ (S : Settings). whole (leb (r .first) (r .last) && ltb (r .last) (slotsOf S (row k .unit)) &&
-      (not (row k .one) || eqb (r .first) (r .last)))) (sym e), tt))),
+      (
+        ap (λ (S : Settings). whole (below (limit S (row k .a)) (r .a))) (sym e),
+        (
+          ap (λ (S : Settings). whole (below (limit S (row k .b)) (r .b))) (sym e),
+          (
+            ap (λ (S : Settings). whole (leb (r .first) (r .last) && ltb (r .last) (slotsOf S (row k .unit)) &&
+                (not (row k .one) || eqb (r .first) (r .last)))) (sym e),
+            tt,
+          ),
+        ),
+      ),
     )
   where
     whole : Bool → Option ℕ
@@ -255,11 +262,11 @@ exchange-first l ds r r′ s =
       ap (λ (m : Ledger). run m ds .ledger) same,
     )
 
--- "Reception works on today, catering on next month, and order does not matter": anywhere in a list of calls of every sort, from any
--- ledger, two neighbouring requests without orders whose slots share no date can be exchanged. In the one list stand the replies to cs,
--- the answer to r, the answer to r′, and those to ds; in the other the same replies to cs, the same answer to r′, the same answer to r, and
--- the same replies to ds. Each of the two answers is the one that its request has right after cs. The ledger is the same. Of all kinds,
--- unknown ones too, and whatever questions 3 to 7 say; but not where the ledger after cs can count one change more and both would be done.
+-- "We work on other dates than they do, so it does not matter who comes first": anywhere in a list of calls of every sort, from any ledger,
+-- two neighbouring requests without orders whose slots share no date can be exchanged. In the one list stand the replies to cs, the answer
+-- to r, the answer to r′, and the replies to ds; in the other the same replies to cs, the same answer to r′, the same answer to r, and the
+-- same replies to ds. Each of the two answers is the one that its request has right after cs. The ledger is the same. Of all kinds, unknown
+-- ones too, and whatever questions 3 to 7 say; but not where the ledger after cs can count one change more and both would be done.
 pub exchange-run : (l : Ledger) (cs ds : List Call) (r r′ : Request) → NoDateShared (l .diary .settings) r r′
     → (OneLeft (run l cs .ledger .diary) (run l cs .ledger .changes) r r′ → ⊥)
     → Exchanged (run l cs .replies) (perform (run l cs .ledger) (request r) .reply) (perform (run l cs .ledger) (request r′) .reply)
@@ -316,9 +323,13 @@ exchange-shown b l h cs ds r r′ apart spare =
     let shown : (k : List Call) → calls b k ≡ shownBy (run l k) = shown-calls b l h in
     record {
       replies =
-          rw (ap (λ (c : Calls). c .replies) (shown cs), told-of r, told-of r′,
-          ap (λ (c : Calls). c .replies) (shown (cs ++ request r ∷ request r′ ∷ ds)),
-          ap (λ (c : Calls). c .replies) (shown (cs ++ request r′ ∷ request r ∷ ds))) (e .0);
+          rw (
+            ap (λ (c : Calls). c .replies) (shown cs),
+            told-of r,
+            told-of r′,
+            ap (λ (c : Calls). c .replies) (shown (cs ++ request r ∷ request r′ ∷ ds)),
+            ap (λ (c : Calls). c .replies) (shown (cs ++ request r′ ∷ request r ∷ ds)),
+          ) (e .0);
       book =
           ap (λ (c : Calls). c .book) (shown (cs ++ request r ∷ request r′ ∷ ds)) ∙ ap bookWords (e .1)
           ∙ sym (ap (λ (c : Calls). c .book) (shown (cs ++ request r′ ∷ request r ∷ ds)));
@@ -370,10 +381,9 @@ pub exchange-fresh : (S : Settings) → validSettings S ≡ true → (cs ds : Li
 unfolding emptyLedger emptyState
 exchange-fresh S e cs ds r r′ apart spare = exchange-shown (freshBook S) (emptyLedger S) (fresh-shows S e) cs ds r r′ apart spare
 
--- "For two neighbouring requests of kinds 1 to 16 without order numbers that pass questions 3 to 7, whose slots share no date, either order
--- gives each the same answer and leaves the same book, if the change count can still rise by two. This holds anywhere in a list from a
--- fresh book." The kinds and questions 3 to 7 are not needed, as `exchange-fresh` says, and of the count only that it is not the last but
--- one while both are done.
+-- Rule 21.2 with all its conditions: both are of kinds 1 to 16, questions 3 to 7 let both pass, which ask the settings alone
+-- (`always-alike`), and the count can rise by two. `exchange-fresh` needs neither the kinds nor the questions, and of the count only that it
+-- is not one before the greatest where both are done.
 pub two-dates : (S : Settings) → validSettings S ≡ true → (cs ds : List Call) (r r′ : Request) → isChange r ≡ true → isChange r′ ≡ true
     → PastSeven (emptyState S) r → PastSeven (emptyState S) r′ → NoDateShared S r r′ → lastWord (calls (freshBook S) cs .book) ≤ 4294967293
     → ExchangedOn (freshBook S) cs r r′ (calls (freshBook S) (cs ++ request r ∷ request r′ ∷ ds)) (calls (freshBook S) (cs ++ request r′ ∷ request r ∷ ds))
@@ -387,7 +397,7 @@ pub record EitherOrder (b : List ℕ) (r r′ : Request) : Type 0 where
   pub second : call (call b r .book) r′ .reply ≡ call b r′ .reply
   pub book : call (call b r .book) r′ .book ≡ call (call b r′ .book) r .book
 
--- two books of the same words, and the two requests called in either order: each is told the same, and the words are the same
+-- two books of the same words, and the two requests called on them in either order: each is told the same, and the words are the same
 pub exchange-call : (b : List ℕ) (r r′ : Request) → NoDateShared (ledgerOf b .diary .settings) r r′ → (LastChange b r r′ → ⊥) → EitherOrder b r r′
 unfolding calls
 exchange-call b r r′ apart spare =
@@ -397,3 +407,6 @@ exchange-call b r r′ apart spare =
       second = ap (λ (l : List Reply). getD l 1 (call b r .reply)) (e .replies .first);
       book = e .book;
     }
+
+pub two-calls : (b : List ℕ) (r r′ : Request) → NoDateShared (ledgerOf b .diary .settings) r r′ → lastWord b ≤ 4294967293 → EitherOrder b r r′
+two-calls b r r′ apart room = exchange-call b r r′ apart (λ o. omega (arith, room, o .count))

@@ -202,12 +202,12 @@ merge-here l w rs rs′ h room =
     = λ ks. sym (ap (λ (u : Run). u .replies) (all ks)) in
     let after : run l (sent rs) .ledger ≡ stepsRun (l .tail) (countedSteps x n rs) .ledger = ap (λ (u : Run). u .ledger) (all rs) in (
       ap (λ (u : Run). u .replies) (all (merge w rs rs′)) ∙ ap (map told) (m .answers)
-      ∙ merge-map told w (countedSteps x n rs .answers) (countedSteps x n rs′ .answers)
-      ∙ ap₂ (λ (a b : List Reply). merge w a b) (replied rs) (replied rs′),
+          ∙ merge-map told w (countedSteps x n rs .answers) (countedSteps x n rs′ .answers)
+          ∙ ap₂ (λ (a b : List Reply). merge w a b) (replied rs) (replied rs′),
       ap (λ (u : Run). u .ledger) (all (merge w rs rs′))
-      ∙ ap₂ (λ (z : State) (k : ℕ). record { diary = z; tail = l .tail; changes = k }) (m .state) (m .changes)
-      ∙ sym (ap (λ (k : Ledger). run k (sent rs′) .ledger) after
-      ∙ ap (λ (u : Run). u .ledger) (run-sent (stepsRun (l .tail) (countedSteps x n rs) .ledger) rs′)),
+          ∙ ap₂ (λ (z : State) (k : ℕ). record { diary = z; tail = l .tail; changes = k }) (m .state) (m .changes)
+          ∙ sym (ap (λ (k : Ledger). run k (sent rs′) .ledger) after
+          ∙ ap (λ (u : Run). u .ledger) (run-sent (stepsRun (l .tail) (countedSteps x n rs) .ledger) rs′)),
     )
 
 -- Two lists of requests without orders, of which no request of the one shares a date with one of the other, merged by whatever choices,
@@ -272,8 +272,13 @@ merge-shown b l h cs ds w rs rs′ apart room =
     = λ k ks. ap (λ (c : Calls). c .replies) (shown-calls (calls b k .book) (run l k .ledger) (after k) ks) in
     record {
       replies =
-          rw (ap (λ (c : Calls). c .replies) (shown cs), ap (λ (c : Calls). c .replies) (shown (cs ++ (sent (merge w rs rs′) ++ ds))),
-          behind cs (sent rs), behind cs (sent rs′), behind (cs ++ (sent rs ++ sent rs′)) ds) (e .replies);
+          rw (
+            ap (λ (c : Calls). c .replies) (shown cs),
+            ap (λ (c : Calls). c .replies) (shown (cs ++ (sent (merge w rs rs′) ++ ds))),
+            behind cs (sent rs),
+            behind cs (sent rs′),
+            behind (cs ++ (sent rs ++ sent rs′)) ds,
+          ) (e .replies);
       book =
           ap (λ (c : Calls). c .book) (shown (cs ++ (sent (merge w rs rs′) ++ ds))) ∙ ap bookWords (e .ledger)
           ∙ sym (ap (λ (c : Calls). c .book) (shown (cs ++ (sent rs ++ (sent rs′ ++ ds)))));

@@ -1,8 +1,10 @@
--- Where the conditions of the exchange are needed, computed (rule 21.4): pairs that share a date and do differ, on the site of rule 13.1 and,
--- for times before breakfast, on that of rule 13.5; pairs that look alike and share none; and two changes where the count can rise by one.
+-- Two offices, computed. Where the conditions of the exchange are needed (rule 21.4): pairs that share a date and do differ, on the site of
+-- rule 13.1 and, for early times, on that of rule 13.5; pairs that look alike and share none; and two changes where the count can rise by one
+-- only. And two lists merged (rule 21.3).
 -- Assumes nothing.
 use Prim.Native.Nat.{ℕ}
 use mathlib.Core.Path.{_≡_, refl}
+use mathlib.Core.Bool.{true, false}
 use mathlib.Core.List.{List, [], _∷_}
 use native.Mathlib.Omega.{arith}
 use Rattle.model.specs.declared.Request.{Request}
@@ -13,7 +15,8 @@ use Rattle.model.specs.Questions.{bookings, standsOn, confHeld, lunchHel
 use Rattle.model.specs.Ledger.{Ledger, emptyLedger}
 use Rattle.model.specs.Machine.{change, value, step, raise, countedStep, request, Reply, told, run}
 use Rattle.model.specs.Seen.{withChanges}
-use Rattle.model.specs.Exchange.{NoDateShared}
+use Rattle.model.specs.Exchange.{NoDateShared, merge}
+use Rattle.model.proofs.Runs.{sent}
 use Rattle.model.proofs.Rehearsal.{site}
 use Rattle.model.proofs.Early
 use Rattle.model.proofs.Exchange.{before-slots}
@@ -63,7 +66,7 @@ pub standing-or-lunch : eitherOrder (emptyLedger site) standing (lunch 1) ≡ (t
 unfolding run countedStep raise step change value kindOf ask test emptyLedger emptyState reserved bookings standsOn confHeld lunchHeld meetingOf lowestFree
 standing-or-lunch = refl
 
--- ---- times before breakfast: the site of rule 13.5, whose time 4 is on date 0, though 4 divided by the four times of a date is 1
+-- ---- early times: the site of rule 13.5, whose time 4 is on date 0, though 4 divided by the four times of a date is 1
 
 abbrev leaveOn : ℕ → Request
 leaveOn d = row 1 0 0 d d 0 0
@@ -101,3 +104,26 @@ pub one-change-left : eitherOrder (withChanges (emptyLedger site) 4294967294) (l
     ≡ (told (Done 0) ∷ told (Refused 30 0) ∷ [], told (Done 0) ∷ told (Refused 30 0) ∷ [])
 unfolding run countedStep raise step change value kindOf ask test emptyLedger emptyState reserved bookings standsOn confHeld lunchHeld meetingOf lowestFree
 one-change-left = refl
+
+-- ---- two lists (rule 21.3)
+
+-- one office on date 0, the other on date 1, which is that of sessions 2 and 3
+abbrev reception : List Request
+reception = row 1 0 1 0 0 0 0 ∷ row 4 0 1 0 0 0 0 ∷ row 1 0 2 0 0 0 0 ∷ row 4 0 2 0 0 0 0 ∷ []
+
+abbrev catering : List Request
+catering = row 8 0 0 2 3 0 0 ∷ row 14 0 0 1 1 4 7 ∷ row 14 0 1 1 1 1 0 ∷ []
+
+pub reception-alone : run (emptyLedger site) (sent reception) .replies ≡ told (Done 0) ∷ told (Done 0) ∷ told (Done 0) ∷ told (Refused 12 0) ∷ []
+unfolding run countedStep raise step change value kindOf ask test emptyLedger emptyState reserved bookings standsOn confHeld lunchHeld meetingOf lowestFree
+reception-alone = refl
+
+pub catering-alone : run (emptyLedger site) (sent catering) .replies ≡ told (Done 0) ∷ told (Done 0) ∷ told (Refused 10 1) ∷ []
+unfolding run countedStep raise step change value kindOf ask test emptyLedger emptyState reserved bookings standsOn confHeld lunchHeld meetingOf lowestFree
+catering-alone = refl
+
+-- catering first, then by turns
+pub side-by-side : run (emptyLedger site) (sent (merge (false ∷ true ∷ false ∷ true ∷ false ∷ []) reception catering)) .replies
+    ≡ told (Done 0) ∷ told (Done 0) ∷ told (Done 0) ∷ told (Done 0) ∷ told (Refused 10 1) ∷ told (Done 0) ∷ told (Refused 12 0) ∷ []
+unfolding run countedStep raise step change value kindOf ask test emptyLedger emptyState reserved bookings standsOn confHeld lunchHeld meetingOf lowestFree
+side-by-side = refl
