@@ -1,7 +1,7 @@
 -- Two offices, two dates, over whole runs (section 21): two lists of requests that share no date, merged in any way. Each office is told what
 -- it would be told alone, and the book is the same whatever the merge.
 -- Assumes nothing.
-use Prim.Native.Nat.{ℕ, zero, suc, _+_, _≤_}
+use Prim.Native.Nat.{ℕ, suc, _+_, _≤_}
 use mathlib.Core.Path.{_≡_, refl, sym, _∙_, ap, ap₂, subst}
 use mathlib.Core.Logic.{_⊎_, inl, inr}
 use mathlib.Core.Bool.{Bool, true, false}
