@@ -1,28 +1,32 @@
 -- Two offices, two dates (section 21): two neighbouring requests that share no date, exchanged anywhere in a list of calls of every sort,
--- on ledgers, on books and on every list of words.
+-- on ledgers, on books, on every list of words, and in lists of requests that come as words.
 -- Assumes nothing.
-use Prim.Native.Nat.{ℕ, zero, suc, _+_, _-_, _/_, _≤_, _<_}
+use Prim.Native.Nat.{ℕ, zero, suc, _+_, _*_, _-_, _/_, _≤_, _<_}
 use mathlib.Core.Path.{_≡_, refl, sym, _∙_, ap, ap₂, subst}
 use mathlib.Core.Logic.{_⊎_, inl, inr}
 use mathlib.Core.Bool.{Bool, true, false, not, _&&_, _||_, cond, false≢true}
 use mathlib.Core.Option.{Option, none, some}
-use mathlib.Core.List.{List, [], _∷_, _++_, map, map-append}
+use mathlib.Core.List.{List, [], _∷_, _++_, append-assoc, map, map-append}
 use native.Mathlib.Nat.{add-div-right, div-zero, eq-zero-or-pos}
 use native.Mathlib.Omega.{arith}
 use lib.Dec.{leb, ltb, eqb}
-use lib.ListN.{length, getD}
-use borrow.Author.Tests.{leb-true, leb-false}
+use lib.ListN.{length, getD, drop, length-append}
+use borrow.Author.Tests.{eq-eqb, leb-true, leb-false}
 use Rattle.model.specs.declared.Settings.{Settings}
 use Rattle.model.specs.declared.Request.{Request}
 use Rattle.model.specs.declared.Answer.{Answer}
-use Rattle.model.specs.declared.Answer.the-variants.{Refused}
+use Rattle.model.specs.declared.Answer.the-variants.{Done, Refused}
 use Rattle.model.specs.Site.{validSettings}
 use Rattle.model.specs.State.{State, emptyState}
 use Rattle.model.specs.Kinds.{Kind, Unit, dates, sessions, times, kindOf, row, limit, slotsOf, dateOf}
 use Rattle.model.specs.Questions.{Refusal, below, ask, judge, always, further, test}
-use Rattle.model.specs.Machine.{finish, stepKind, step, Counted, mostChanges, isChange, countedStep, Call, request, Reply, told, perform, Run, run}
-use Rattle.model.specs.Ledger.{Ledger, emptyLedger, bookWords, ledgerOf}
-use Rattle.model.specs.Calls.{Called, refusing, callOn, call, Calls, calls, freshBook, shownBy}
+use Rattle.model.specs.Machine.{finish, stepKind, step, Counted, mostChanges, isChange, countedStep, Call, request, Reply, told, replyWords}
+use Rattle.model.specs.Machine.{perform, Run, run}
+use Rattle.model.specs.Messages.{answerWords}
+use Rattle.model.specs.Reading.{settingsOf}
+use Rattle.model.specs.Ledger.{Ledger, emptyLedger, bookLength, bookWords, ledgerOf}
+use Rattle.model.specs.Calls.{Called, refusing, callOn, call, Calls, calls, freshBook, settingsGood, callsOf, repliesWords, answerable, Listed}
+use Rattle.model.specs.Calls.{listed, callList, shownBy, serveList}
 use Rattle.model.specs.Seen.{lastWord}
 use Rattle.model.specs.Exchange.{NoDateShared, PastSeven}
 use Rattle.model.proofs.Search.{within-true, true-within}
@@ -38,6 +42,7 @@ use Rattle.model.proofs.Raised.{last-changes}
 use Rattle.model.proofs.OnBooks.{LastChange}
 use Rattle.model.proofs.Before.{run-settings}
 use Rattle.model.proofs.Seen.{Unfit, fit-or-not}
+use Rattle.model.proofs.Resent.{list-long}
 
 -- ---- the dates of the slots
 
@@ -222,12 +227,8 @@ run-append l [] ds = refl
 run-append l (c ∷ cs) ds =
     ap (λ (u : Run). record { replies = perform l c .reply ∷ u .replies; ledger = u .ledger }) (run-append (perform l c .ledger) cs ds)
 
--- each call has one reply: the replies to cs are as many as cs, so that in `Exchanged` below the two answers stand where the two requests do
-pub as-many-replies : (l : Ledger) (cs : List Call) → length (run l cs .replies) ≡ length cs
-unfolding run
-as-many-replies l [] = refl
-as-many-replies l (c ∷ cs) = ap suc (as-many-replies (perform l c .ledger) cs)
-
+-- Each call has one reply: the replies to cs are as many as cs (of ledgers `run-long`, proofs/Resent), so that in `Exchanged` below the two
+-- answers stand where the two requests do.
 pub as-many-told : (b : List ℕ) (cs : List Call) → length (calls b cs .replies) ≡ length cs
 unfolding calls
 as-many-told b [] = refl
@@ -410,3 +411,84 @@ exchange-call b r r′ apart spare =
 
 pub two-calls : (b : List ℕ) (r r′ : Request) → NoDateShared (ledgerOf b .diary .settings) r r′ → lastWord b ≤ 4294967293 → EitherOrder b r r′
 two-calls b r r′ apart room = exchange-call b r r′ apart (λ o. omega (arith, room, o .count))
+
+-- ---- lists as words
+
+replies-append : (k l : List Reply) → repliesWords (k ++ l) ≡ repliesWords k ++ repliesWords l
+unfolding repliesWords
+replies-append [] l = refl
+replies-append (a ∷ k) l =
+    ap (λ (w : List ℕ). replyWords a ++ w) (replies-append k l) ∙ sym (append-assoc (replyWords a) (repliesWords k) (repliesWords l))
+
+-- two lists of requests as words, which differ in the order of two: the book and the answer of the list are the same; of the words of the
+-- answers those before the two, three for each request, and those behind them are the same, and the three words of the one answer and the
+-- three of the other have changed places
+pub record ExchangedWords (before : List ℕ) (one two : Answer) (l m : Listed) : Type 0 where
+  pub later : List ℕ
+  pub first : l .answers ≡ before ++ (answerWords one ++ (answerWords two ++ later))
+  pub second : m .answers ≡ before ++ (answerWords two ++ (answerWords one ++ later))
+  pub book : l .book ≡ m .book
+  pub answer : l .answer ≡ m .answer
+
+module _ (k : ℕ) (w v a : List ℕ) (cs ds : List Call) (r r′ : Request)
+    (one-words : callsOf k (answerable k w a) w ≡ cs ++ request r ∷ request r′ ∷ ds)
+    (other-words : callsOf k (answerable k v a) v ≡ cs ++ request r′ ∷ request r ∷ ds) where
+  as-many : answerable k v a ≡ answerable k w a
+  as-many =
+      sym (list-long k (answerable k v a) v) ∙ ap length other-words ∙ length-append cs (request r′ ∷ request r ∷ ds)
+      ∙ sym (sym (list-long k (answerable k w a) w) ∙ ap length one-words ∙ length-append cs (request r ∷ request r′ ∷ ds))
+
+  words-of : (before : List Reply) (x y : Answer) (later : List Reply) (end : List ℕ)
+      → repliesWords (before ++ told x ∷ told y ∷ later) ++ end
+      ≡ repliesWords before ++ (answerWords x ++ (answerWords y ++ (repliesWords later ++ end)))
+  unfolding repliesWords
+  words-of before x y later end =
+      ap (λ (z : List ℕ). z ++ end) (replies-append before (told x ∷ told y ∷ later))
+      ∙ append-assoc (repliesWords before) (answerWords x ++ (answerWords y ++ repliesWords later)) end
+      ∙ ap (λ (z : List ℕ). repliesWords before ++ z)
+      (append-assoc (answerWords x) (answerWords y ++ repliesWords later) end
+      ∙ ap (λ (z : List ℕ). answerWords x ++ z) (append-assoc (answerWords y) (repliesWords later) end))
+
+  exchange-listed : (l : Ledger) → NoDateShared (l .diary .settings) r r′ → run l cs .ledger .changes ≤ 4294967293
+      → ExchangedWords (repliesWords (run l cs .replies)) (answerTo (run l cs .ledger) r) (answerTo (run l cs .ledger) r′)
+      (listed (answerable k w a) a (shownBy (run l (cs ++ request r ∷ request r′ ∷ ds))))
+      (listed (answerable k v a) a (shownBy (run l (cs ++ request r′ ∷ request r ∷ ds))))
+  exchange-listed l apart room =
+      let e = exchange-room l cs ds r r′ apart room in
+      let m : Ledger = run l cs .ledger in
+      let end : List ℕ = drop (3 * answerable k w a) a in
+      record {
+        later = repliesWords (e .0 .later) ++ end;
+        first =
+            ap (λ (u : List Reply). repliesWords u ++ end) (e .0 .first)
+            ∙ words-of (run l cs .replies) (answerTo m r) (answerTo m r′) (e .0 .later) end;
+        second =
+            ap₂ (λ (u : List Reply) (n : ℕ). repliesWords u ++ drop (3 * n) a) (e .0 .second) as-many
+            ∙ words-of (run l cs .replies) (answerTo m r′) (answerTo m r) (e .0 .later) end;
+        book = ap bookWords (e .1);
+        answer = ap Done (sym as-many);
+      }
+
+  -- on a book that passes questions 1 and 2, and on a book laid anew
+  pub list-exchanged : (b : List ℕ) → Passes b → NoDateShared (ledgerOf b .diary .settings) r r′ → run (ledgerOf b) cs .ledger .changes ≤ 4294967293
+      → ExchangedWords (repliesWords (run (ledgerOf b) cs .replies)) (answerTo (run (ledgerOf b) cs .ledger) r)
+      (answerTo (run (ledgerOf b) cs .ledger) r′) (callList k b w a) (callList k b v a)
+  unfolding callList
+  list-exchanged b p apart room =
+      let h : Shows b (ledgerOf b) = passes-shows b p in
+      rw (
+        p .one,
+        p .two,
+        one-words,
+        other-words,
+        shown-calls b (ledgerOf b) h (cs ++ request r ∷ request r′ ∷ ds),
+        shown-calls b (ledgerOf b) h (cs ++ request r′ ∷ request r ∷ ds),
+      ) (exchange-listed (ledgerOf b) apart room)
+
+  pub served-exchanged : (s b : List ℕ) → settingsGood s ≡ true → length b ≡ bookLength (settingsOf s) → NoDateShared (settingsOf s) r r′
+      → run (emptyLedger (settingsOf s)) cs .ledger .changes ≤ 4294967293
+      → ExchangedWords (repliesWords (run (emptyLedger (settingsOf s)) cs .replies)) (answerTo (run (emptyLedger (settingsOf s)) cs .ledger) r)
+      (answerTo (run (emptyLedger (settingsOf s)) cs .ledger) r′) (serveList k s b w a) (serveList k s b v a)
+  unfolding serveList emptyLedger emptyState
+  served-exchanged s b g f apart room =
+      rw (g, eq-eqb (length b) (bookLength (settingsOf s)) f, one-words, other-words) (exchange-listed (emptyLedger (settingsOf s)) apart room)
