@@ -43,7 +43,7 @@ use Rattle.model.proofs.Search.{within-true}
 use Rattle.model.proofs.Shows.{Shows, shown-calls, fresh-shows}
 
 -- a call leaves the settings
-perform-settings : (l : Ledger) (c : Call) → perform l c .ledger .diary .settings ≡ l .diary .settings
+pub perform-settings : (l : Ledger) (c : Call) → perform l c .ledger .diary .settings ≡ l .diary .settings
 perform-settings l (ordered n r) = order (keptAt (l .tail) n)
   where
     order : (o : Option ℕ) → answerOrder l n r o .ledger .diary .settings ≡ l .diary .settings
@@ -58,7 +58,7 @@ perform-settings l (commit n r) = go (eqb n (l .changes))
     go true = counted-settings (l .diary) (l .changes) r
     go false = refl
 
-run-settings : (l : Ledger) (cs : List Call) → run l cs .ledger .diary .settings ≡ l .diary .settings
+pub run-settings : (l : Ledger) (cs : List Call) → run l cs .ledger .diary .settings ≡ l .diary .settings
 unfolding run
 run-settings l [] = refl
 run-settings l (c ∷ cs) = run-settings (perform l c .ledger) cs ∙ perform-settings l c

@@ -467,7 +467,7 @@ words-once (once c ∷ ss) (told (Refused n p) ∷ rs) h e w = ap (λ (v : List 
 words-once (again m r ∷ ss) (told (Done v) ∷ rs) h e w = words-once ss rs h (omega (arith, e)) w
 words-once (again m r ∷ ss) (told (Refused n p) ∷ rs) h e w = words-once ss rs h (omega (arith, e)) w
 
-run-long : (l : Ledger) (cs : List Call) → length (run l cs .replies) ≡ length cs
+pub run-long : (l : Ledger) (cs : List Call) → length (run l cs .replies) ≡ length cs
 unfolding run
 run-long l [] = refl
 run-long l (c ∷ cs) = ap suc (run-long (perform l c .ledger) cs)
@@ -477,7 +477,7 @@ sent-long [] = refl
 sent-long (once c ∷ ss) = ap suc (sent-long ss)
 sent-long (again n r ∷ ss) = ap suc (sent-long ss)
 
-list-long : (k n : ℕ) (w : List ℕ) → length (callsOf k n w) ≡ n
+pub list-long : (k n : ℕ) (w : List ℕ) → length (callsOf k n w) ≡ n
 unfolding callsOf
 list-long k zero w = refl
 list-long k (suc n) w = ap suc (list-long k n (drop k w))
