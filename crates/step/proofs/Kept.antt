@@ -2,7 +2,7 @@
 -- Assumes nothing.
 use Prim.Native.Nat.{ℕ, suc, _+_, _-_, _≤_}
 use mathlib.Core.Path.{_≡_, refl, sym, _∙_, ap, ap₂, subst}
-use mathlib.Core.Bool.{Bool, true, false, _&&_, false≢true}
+use mathlib.Core.Bool.{Bool, true, false, _&&_}
 use mathlib.Core.Option.{Option, none, some}
 use mathlib.Core.List.{List, [], _∷_, _++_}
 use native.Mathlib.Omega.{arith}
@@ -31,7 +31,6 @@ use Rattle.model.proofs.Counting.{counted-state, counted-refused, counted-full,
 use Rattle.model.proofs.Search.{and-left, and-right}
 use Rattle.model.proofs.Done.{refused-keeps}
 use borrow.Author.Tests.{eqb-true}
-use Rattle.apply.specs.Accepted.{accepted}
 use Rattle.model.proofs.Frame.{step-settings}
 use Rattle.model.proofs.Calls.{step-sound, perform-sound, empty-ledger, fresh-words}
 use Rattle.book.specs.declared.found.Found.{Found}
@@ -62,15 +61,6 @@ abbrev toldAnswer : Reply → Answer
 toldAnswer (told a) = a
 toldAnswer (asked a n) = a
 
--- done or refused beside a change
-pub and-true-is : (t : Bool) → (t && true) ≡ t
-and-true-is true = refl
-and-true-is false = refl
-
-pub and-false-is : (t : Bool) → (t && false) ≡ false
-and-false-is true = refl
-and-false-is false = refl
-
 -- a change that is done raises a count that is not the greatest
 counted-open : (x : State) (n : ℕ) (r : Request) (v : ℕ) → isChange r ≡ true → eqb n mostChanges ≡ false → step x r .answer ≡ Done v
     → countedStep x n r ≡ record { answer = Done v; state = step x r .state; changes = suc n }
@@ -78,8 +68,8 @@ unfolding countedStep raise
 counted-open x n r v c f e = rw c (ap (raise x n (step x r)) e ∙ rw f)
 
 -- a change at a count that is not full
-pub change-open : (r : Request) (a : Answer) (n : ℕ) → (isChange r && accepted a) ≡ true → (isChange r && eqb n mostChanges) ≡ false → eqb n mostChanges ≡ false
-change-open r a n on less = sym (ap (λ (t : Bool). t && eqb n mostChanges) (and-left (isChange r) (accepted a) on)) ∙ less
+pub change-open : (r : Request) (n : ℕ) → isChange r ≡ true → (isChange r && eqb n mostChanges) ≡ false → eqb n mostChanges ≡ false
+change-open r n on less = sym (ap (λ (t : Bool). t && eqb n mostChanges) on) ∙ less
 
 -- a book whose first n words are written is as long as before
 pub whole-long : (b c : List ℕ) (n : ℕ) → n ≤ length b → length c ≡ length (take n b) → length (c ++ drop n b) ≡ length b
@@ -185,43 +175,32 @@ module _ {S : Settings} {b : List ℕ} (good : GoodBook S b) where
     kept-count same = ap₂ answered part-answer stepped-words ∙ ap (λ (o : Counted). called (stepped (ledgerOf b .tail) o)) (sym same)
 
     -- a request that is no change, or is refused, leaves the count
-    pub part-same : (isChange r && accepted a) ≡ false → answered a (c ++ drop k b) ≡ called (perform (ledgerOf b) (ordered 0 r))
-    part-same off = go (isChange r) refl a part-answer off
+    pub part-same : isChange r ≡ false → answered a (c ++ drop k b) ≡ called (perform (ledgerOf b) (ordered 0 r))
+    part-same f = kept-count (uncounted (ledgerOf b .diary) (ledgerOf b .changes) r f)
+
+    pub part-refused : {m p : ℕ} → a ≡ Refused m p → answered (Refused m p) (c ++ drop k b) ≡ called (perform (ledgerOf b) (ordered 0 r))
+    part-refused {m} {p} q = ap (λ (x : Answer). answered x (c ++ drop k b)) (sym q) ∙ go (isChange r) refl
       where
-        go : (t : Bool) → isChange r ≡ t → (q : Answer) → q ≡ step (ledgerOf b .diary) r .answer → (t && accepted q) ≡ false
-            → answered a (c ++ drop k b) ≡ called (perform (ledgerOf b) (ordered 0 r))
-        go false f q e o = kept-count (uncounted (ledgerOf b .diary) (ledgerOf b .changes) r f)
-        go true f (Done v) e o = absurd (false≢true (sym o))
-        go true f (Refused m p) e o =
+        no : step (ledgerOf b .diary) r .answer ≡ Refused m p
+        no = sym part-answer ∙ q
+
+        go : (t : Bool) → isChange r ≡ t → answered a (c ++ drop k b) ≡ called (perform (ledgerOf b) (ordered 0 r))
+        go false f = part-same f
+        go true f =
             kept-count
-            (counted-refused (ledgerOf b .diary) (ledgerOf b .changes) r m p f (sym e)
-            ∙ (λ j. record { answer = e j; state = sym (refused-keeps (ledgerOf b .diary) r m p (sym e)) j; changes = ledgerOf b .changes }))
+            (counted-refused (ledgerOf b .diary) (ledgerOf b .changes) r m p f no
+            ∙ (λ j. record { answer = sym no j; state = sym (refused-keeps (ledgerOf b .diary) r m p no) j; changes = ledgerOf b .changes }))
 
     -- a change that is done, and the count raised
-    pub part-raised : {n : ℕ} → n ≡ ledgerOf b .changes → (isChange r && accepted a) ≡ true → (isChange r && eqb n mostChanges) ≡ false
+    pub part-raised : {n v : ℕ} → n ≡ ledgerOf b .changes → a ≡ Done v → isChange r ≡ true → (isChange r && eqb n mostChanges) ≡ false
         → answered a (set (c ++ drop k b) (length (c ++ drop k b) - 1) (n + 1)) ≡ called (perform (ledgerOf b) (ordered 0 r))
-    part-raised {n} count on less = go a part-answer on
-      where
-        change : isChange r ≡ true
-        change = and-left (isChange r) (accepted a) on
-
-        below : eqb (ledgerOf b .changes) mostChanges ≡ false
-        below = ap (λ (m : ℕ). eqb m mostChanges) (sym count) ∙ change-open r a n on less
-
-        one : n + 1 ≡ suc (ledgerOf b .changes)
-        one = omega (arith, count)
-
-        raised : set (c ++ drop k b) (length (c ++ drop k b) - 1) (n + 1)
-            ≡ bookWords (record { diary = step (ledgerOf b .diary) r .state; tail = ledgerOf b .tail; changes = suc (ledgerOf b .changes) })
-        raised = ap₂ (λ (w : List ℕ) (m : ℕ). set w (length w - 1) m) stepped-words one ∙ recounted _ stepped-sound (suc (ledgerOf b .changes))
-
-        go : (q : Answer) → q ≡ step (ledgerOf b .diary) r .answer → (isChange r && accepted q) ≡ true
-            → answered q (set (c ++ drop k b) (length (c ++ drop k b) - 1) (n + 1)) ≡ called (perform (ledgerOf b) (ordered 0 r))
-        go (Refused m p) e o = absurd (false≢true (and-right (isChange r) false o))
-        go (Done v) e o =
-            ap (answered (Done v)) raised
-            ∙ ap (λ (o : Counted). called (stepped (ledgerOf b .tail) o))
-            (sym (counted-open (ledgerOf b .diary) (ledgerOf b .changes) r v change below (sym e)))
+    part-raised {n} {v} count q change less =
+        let below : eqb (ledgerOf b .changes) mostChanges ≡ false = ap (λ (m : ℕ). eqb m mostChanges) (sym count) ∙ change-open r n change less in
+        let one : n + 1 ≡ suc (ledgerOf b .changes) = omega (arith, count) in
+        ap₂ answered q
+        (ap₂ (λ (w : List ℕ) (m : ℕ). set w (length w - 1) m) stepped-words one ∙ recounted _ stepped-sound (suc (ledgerOf b .changes)))
+        ∙ ap (λ (o : Counted). called (stepped (ledgerOf b .tail) o))
+        (sym (counted-open (ledgerOf b .diary) (ledgerOf b .changes) r v change below (sym part-answer ∙ q)))
 
   -- where nothing is written: the answer that is foreseen, for a change at the greatest count
   pub foreseen-full : (r : Request) {a : Answer} {n : ℕ} → n ≡ ledgerOf b .changes → (isChange r && eqb n mostChanges) ≡ true

@@ -27,7 +27,6 @@ ghost use Rattle.model.specs.Ledger.{ledgerOf};
 ghost use Rattle.model.specs.Calls.{called};
 ghost use Rattle.book.specs.Good.{Good, GoodBook, answered, inWords};
 ghost use Rattle.book.specs.Lent.{reading};
-ghost use Rattle.apply.specs.Accepted.{accepted};
 
 // Question 3, and the one choice by kind: what it leads to judges with the kind's own row and questions, and makes the kind's own writes.
 pub fn step(book: &mut [u32], s: Settings, r: Request) -> Answer
@@ -77,16 +76,6 @@ fn is_full(changes: u32, kind: u32) -> bool
     is_change(kind) & (changes == MOST_CHANGES)
 }
 
-// Whether a request with this answer raises the count.
-fn raises(kind: u32, answer: Answer) -> bool
-    ensures { λ r. ⌜ r ≡ (within 1 16 kind && accepted answer) ⌝ }
-{
-    match answer {
-        Answer::Done(_) => is_change(kind),
-        Answer::Refused { .. } => false,
-    }
-}
-
 // The answer that a request without an order would get on a whole book, by reading alone. Question 30 comes last: a change that all others
 // let pass is refused where the count cannot rise.
 pub fn foresee(book: &[u32], s: Settings, diary: usize, r: Request) -> Answer
@@ -119,7 +108,10 @@ fn counted_step(book: &mut [u32], s: Settings, diary: usize, r: Request) -> Answ
         return foresee(book, s, diary, r);
     }
     let answer = step(&mut book[..diary], s, r);
-    if raises(r.kind, answer) {
+    if let Answer::Refused { number, place } = answer {
+        return Answer::Refused { number, place };
+    }
+    if is_change(r.kind) {
         raise(book, changes);
     }
     answer

@@ -291,5 +291,5 @@ fn largest_book() {
     }
     assert!(words == theirs);
     println!("seed {}: commits on the largest book, by number {numbers}", seed(85));
-    numbers.assert_each([0, 9, 29], 5);
+    numbers.assert_each([0, 29], 5);
 }

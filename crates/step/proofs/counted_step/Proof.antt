@@ -1,14 +1,12 @@
 -- `counted_step`: where the count cannot rise the answer is foreseen; else a step on the diary, and the count raised where a change is done.
 -- Assumes nothing.
 use mathlib.Core.Path.{sym, _∙_, ap}
-use mathlib.Core.List.{_++_}
 use native.Mathlib.Omega.{arith}
-use lib.ListN.{drop}
 use lib.Seq.{length-take-le}
 use Rattle.model.proofs.Ledger.{diary-fits, last-word}
 use Rattle.book.specs.Lent.{reading}
 use Rattle.book.specs.Good.{answered}
-use Rattle.step.proofs.Kept.{part-good, count-is, foreseen-full, change-open, part-same, part-raised, whole-long}
+use Rattle.step.proofs.Kept.{part-good, count-is, foreseen-full, change-open, part-same, part-refused, part-raised, whole-long}
 use borrow.Author.Needs.{needs}
 use Rattle.step.proofs.counted_step.Statement.{statement}
 use Rattle.step.proofs.counted_step.Tie as tie
@@ -40,15 +38,8 @@ step-requires : tie.Need-step-requires
 unfolding reading
 step-requires c κs = let p = c .before .before .before .before .before .before .pre in part-good (p .0) _ (p .1)
 
-raises-requires : tie.Need-raises-requires
-raises-requires c κs = search needs
-
-raise-requires : tie.Need-raise-requires
-raise-requires c κs =
-    let s = c .before .before .before .before .before .before .before .before .before .before .before .before in (
-      omega (arith, last-word _ (s .pre .0 .laid), whole-long (s .args .book .now) (c .before .before .before .before .before .step .last .0) (s .args .diary) (diary-fits _ (s .pre .0 .laid) (s .pre .0 .read) (s .pre .1)) (c .before .before .before .before .before .step .kept .0)),
-      change-open (s .args .r) (c .before .before .before .before .before .step .result) (c .before .before .before .before .before .before .before .before .before .count .result) (sym (c .before .before .raises .ensures) ∙ c .before .if2 .taken) (sym (c .before .before .before .before .before .before .before .before .is-full .ensures) ∙ c .before .before .before .before .before .before .before .if1 .left),
-    )
+enum-known-answer : tie.Need-enum-known-answer
+enum-known-answer c = search needs
 
 same-length-2 : tie.Need-same-length-2
 same-length-2 c = search needs
@@ -56,10 +47,21 @@ same-length-2 c = search needs
 returns-2 : tie.Need-returns-2
 unfolding reading
 returns-2 c =
-    let s = c .before .before .before .before .before .before .before .before .before .before .before .before .before .before .before in
-    ap (answered (c .before .before .before .before .before .before .before .before .step .result)) (c .before .before .raise .ensures)
-    ∙ part-raised (s .pre .0) (s .pre .1) (s .args .r) (c .before .before .before .before .before .before .before .before .step .ensures) (c .before .before .before .before .before .before .before .before .before .before .before .before .count .ensures ∙ count-is (s .pre .0)) (sym (c .before .before .before .before .before .raises .ensures) ∙ c .before .before .before .before .if2 .taken)
-    (sym (c .before .before .before .before .before .before .before .before .before .before .before .is-full .ensures) ∙ c .before .before .before .before .before .before .before .before .before .before .if1 .left)
+    let s = c .before .before .before .before .before .before .before .before .before .before .before .before in
+    part-refused (s .pre .0) (s .pre .1) (s .args .r) (c .before .before .before .before .before .step .ensures) (c .before .answer .given .1)
+
+enum-told : tie.Need-enum-told
+enum-told c = search needs
+
+is-change-requires : tie.Need-is-change-requires
+is-change-requires c κs = search needs
+
+raise-requires : tie.Need-raise-requires
+raise-requires c κs =
+    let s = c .before .before .before .before .before .before .before .before .before .before .before .before .before .before in (
+      omega (arith, last-word _ (s .pre .0 .laid), whole-long (s .args .book .now) (c .before .before .before .before .before .before .before .step .last .0) (s .args .diary) (diary-fits _ (s .pre .0 .laid) (s .pre .0 .read) (s .pre .1)) (c .before .before .before .before .before .before .before .step .kept .0)),
+      change-open (s .args .r) (c .before .before .before .before .before .before .before .before .before .before .before .count .result) (sym (c .before .before .is-change .ensures) ∙ c .before .if2 .taken) (sym (c .before .before .before .before .before .before .before .before .before .before .is-full .ensures) ∙ c .before .before .before .before .before .before .before .before .before .if1 .left),
+    )
 
 same-length-3 : tie.Need-same-length-3
 same-length-3 c = search needs
@@ -67,8 +69,19 @@ same-length-3 c = search needs
 returns-3 : tie.Need-returns-3
 unfolding reading
 returns-3 c =
-    let s = c .before .before .before .before .before .before .before .before .before .before .before in
-    part-same (s .pre .0) (s .pre .1) (s .args .r) (c .before .before .before .before .step .ensures) (sym (c .before .raises .ensures) ∙ c .if2 .left)
+    let s = c .before .before .before .before .before .before .before .before .before .before .before .before .before .before .before .before .before in
+    ap (answered (c .before .before .before .before .before .before .before .before .before .before .step .result)) (c .before .before .raise .ensures)
+    ∙ part-raised (s .pre .0) (s .pre .1) (s .args .r) (c .before .before .before .before .before .before .before .before .before .before .step .ensures) (c .before .before .before .before .before .before .before .before .before .before .before .before .before .before .count .ensures ∙ count-is (s .pre .0)) (c .before .before .before .before .before .before .enum-told .given .1)
+    (sym (c .before .before .before .before .before .is-change .ensures) ∙ c .before .before .before .before .if2 .taken) (sym (c .before .before .before .before .before .before .before .before .before .before .before .before .before .is-full .ensures) ∙ c .before .before .before .before .before .before .before .before .before .before .before .before .if1 .left)
+
+same-length-4 : tie.Need-same-length-4
+same-length-4 c = search needs
+
+returns-4 : tie.Need-returns-4
+unfolding reading
+returns-4 c =
+    let s = c .before .before .before .before .before .before .before .before .before .before .before .before .before in
+    part-same (s .pre .0) (s .pre .1) (s .args .r) (c .before .before .before .before .before .before .step .ensures) (sym (c .before .is-change .ensures) ∙ c .if2 .left)
 
 pub counted-step-spec : {M : Type 1} → statement M
 counted-step-spec =
@@ -82,9 +95,13 @@ counted-step-spec =
     slice-relend-prefix-step
     slice-aggregate-step
     step-requires
-    raises-requires
-    raise-requires
+    enum-known-answer
     same-length-2
     returns-2
+    enum-told
+    is-change-requires
+    raise-requires
     same-length-3
-    returns-3)
+    returns-3
+    same-length-4
+    returns-4)
