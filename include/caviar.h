@@ -14,9 +14,9 @@
  * the arrays overlapping where one of them is written. All lengths are counted in words, not in bytes, but for a page, which is bytes,
  * and the guests of a party, which are structs.
  *
- * Threads: calls on different books may run at the same time. On one book, calls of caviar_check, caviar_ask and caviar_page may run
- * beside each other, the last with a page each; every other call that is lent a book or answers counts as writing to them, whatever its
- * requests are, so nobody else may read or write them meanwhile.
+ * Threads: calls on different books may run at the same time. On one book, calls of caviar_check, caviar_ask, caviar_charge and
+ * caviar_page may run beside each other, the last with a page each; every other call that is lent a book or answers counts as writing to
+ * them, whatever its requests are, so nobody else may read or write them meanwhile.
  *
  * SETTINGS (rules 1.1 to 1.3 and 1.7)
  *
@@ -139,7 +139,7 @@
  *      5      a is not below its limit                                                          0
  *      6      b is not below its limit                                                          0
  *      7      first after last, last past the end, or several slots for 17, 18 or 19;           0
- *             for a page: the date is past the last one
+ *             for a page: the date is past the last one; for a charge: so are its dates, or backward
  *      8      no seat, or more than the dining room has (14)                                    0
  *      9      the visitor has no leave on the slot's date (4, 6, 10)                            the slot
  *     10      the meeting does not stand (10, 12), or in no session of the date (14)            the slot
@@ -163,11 +163,13 @@
  *     28      the order is kept with another request                                            0
  *     29      the count of the commit is not the book's                                         0
  *     30      the count of the book cannot rise (1 to 16, and a party)                          0
+ *     31      a rate or the percentage of the tariff is over its limit                          0
  *
  * Questions are asked in the order of their numbers, each of all slots before the next; but 28 and 29 come behind 2, and an order that
  * passes 28 because it is kept is asked no more. The place is the lowest slot with the answer no, in the unit of the kind; for 17 it is a
  * date though the slots of kind 16 are sessions. A party is asked 1, 2 and 27, then its guests come one after the other, each with the
- * questions of kind 10 before 30, and 30 comes once, behind the last of them.
+ * questions of kind 10 before 30, and 30 comes once, behind the last of them. A charge is asked 1, 2, 6 for its meeting, 7 for its dates,
+ * and 31.
  *
  * AN EXAMPLE
  *
@@ -221,10 +223,15 @@ extern "C" {
 /* How many guests a party has at most. */
 #define CAVIAR_MOST_GUESTS 64
 
+/* The greatest rate of a tariff in cents, its greatest reduction in percent, and how many room-sessions are enough for the reduction. */
+#define CAVIAR_MOST_RATE 1000000
+#define CAVIAR_MOST_PERCENT 100
+#define CAVIAR_ROOM_SESSIONS 10
+
 /* An answer: done with a value, or refused with a number and a place. See ANSWERS above. */
 typedef struct caviar_answer {
     uint32_t number; /* 0 when done */
-    uint32_t place;  /* 0 when done, and for 1 to 8 and 22 to 30 */
+    uint32_t place;  /* 0 when done, and for 1 to 8 and 22 to 31 */
     uint32_t value;  /* 0 when refused */
 } caviar_answer;
 
@@ -253,6 +260,20 @@ typedef struct caviar_guest {
     uint32_t first; /* the first session */
     uint32_t last;  /* the last session, included */
 } caviar_guest;
+
+/* What a meeting is charged by. */
+typedef struct caviar_tariff {
+    uint32_t room;    /* cents for a conference room in a session, 0 to CAVIAR_MOST_RATE */
+    uint32_t seat;    /* cents for a lunch seat, 0 to CAVIAR_MOST_RATE */
+    uint32_t percent; /* the reduction of the room charge, 0 to CAVIAR_MOST_PERCENT */
+} caviar_tariff;
+
+/* What a charge is told: cents, or a refusal. */
+typedef struct caviar_charged {
+    uint32_t number; /* 0 when done */
+    uint32_t place;  /* 0 */
+    uint64_t value;  /* the cents; 0 when refused */
+} caviar_charged;
 
 /* How many words the book of these settings has: 727 to CAVIAR_MOST_WORDS. 0 for bad settings, those that 24 refuses: fewer than ten
  * words, not 10 + G of them, or one out of its range. (rule 9.3) */
@@ -358,6 +379,20 @@ caviar_answer caviar_page(const uint32_t *book, size_t book_len, uint32_t date, 
  *
  * The book is checked once. (section 17) */
 caviar_answer caviar_party(uint32_t *book, size_t book_len, uint32_t meeting, const caviar_guest *guests, size_t guests_len);
+
+/* What a meeting costs over the dates first to last, both included, on any words. Its room-sessions are the conference rooms that it holds
+ * in the sessions of those dates, attended or not: two rooms in one session are two. Its seats are those of its lunches on those dates.
+ * The charge is room-sessions * tariff.room + seats * tariff.seat; but with CAVIAR_ROOM_SESSIONS or more room-sessions the first product
+ * is reduced by tariff.percent percent and then rounded to the cent, a half up. Seats are never reduced.
+ *
+ *     caviar_tariff tariff = {.room = 12000, .seat = 850, .percent = 10};
+ *     caviar_charged charged = caviar_charge(book, book_len, 3, 0, 4, tariff);     meeting 3 on dates 0 to 4
+ *
+ * Done, the value is the charge in cents. Refused with 1 or 2 as by caviar_check, else with 6 for a meeting that is not below M, with 7 for
+ * first after last or last not below D, with 31 for a rate over CAVIAR_MOST_RATE or a percentage over CAVIAR_MOST_PERCENT, also where it
+ * would change nothing. No word of the book is changed. With percent = 0 the charges of all meetings add up to all rooms and seats of those
+ * dates, and a charge to those of parts of its dates. (section 20) */
+caviar_charged caviar_charge(const uint32_t *book, size_t book_len, uint32_t meeting, uint32_t first, uint32_t last, caviar_tariff tariff);
 
 #ifdef __cplusplus
 }

@@ -24,7 +24,7 @@ ROOT = Path(__file__).resolve().parent.parent
 sys.path.insert(0, str(ROOT / "tools"))
 
 from caviar_tool import explain, library, lines, main, rules, typed  # noqa: E402
-from caviar_tool.rules import Ask, Commit, Guest, Order, Party, Problem, Raw, Request  # noqa: E402
+from caviar_tool.rules import Ask, Charge, Commit, Guest, Order, Party, Problem, Raw, Request  # noqa: E402
 
 CAVIAR = ROOT / "tools" / "caviar"
 CARGO_TARGET = Path(os.environ.get("CARGO_TARGET_DIR", ROOT / "target" / "cargo"))
@@ -285,6 +285,7 @@ class Frame(Tested):
             "ask 18 date 0": "the program has no line for asking; `caviar page` and `caviar ask` take it",
             "commit 1 18 date 0": "the program has no line for a commit; `caviar page` and `caviar commit` take it",
             "comit 1 18 date 0": "there is no kind 'comit'; did you mean commit?",
+            "charge meeting 0": "the program has no line for a charge; `caviar page` and `caviar charge` take it",
             "add-hotl": "there is no kind 'add-hotl'; did you mean add-hotel?",
             "frobnicate 3": "there is no kind 'frobnicate'; `caviar kinds` lists the kinds",
             "4294967296": "4294967296 does not fit in 32 bits",
@@ -407,7 +408,7 @@ class Explain(Tested):
         no_line = "not an answer line, which is 24 lower-case hexadecimal digits"
         cases = {
             "zz": no_line, "": no_line, "0" * 23: no_line, "0" * 32: no_line, "A" * 24: no_line,
-            "0000001f" + "0" * 16: "there is no question 31",
+            "00000020" + "0" * 16: "there is no question 32",
             "000000090000000000000001": "a refusal has value 0",
             "000000000000000100000000": "a done answer has place 0",
             "000000080000000100000000": "this answer has place 0",
@@ -763,24 +764,88 @@ class Asking(Tested):
         self.complains(lacking, "page", "0", given=f"{SETTINGS}\nask")
 
 
+class Charges(Tested):
+    """What a meeting costs."""
+
+    def test_the_conversation(self):
+        """A site with charges is told what is written down, and so is each charge by the command."""
+        settings, _, told = (ROOT / "tools" / "conversations" / "bill.txt").read_text().partition("\n")
+        site, numbers = [settings], set()
+        for call, sentence in re.findall(r"^(\S.*)\n(    .*\n)", told, re.MULTILINE):
+            if call.startswith("charge "):
+                status, out, _ = caviar(*call.split(), given="\n".join(site))
+                self.assertEqual((status, out.decode()), (0, f"{call}\n{sentence}"))
+                numbers |= {int(number) for number in re.findall(r"Refused by (\d+)", sentence)}
+            site.append(call)
+        self.assertEqual(numbers, {6, 7, 31})
+        entries = typed.parse_text("\n".join(site), calls=True)
+        self.assertEqual([typed.typed(entry) for entry in entries], site)
+        self.assertEqual("".join(line + "\n" for line in explain.explained(entries, main.answered(entries)[1])), told)
+
+    def test_money(self):
+        shown = {0: "0.00", 1: "0.01", 99: "0.99", 100: "1.00", 123456: "1,234.56", 409_600_000_000: "4,096,000,000.00"}
+        for cents, text in shown.items():
+            self.assertEqual(explain.money(cents), text)
+
+    def test_a_charge_of_64_bits(self):
+        site = [SETTINGS.replace("dates 2", "dates 5").replace("capacities 4", "capacities 1000"),
+                "add-standing meeting 0 sessions 0..9", "add-lunch dining 0 meeting 0 dates 0..4 seats 1000"]
+        call = "charge meeting 0 dates 0..4 room 0 seat 1000000"
+        told = "Done: meeting 0 costs 50,000,000.00 (5000000000 cents) on dates 0 to 4."
+        self.assertEqual(self.wrote(*call.split(), given="\n".join(site)).decode(), f"{call}\n    {told}\n")
+
+    def test_every_charge_has_its_words(self):
+        rng = random.Random(20_261_120)
+        for _ in range(2000):
+            charge = Charge(*(rng.choice([0, rng.randrange(9), rng.randrange(2 ** 32)]) for _ in range(6)))
+            self.assertEqual(typed.parse_line(typed.typed(charge), False, calls=True), charge)
+            by_fields = " ".join(f"{field} {value}" for field, value in reversed(charge._asdict().items()))
+            self.assertEqual(typed.parse_line(f"charge {by_fields}", False, calls=True), charge)
+
+    def test_answers_that_cannot_be(self):
+        settings = typed.parse_line(SETTINGS, True)
+        good, bad = Charge(0, 0, 1, 1, 1, 0), Charge(0, 0, 1, 1, 1, 101)
+        with self.assertRaisesRegex(Problem, "this charge is done"):
+            explain.sentence(settings, good, (31, 0, 0))
+        with self.assertRaisesRegex(Problem, "this charge is refused by 31"):
+            explain.sentence(settings, bad, (0, 0, 7))
+
+    def test_every_complaint(self):
+        cases = {
+            "meeting 0": "a charge lacks dates, room, seat",
+            "dates 0..1 room 1 seat 1": "a charge lacks meeting",
+            "meeting 0 first 1 room 1 seat 1": "a charge lacks last",
+            "meeting 0 dates 0 room 1": "a charge lacks seat",
+            "meeting 0 dates 0 room 1 seat 1 seats 3":
+                "a charge takes no 'seats'; it takes meeting, dates, room, seat, percent",
+            "meeting 0 dates 0 room 1 seat 1 last 1": "'last' says again what was said before",
+            "meeting 0 dates 0 room x seat 1": "'x' is not a number",
+            "meeting 0 dates 0 room 1 seat 4294967296": "4294967296 does not fit in 32 bits",
+            "meeting 0 dates": "nothing comes after 'dates'",
+        }
+        for words, message in cases.items():
+            self.complains(message, "charge", *words.split(), given=SETTINGS)
+            self.complains(f"line 2: {message}", "page", "0", given=f"{SETTINGS}\ncharge {words}")
+
+
 class Commands(Tested):
     """The tables, the help, and commands that are none."""
 
     def test_the_tables(self):
         table = self.wrote("table").decode().splitlines()
-        self.assertEqual([int(line.split()[0]) for line in table[:30]], list(range(1, 31)))
+        self.assertEqual([int(line.split()[0]) for line in table[:31]], list(range(1, 32)))
         self.assertTrue(all(question in line for line, (question, _) in zip(table, rules.QUESTIONS.values())))
         kinds = self.wrote("kinds").decode().splitlines()
         self.assertEqual([line.split()[:2] for line in kinds], [[str(kind.number), kind.name] for kind in rules.KINDS])
 
     def test_help(self):
         for arguments in ([], ["frame"], ["words"], ["explain"], ["page"], ["party"], ["ask"], ["commit"],
-                          ["table"], ["kinds"]):
+                          ["charge"], ["table"], ["kinds"]):
             self.assertIn(b"usage: caviar " + " ".join(arguments).encode(), self.wrote(*arguments, "--help"))
 
     def test_commands_that_are_none(self):
         for arguments in ([], ["fram"], ["table", "1"], ["explain", "--with"], ["explain", "--without"], ["page"],
-                          ["page", "0", "1"], ["party"], ["ask"], ["commit"]):
+                          ["page", "0", "1"], ["party"], ["ask"], ["commit"], ["charge"]):
             status, out, complaint = caviar(*arguments)
             self.assertEqual((status, out), (2, b""))
             self.assertTrue(complaint.startswith("usage: caviar"), complaint)
@@ -869,6 +934,16 @@ class Documents(Tested):
             out = self.wrote(*words.split(), given=(ROOT / site).read_bytes()).decode()
             self.assertEqual("".join(f"    {line}\n" for line in out.splitlines()), expected)
 
+    def test_the_bill_of_the_readme(self):
+        """Each charge with what it is told, as the README shows it."""
+        readme = (ROOT / "README.md").read_text()
+        command = r"^    \$ tools/caviar (charge .*) < (examples/bill.txt)\n((?:    .*\n)+?)(?=\n|    \$)"
+        shown = re.findall(command, readme, re.MULTILINE)
+        self.assertEqual(len(shown), 2)
+        for words, site, expected in shown:
+            out = self.wrote(*words.split(), given=(ROOT / site).read_bytes()).decode()
+            self.assertEqual("".join(f"    {line}\n" for line in out.splitlines()), expected)
+
     def test_the_orders_of_the_readme(self):
         typed_text = (ROOT / "examples" / "orders.txt").read_bytes()
         told = self.explained(typed_text, answered(PROVED, self.wrote("frame", given=typed_text))).decode()
@@ -931,6 +1006,21 @@ class Documents(Tested):
         book, answers = library.played(typed.parse_line(SETTINGS, True), calls)
         told = [answer if isinstance(call, Ask) else answer[:3] for call, answer in zip(calls, answers)]
         self.assertEqual((told, book[len(book) - 1]), (expected, 5))
+
+    def test_the_bill_of_the_rules(self):
+        """The table of rule 20.7, on the site of examples/bill.txt, whose requests are those that the rule names."""
+        rule = (ROOT / "docs" / "RULES.md").read_text().partition("**20.7** ")[2]
+        row = r"^\| (\d+) \| (\d+) to (\d+) \| (\d+) (\d+) (\d+) \| (\d+) (\d+) \|"
+        rows = [tuple(map(int, words)) for words in re.findall(row, rule, re.MULTILINE)]
+        self.assertEqual(len(rows), 14)
+        entries = typed.parse_text((ROOT / "examples" / "bill.txt").read_text())
+        named = rule.partition("`examples/bill.txt`")[0].replace("\n", " ")
+        found = [tuple(map(int, words.split())) for words in re.findall(r"\b((?:\d+ ){6}\d+)(?=[,;: ]|$)", named)]
+        self.assertEqual(found[-8:], [tuple(entry) for entry in entries[1:]])
+        book, answers = library.played(entries[0], entries[1:])
+        self.assertEqual(answers, [(0, 0, 0)] * 8)
+        told = [library.charged(book, Charge(*words[:6])) for words in rows]
+        self.assertEqual(told, [(number, 0, value) for *_, number, value in rows])
 
     def test_the_numbers_of_the_documents(self):
         """The tables of refusal numbers go as far as the tool's."""

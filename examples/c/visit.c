@@ -1,5 +1,5 @@
 /* A visit of two dates, from C: lay a book, ask for leave, a hotel room and a meeting, see a refusal, check the book, write the
- * porter's page of a date, add a party, send an order twice, see first and then book, and take a taxi before breakfast.
+ * porter's page of a date, add a party, send an order twice, see first and then book, bill the meeting, and take a taxi before breakfast.
  *
  *     rt staticlib capi
  *     gcc -Iinclude examples/c/visit.c target/staticlib/libcapi.a -o target/visit && target/visit
@@ -92,6 +92,21 @@ static void see_first(uint32_t *book)
     say_asked("hotel room 0 for visitor 0 on date 1", caviar_ask(book, WORDS, here));
 }
 
+/* What meeting 0 costs on date 1, where it has a room in two sessions and takes a lunch for three. */
+static void bill(uint32_t *book)
+{
+    caviar_request_words lunch = {.kind = 14, .a = 0, .b = 0, .first = 1, .last = 1, .n = 3};
+    caviar_tariff tariff = {.room = 12050, .seat = 1290, .percent = 10};
+    caviar_charged charged;
+
+    say("a lunch for meeting 0 on date 1", caviar_request(book, WORDS, lunch));
+    charged = caviar_charge(book, WORDS, 0, 0, 1, tariff);
+    printf("meeting 0 on dates 0 to 1: number %u, %llu cents\n", charged.number, (unsigned long long)charged.value);
+    tariff.percent = 101;
+    charged = caviar_charge(book, WORDS, 0, 0, 1, tariff);
+    printf("the same at 101 percent: number %u, %llu cents\n", charged.number, (unsigned long long)charged.value);
+}
+
 /* The small site of docs/RULES.md, section 13, request by request. */
 static void small_site(void)
 {
@@ -112,6 +127,7 @@ static void small_site(void)
     coach_party(book);
     sent_twice(book);
     see_first(book);
+    bill(book);
 }
 
 /* A site of two dates with four ride times each, the first of which belongs to the date before: time 4, the first of date 1, is on date 0.

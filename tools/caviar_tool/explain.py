@@ -1,8 +1,8 @@
 """Answers in sentences."""
 
 from .lines import printable, settings_in
-from .rules import (BY_NUMBER, KEPT_ORDERS, MOST_CHANGES, MOST_GUESTS, MOST_WORDS, QUESTIONS, Ask, Commit, Order, Party,
-                    Problem, Raw, Settings, has_place)
+from .rules import (BY_NUMBER, KEPT_ORDERS, MEETING, MOST_CHANGES, MOST_GUESTS, MOST_PERCENT, MOST_RATE, MOST_WORDS,
+                    QUESTIONS, Ask, Charge, Commit, Order, Party, Problem, Raw, Settings, has_place)
 from .typed import typed
 
 WIDEST_ECHO = 100
@@ -245,7 +245,40 @@ def sentence_of_commit(settings, commit, answer):
     return f"Refused by 29: the change count is {answer[3]} by now, not {commit.count}. {question(29)}"
 
 
-OF_CALLS = {Party: sentence_of_party, Ask: sentence_of_ask, Commit: sentence_of_commit}
+def money(cents):
+    """`1,234.50`: cents as hundreds of them, with commas."""
+    return f"{cents // 100:,}.{cents % 100:02}"
+
+
+def fault_of_charge(settings, charge):
+    """The number that refuses a charge on a good book, and why; 0 for none."""
+    dates = settings.limit("dates")
+    if charge.meeting >= settings.limit(MEETING.limit):
+        return 6, f"there is no meeting {charge.meeting}; the meetings here are 0 to {settings.limit('meetings') - 1}"
+    if charge.first > charge.last:
+        return 7, f"date {charge.first} comes after date {charge.last}"
+    if charge.last >= dates:
+        return 7, f"there is no date {charge.last}; the dates here are 0 to {dates - 1}"
+    for what, cents in (("room", charge.room), ("seat", charge.seat)):
+        if cents > MOST_RATE:
+            return 31, f"{cents} cents for a {what} are over {MOST_RATE:,}"
+    if charge.percent > MOST_PERCENT:
+        return 31, f"{charge.percent} percent are over {MOST_PERCENT}"
+    return 0, ""
+
+
+def sentence_of_charge(settings, charge, answer):
+    """What an answer says to a charge: the cents, as money too."""
+    number, _, cents = answer
+    expected, why = fault_of_charge(settings, charge)
+    if number != expected:
+        raise Problem(f"this charge is refused by {expected}" if expected else "this charge is done")
+    if number:
+        return f"Refused by {number}: {why}. {question(number)}"
+    return f"Done: meeting {charge.meeting} costs {money(cents)} ({cents} cents) on {run_of('date', *charge[1:3])}."
+
+
+OF_CALLS = {Party: sentence_of_party, Ask: sentence_of_ask, Commit: sentence_of_commit, Charge: sentence_of_charge}
 
 
 def sentence(settings, entry, answer):

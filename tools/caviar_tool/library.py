@@ -6,7 +6,7 @@ import itertools
 from pathlib import Path
 
 from .lines import WORDS_OF_ANSWER, WORDS_OF_ORDER
-from .rules import Ask, Commit, Order, Party, Problem, Request
+from .rules import Ask, Charge, Commit, Order, Party, Problem, Request
 
 PATH = Path(__file__).resolve().parent.parent.parent / "target" / "lib" / "libcaviar.so"
 LINE_BYTES = 31
@@ -32,6 +32,18 @@ class RequestWords(ctypes.Structure):
     _fields_ = [(field, WORD) for field in Request._fields]
 
 
+class Tariff(ctypes.Structure):
+    """Two rates in cents, and a percentage."""
+
+    _fields_ = [("room", WORD), ("seat", WORD), ("percent", WORD)]
+
+
+class Charged(ctypes.Structure):
+    """A number, a place, and a value of 64 bits."""
+
+    _fields_ = [("number", WORD), ("place", WORD), ("value", ctypes.c_uint64)]
+
+
 class Guest(ctypes.Structure):
     """A guest of a party."""
 
@@ -49,7 +61,9 @@ def loaded():
         library.caviar_party.argtypes = [WORDS, LENGTH, WORD, ctypes.POINTER(Guest), LENGTH]
         library.caviar_ask.argtypes = [WORDS, LENGTH, RequestWords]
         library.caviar_commit.argtypes = [WORDS, LENGTH, WORD, RequestWords]
+        library.caviar_charge.argtypes = [WORDS, LENGTH, WORD, WORD, WORD, Tariff]
         library.caviar_ask.restype = Asked
+        library.caviar_charge.restype = Charged
         for function in (library.caviar_lay, library.caviar_orders, library.caviar_page, library.caviar_party,
                          library.caviar_commit):
             function.restype = Answer
@@ -113,8 +127,15 @@ def committed(book, commit):
     return done.number, done.place, done.value, book[len(book) - 1]
 
 
+def charged(book, charge):
+    """What a meeting costs: a number, a place and the cents."""
+    meeting, first, last, *tariff = charge
+    told = loaded().caviar_charge(book, len(book), meeting, first, last, Tariff(*tariff))
+    return told.number, told.place, told.value
+
+
 # The calls that are made one by one; requests and orders go as a list.
-SINGLY = {Party: admitted, Ask: asked, Commit: committed}
+SINGLY = {Party: admitted, Ask: asked, Commit: committed, Charge: charged}
 
 
 def played(settings, calls):

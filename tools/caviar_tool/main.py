@@ -9,7 +9,7 @@ from . import library
 from . import typed as words_typed
 from .explain import echo, explained, question, sentence, sentence_alone, sentence_of_settings
 from .lines import printable, read_answer, read_lines, text_lines, written
-from .rules import INFO, KINDS, QUESTIONS, Ask, Problem, Raw, Settings
+from .rules import INFO, KINDS, QUESTIONS, Ask, Charge, Problem, Raw, Settings
 
 BAD_INPUT = 2
 
@@ -19,12 +19,13 @@ ABOUT = """The booking book for people: typed requests to the lines that the pro
     frames < requests > answers
     caviar explain --with site.txt < answers
 
-The porter's page of a date, and what a party, an ask or a commit is told, come from the site alone, by the library
-that tools/build-library makes:
+The porter's page of a date, and what a party, an ask, a commit or a charge is told, come from the site alone, by the
+library that tools/build-library makes:
 
     caviar page 0 < site.txt
     caviar party meeting 0 visitor 1 sessions 0..1, visitor 2 session 1 < site.txt
     caviar ask add-hotel room 0 visitor 1 date 0 < site.txt
+    caviar charge meeting 0 dates 0..2 room 12000 seat 850 percent 10 < site.txt
 """
 
 PAGE = """
@@ -54,6 +55,14 @@ kinds 1 to 16 that is done raises the count by one, and so does each party.
 COMMIT = """
 The request at a change count: what `caviar ask` told at that count is what it is answered. If the site's count is
 another by now, the commit is refused by 29, and nothing changes. As a line of a typed site it joins the site.
+"""
+
+
+CHARGE = """
+What a meeting costs on the site over some dates: rates in cents for a conference room in a session and for a lunch
+seat, and by how many percent the rooms are less from ten room-sessions on. Without percent they are not.
+
+    caviar charge meeting 0 dates 0..2 room 12000 seat 850 percent 10 < site.txt
 """
 
 
@@ -143,7 +152,7 @@ def answered(entries):
 def tell_refused(entries, answers, where):
     """Says on standard error what of a site was refused."""
     of_calls = zip(explained(entries, answers), entries[1:], answers)
-    refused = [told for told, entry, answer in of_calls if answer[0] and not isinstance(entry, Ask)]
+    refused = [told for told, entry, answer in of_calls if answer[0] and not isinstance(entry, (Ask, Charge))]
     if refused:
         told = [line for sentence in refused for line in text_lines(sentence)]
         complain(f"requests that were refused and left no mark on this {where}: {len(refused)}", *told)
@@ -228,7 +237,10 @@ def parser():
     committing = command(single(words_typed.parse_commit), "commit",
                          "say what a commit is answered, on the site on standard input", COMMIT)
     committing.add_argument("words", nargs="+", metavar="WORD", help="the count, then a typed request")
-    command(table, "table", "print the refusal numbers 1 to 30 with their rules")
+    charging = command(single(words_typed.parse_charge), "charge",
+                       "say what a meeting costs, on the site on standard input", CHARGE)
+    charging.add_argument("words", nargs="+", metavar="WORD", help="meeting N dates N..N room N seat N [percent N]")
+    command(table, "table", "print the refusal numbers 1 to 31 with their rules")
     command(kinds, "kinds", "print the kinds of requests and the words that each takes")
     return top
 

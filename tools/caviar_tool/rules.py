@@ -15,6 +15,10 @@ KEPT_ORDERS = 64
 RING_WORDS = 705
 MOST_CHANGES = WORD_LIMIT - 1
 
+# The ends of a tariff, in cents and percent.
+MOST_RATE = 1_000_000
+MOST_PERCENT = 100
+
 # The one word of a request that may be left out.
 INFO = "info"
 
@@ -120,7 +124,7 @@ BY_NUMBER = {kind.number: kind for kind in KINDS}
 BY_NAME = {kind.name: kind for kind in KINDS}
 
 # The questions of section 5, as what must be so, with the kinds that they are asked of; none where a line, a book,
-# settings, a page, a party, an order or a commit are asked about.
+# settings, a page, a party, an order, a commit or a charge are asked about.
 EVERY = tuple(BY_NUMBER)
 QUESTIONS = {
     1: ("the words must be as many as their settings ask for, and these settings in range", ()),
@@ -153,6 +157,7 @@ QUESTIONS = {
     28: ("an order that is kept must come with the request that it is kept with", ()),
     29: ("the count of a commit must be the change count of the book", ()),
     30: ("a change must be counted: the change count must not be 4,294,967,295 before it", tuple(range(1, 17))),
+    31: ("the rates of a tariff must be at most 1,000,000 cents, and its percentage at most 100", ()),
 }
 
 
@@ -248,6 +253,17 @@ class Commit(NamedTuple):
 
     count: int
     request: Request
+
+
+class Charge(NamedTuple):
+    """What a meeting costs over some dates, by the rates for a room in a session and for a seat, and a percentage."""
+
+    meeting: int
+    first: int
+    last: int
+    room: int
+    seat: int
+    percent: int
 
 
 class Guest(NamedTuple):

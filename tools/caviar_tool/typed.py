@@ -9,11 +9,13 @@
     party meeting 0 visitor 1 sessions 0..1, visitor 2 session 1     # all of these guests or none
     ask add-hotel room 0 visitor 1 date 0      # what it would be answered, and the change count
     commit 12 add-hotel room 0 visitor 1 date 0      # if the change count is still 12
+    charge meeting 0 dates 0..2 room 12000 seat 850 percent 10      # what it costs; rates in cents
 
-Every word that the kind takes must be there; only `info`, and `early` of settings, may be left out, and are then 0.
+Every word that the kind takes must be there; only `info`, `early` of settings and `percent` of a charge may be left
+out, and are then 0.
 Settings come first. `raw TEXT` stands for the line TEXT as it is. Numbers are in base ten, or with 0x in base sixteen.
-A party begins with its meeting. Parties, asks and commits are for the commands of these names and for `caviar page`,
-since the program has no lines for them.
+A party begins with its meeting. Parties, asks, commits and charges are for the commands of these names and for `caviar
+page`, since the program has no lines for them.
 The words are written as they are typed: whether a request is accepted is for the program to say.
 """
 
@@ -21,8 +23,8 @@ import difflib
 import re
 
 from .lines import text_lines
-from .rules import (BY_NAME, BY_NUMBER, EARLY, LIMITS, WORD_LIMIT, Ask, Commit, Guest, Order, Party, Problem, Raw,
-                    Request, Settings, settings_of)
+from .rules import (BY_NAME, BY_NUMBER, EARLY, LIMITS, WORD_LIMIT, Ask, Charge, Commit, Guest, Order, Party, Problem,
+                    Raw, Request, Settings, settings_of)
 
 FIELDS = ("a", "b", "first", "last", "n", "info")
 RUN = ("first", "last")
@@ -31,8 +33,10 @@ A_PARTY = "party meeting 0 visitor 1 sessions 0..1, visitor 2 session 1"
 AN_ASK = "ask add-leave visitor 1 dates 0..1"
 A_COMMIT = "commit 12 add-leave visitor 1 dates 0..1"
 # What begins a line that is no request, and what the program has no line for.
-HEADS = ("settings", "order", "party", "ask", "commit", "raw")
-WITHOUT_LINE = {"party": "a party", "ask": "asking", "commit": "a commit"}
+HEADS = ("settings", "order", "party", "ask", "commit", "charge", "raw")
+WITHOUT_LINE = {"party": "a party", "ask": "asking", "commit": "a commit", "charge": "a charge"}
+CHARGE_WORDS = {"meeting": ("meeting",), "dates": RUN, "date": RUN, "first": ("first",), "last": ("last",),
+                "room": ("room",), "seat": ("seat",), "percent": ("percent",)}
 GUEST_WORDS = {"visitor": ("visitor",), "session": RUN, "sessions": RUN, "first": ("first",), "last": ("last",)}
 UNITS = {"date": "date", "dates": "date", "session": "session", "sessions": "session", "time": "time", "times": "time"}
 RAW = re.compile(r"\s*raw(?:\s(.*))?", re.DOTALL | re.IGNORECASE)
@@ -170,6 +174,21 @@ def parse_party(words):
     return Party(number(meeting), tuple(map(parse_guest, guests)))
 
 
+def parse_charge(words):
+    """A charge: its meeting, its dates and its tariff, in any order."""
+    given = {}
+    for word, text in pairs(words):
+        if word not in CHARGE_WORDS:
+            raise Problem(f"a charge takes no '{word}'; it takes meeting, dates, room, seat, percent")
+        fill(given, word, CHARGE_WORDS[word], text)
+    missing = ["meeting"] * ("meeting" not in given)
+    missing += [field for field in RUN if field not in given] if set(RUN) & set(given) else ["dates"]
+    missing += [word for word in ("room", "seat") if word not in given]
+    if missing:
+        raise Problem(f"a charge lacks {', '.join(missing)}")
+    return Charge(**{"percent": 0, **given})
+
+
 def parse_settings(words):
     given = {}
     at = words.index("capacities") if "capacities" in words else len(words)
@@ -186,6 +205,9 @@ def parse_settings(words):
     return settings_of(head + [number(text) for text in words[at + 1:]])
 
 
+WITHOUT_LINE_PARSERS = {"party": parse_party, "ask": parse_ask, "commit": parse_commit, "charge": parse_charge}
+
+
 def parse_line(line, first, calls=False):
     """What a typed line holds, or None for a blank line or a comment. Settings are for the first one; calls that the
     program has no line for are taken where they may be."""
@@ -199,7 +221,7 @@ def parse_line(line, first, calls=False):
         if not calls:
             what = WITHOUT_LINE[words[0]]
             raise Problem(f"the program has no line for {what}; `caviar page` and `caviar {words[0]}` take it")
-        return {"party": parse_party, "ask": parse_ask, "commit": parse_commit}[words[0]](words[1:])
+        return WITHOUT_LINE_PARSERS[words[0]](words[1:])
     if words[0] == "order":
         return parse_order(words[1:])
     if words[0] != "settings":
@@ -210,7 +232,8 @@ def parse_line(line, first, calls=False):
 
 
 def parse_text(text, calls=False):
-    """What a typed text holds, with parties, asks and commits where they are taken; a Problem names the line."""
+    """What a typed text holds, with calls that the program has no line for where they are taken; a Problem names the
+    line."""
     entries = []
     for at, line in enumerate(text_lines(text), 1):
         try:
@@ -269,4 +292,8 @@ def typed(entry):
         return f"ask {typed_request(entry.request)}"
     if isinstance(entry, Commit):
         return f"commit {entry.count} {typed_request(entry.request)}"
+    if isinstance(entry, Charge):
+        of = f"charge meeting {entry.meeting}{typed_slots('date', entry.first, entry.last)}"
+        percent = f" percent {entry.percent}" if entry.percent else ""
+        return f"{of} room {entry.room} seat {entry.seat}{percent}"
     return typed_party(entry) if isinstance(entry, Party) else typed_request(entry)

@@ -8,11 +8,13 @@
 //! - `calls`: laying, requests on raw books, lists, asking and committing
 //! - `orders`: the ring of kept orders, and requests that carry the number of one
 //! - `party`: guests of one meeting, all or none
+//! - `charge`: what a meeting costs
 //! - `lines`: the line program in chunks
 //! - `traffic`: the trial load that all measurements use
 
 pub mod apply;
 pub mod calls;
+pub mod charge;
 pub mod check;
 pub mod judge;
 pub mod kinds;
@@ -24,6 +26,7 @@ pub mod step;
 pub mod traffic;
 
 pub use calls::{ask, commit, lay, order, orders, request, requests, serve, serve_orders};
+pub use charge::charge;
 pub use check::check;
 pub use party::party;
 pub use site::{Answer, Request, Site};

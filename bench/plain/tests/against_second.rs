@@ -4,6 +4,7 @@ use plain::{Request, Site};
 use second::book;
 use second::calls::{on_book, Call};
 use second::gen::asking;
+use second::gen::charges;
 use second::gen::early;
 use second::gen::orders;
 use second::gen::parties::{lent, Sort};
@@ -223,6 +224,24 @@ fn asks_and_commits() {
     }
     println!("seed {}: asks and commits {sorts:?}", seed(8));
     want(&sorts, asking::Sort::all(), 2);
+}
+
+/// Charges of all sorts on lawful, damaged and junk books.
+#[test]
+fn charges_of_all_sorts() {
+    let mut rng = Rng::new(seed(9));
+    let mut sorts = BTreeMap::new();
+    for _ in 0..times(8000) {
+        let lent = charges::lent(&mut rng);
+        let charges::Lent { book, meeting, first, last, tariff } = &lent;
+        let of = [tariff.room, tariff.seat, tariff.percent];
+        let (number, cents) = plain::charge(book, *meeting, *first, *last, of);
+        let expected = second::charge::charge(book, *meeting, *first, *last, tariff);
+        assert_eq!([u64::from(number), 0, cents], expected.words(), "{meeting} {first} {last} {tariff:?}");
+        charges::Sort::of(&lent, number, cents).into_iter().for_each(|sort| count(&mut sorts, sort));
+    }
+    println!("seed {}: charges {sorts:?}", seed(9));
+    want(&sorts, charges::Sort::all(), 3);
 }
 
 /// Checking: each rule broken alone, lawful books, and lists on them.

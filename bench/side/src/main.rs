@@ -48,6 +48,7 @@ fn calls_and_program(medium: &[u32], largest: &[u32]) {
     steps::measure("largest site, half full", largest, 50_000);
     steps::orders("medium site, half full", medium, 20_000);
     steps::ask_and_commit("medium site, half full", medium);
+    steps::charge("medium site, half full", medium);
     steps::by_dates();
     steps::party();
     lines::measure();

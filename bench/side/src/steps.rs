@@ -1,9 +1,10 @@
-//! One request with its check, a list with one check, the steps of a list without it, lists of orders, asks and commits.
+//! One request with its check, a list with one check, the steps of a list without it, lists of orders, asks and commits,
+//! charges.
 
 use crate::clock::{seconds, turns};
 use crate::sites::{load, medium, of_kind, small, SEED};
 use crate::table::{row, Row};
-use caviar::{Guest, Request};
+use caviar::{Guest, Request, Tariff};
 use second::book::shown;
 use second::gen::parties::{standing_meeting, welcome};
 use second::gen::{full_book, Rng};
@@ -183,6 +184,32 @@ fn of_requests(copy: &Copy, requests: &[[u32; 7]], ours: Single, theirs: Single)
         copy.time(|words, _| call(black_box(words), black_box(request)))
     };
     turns(4 * requests.len(), [&mut || turn(&mut our_turn, ours), &mut || turn(&mut their_turn, theirs)])
+}
+
+/// What a meeting costs over all dates of a site, with its check.
+pub fn charge(name: &str, book: &[u32]) {
+    let settings = Settings::of_book(book).expect("a full book");
+    let (meetings, last) = (settings.meetings, settings.dates - 1);
+    let tariff = Tariff { room: 12_345, seat: 1250, percent: 15 };
+    let ours = |meeting| caviar::charge(black_box(book), meeting, 0, last, tariff);
+    let theirs = |meeting| plain::charge(black_box(book), meeting, 0, last, [12_345, 1250, 15]);
+    for meeting in 0..meetings {
+        let charged = ours(meeting);
+        assert_eq!((charged.number, charged.value), theirs(meeting), "the engines differ");
+    }
+    let turn = |at: &mut u32, call: &dyn Fn(u32)| {
+        *at += 1;
+        seconds(|| call(*at % meetings))
+    };
+    let (mut our_turn, mut their_turn) = (0, 0);
+    let times = turns(
+        60,
+        [&mut || turn(&mut our_turn, &|meeting| _ = black_box(ours(meeting))), &mut || {
+            turn(&mut their_turn, &|meeting| _ = black_box(theirs(meeting)))
+        }],
+    );
+    let micro = |time: f64| format!("{:.1} µs", time * 1e6);
+    row(&format!("charge, {name}"), times, micro, &format!("a meeting over {} dates, with its check", last + 1));
 }
 
 /// A party of as many guests as it may have, on the book of the line program's site, about half full.

@@ -1,6 +1,6 @@
 //! The exported functions, as include/caviar.h declares them.
 
-use crate::{Answer, Asked, Guest, Request};
+use crate::{Answer, Asked, Charged, Guest, Request, Tariff};
 
 extern "C" {
     pub fn caviar_book_len(settings: *const u32, settings_len: usize) -> u64;
@@ -46,6 +46,14 @@ extern "C" {
     ) -> Answer;
     pub fn caviar_ask(book: *const u32, book_len: usize, request: Request) -> Asked;
     pub fn caviar_commit(book: *mut u32, book_len: usize, count: u32, request: Request) -> Answer;
+    pub fn caviar_charge(
+        book: *const u32,
+        book_len: usize,
+        meeting: u32,
+        first: u32,
+        last: u32,
+        tariff: Tariff,
+    ) -> Charged;
     pub fn caviar_page(book: *const u32, book_len: usize, date: u32, page: *mut u8, page_len: usize) -> Answer;
     pub fn caviar_party(
         book: *mut u32,

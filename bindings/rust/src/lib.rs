@@ -47,6 +47,15 @@ pub const MOST_PAGE: usize = 31_744;
 /// How many guests a party has at most.
 pub const MOST_GUESTS: usize = 64;
 
+/// The greatest rate of a tariff, in cents.
+pub const MOST_RATE: u32 = 1_000_000;
+
+/// The greatest reduction of a tariff, in percent.
+pub const MOST_PERCENT: u32 = 100;
+
+/// How many room-sessions are enough for the reduction.
+pub const ROOM_SESSIONS: u32 = 10;
+
 /// An answer: done with a value, or refused.
 #[repr(C)]
 #[derive(Clone, Copy, Debug, Default, PartialEq, Eq)]
@@ -125,6 +134,40 @@ pub struct Order {
     pub request: Request,
     /// The number, which the caller chooses.
     pub order: u32,
+}
+
+/// What a meeting is charged by.
+#[repr(C)]
+#[derive(Clone, Copy, Debug, Default, PartialEq, Eq)]
+pub struct Tariff {
+    /// Cents for a conference room in a session, at most [`MOST_RATE`].
+    pub room: u32,
+    /// Cents for a lunch seat, at most [`MOST_RATE`].
+    pub seat: u32,
+    /// The reduction of the room charge in percent, at most [`MOST_PERCENT`].
+    pub percent: u32,
+}
+
+/// What a charge is told: cents, or a refusal.
+#[repr(C)]
+#[derive(Clone, Copy, Debug, Default, PartialEq, Eq)]
+pub struct Charged {
+    /// 0 when done, else the number of the first question that was answered no.
+    pub number: u32,
+    /// 0.
+    pub place: u32,
+    /// The cents; 0 when refused.
+    pub value: u64,
+}
+
+impl Charged {
+    /// The cents when done, or the number and the place.
+    pub fn result(self) -> Result<u64, Refusal> {
+        match self.number {
+            0 => Ok(self.value),
+            number => Err(Refusal { number, place: self.place }),
+        }
+    }
 }
 
 /// A guest of a party: a visitor who is to attend its meeting in these sessions.
@@ -388,6 +431,36 @@ pub fn party(book: &mut [u32], meeting: u32, guests: &[Guest]) -> Answer {
     // SAFETY: each pointer has its slice's length, the slices do not overlap, since one is `&mut`, and `Guest` is
     // the header's struct (`repr(C)`).
     unsafe { ffi::caviar_party(book.as_mut_ptr(), book.len(), meeting, guests.as_ptr(), guests.len()) }
+}
+
+/// What a meeting costs over the dates `first` to `last`, both included. Its room-sessions are the conference rooms
+/// that it holds in the sessions of those dates: two in one session are two. The charge is room-sessions times
+/// [`Tariff::room`] and the seats of its lunches on those dates times [`Tariff::seat`]; with [`ROOM_SESSIONS`] or more
+/// the first of the two is reduced by [`Tariff::percent`] percent and rounded to the cent, a half up. Refused with 1 or
+/// 2 as by [`check`], with 6 for a meeting past the limit, with 7 for dates that are backward or past the last, and
+/// with 31 for a tariff over its limits. No word of the book is changed (section 20).
+///
+/// ```
+/// use caviar::{Refusal, Request, Tariff};
+/// let settings = [3, 2, 2, 3, 2, 2, 1, 2, 1, 0, 4];
+/// let mut book = vec![0; caviar::book_len(&settings)];
+/// caviar::lay(&settings, &mut book);
+/// let stands = Request { kind: 8, a: 0, first: 0, last: 5, ..Default::default() };
+/// let room = |room, last| Request { kind: 12, a: room, b: 0, first: 0, last, ..Default::default() };
+/// let lunch = Request { kind: 14, a: 0, b: 0, first: 0, last: 0, n: 3, info: 0 };
+/// for request in [stands, room(0, 5), room(1, 3), lunch] {
+///     assert_eq!(caviar::request(&mut book, request).result(), Ok(0));
+/// }
+/// let tariff = Tariff { room: 1001, seat: 1250, percent: 25 };
+/// assert_eq!(caviar::charge(&book, 0, 0, 1, tariff).result(), Ok(8 * 1001 + 3 * 1250));
+/// assert_eq!(caviar::charge(&book, 0, 0, 2, tariff).result(), Ok(7508 + 3 * 1250));
+/// let refused = caviar::charge(&book, 0, 0, 2, Tariff { percent: 101, ..tariff });
+/// assert_eq!(refused.result(), Err(Refusal { number: 31, place: 0 }));
+/// ```
+pub fn charge(book: &[u32], meeting: u32, first: u32, last: u32, tariff: Tariff) -> Charged {
+    // SAFETY: the pointer and the length are those of one slice, which is only read, and `Tariff` is the header's struct
+    // (`repr(C)`).
+    unsafe { ffi::caviar_charge(book.as_ptr(), book.len(), meeting, first, last, tariff) }
 }
 
 /// The words of a list of requests, which has seven in each place and nothing between.

@@ -1,8 +1,9 @@
 //! A visit of two dates, from Rust: lay a book, ask for leave, a hotel room and a meeting, see a
 //! refusal, check the book, write the porter's page of a date, add a party, send an order twice, see
-//! first and then book, and take a taxi before breakfast; then a list on the largest book.
+//! first and then book, bill the meeting, and take a taxi before breakfast; then a list on the
+//! largest book.
 
-use caviar::{Answer, Asked, Guest, Request};
+use caviar::{Answer, Asked, Guest, Request, Tariff};
 
 fn say(what: &str, answer: Answer) {
     match answer.result() {
@@ -30,6 +31,7 @@ fn small_site() {
     coach_party(&mut book);
     sent_twice(&mut book);
     see_first(&mut book);
+    bill(&mut book);
 }
 
 /// Gives a meeting a room on date 1 and prints the porter's page of that date.
@@ -94,6 +96,18 @@ fn see_first(book: &mut [u32]) {
     say("commit for visitor 1", caviar::commit(book, seen_there.count, there));
     say("commit for visitor 0", caviar::commit(book, seen_here.count, here));
     say_asked("hotel room 0 for visitor 0 on date 1", caviar::ask(book, here));
+}
+
+/// What meeting 0 costs on date 1, where it has a room in two sessions and takes a lunch for three.
+fn bill(book: &mut [u32]) {
+    let lunch = Request { kind: 14, a: 0, b: 0, first: 1, last: 1, n: 3, info: 0 };
+    let tariff = Tariff { room: 12_050, seat: 1290, percent: 10 };
+
+    say("a lunch for meeting 0 on date 1", caviar::request(book, lunch));
+    let charged = caviar::charge(book, 0, 0, 1, tariff);
+    println!("meeting 0 on dates 0 to 1: number {}, {} cents", charged.number, charged.value);
+    let charged = caviar::charge(book, 0, 0, 1, Tariff { percent: 101, ..tariff });
+    println!("the same at 101 percent: number {}, {} cents", charged.number, charged.value);
 }
 
 /// A site of two dates with four ride times each, the first of which belongs to the date before: time

@@ -2,13 +2,14 @@
 //! may touch, against the one before its first word and against the one behind its last, and what is
 //! only read may not be written.
 
-use caviar::{Guest, Request};
+use caviar::{Guest, Request, Tariff};
 use differential::calls::request as ours;
 use differential::guarded::{End, Guarded};
 use differential::{seed, times, Counts};
 use second::book;
 use second::calls::{on_book, Call};
 use second::gen::asking;
+use second::gen::charges;
 use second::gen::orders;
 use second::gen::pages::{lent, Lent};
 use second::gen::parties;
@@ -62,6 +63,17 @@ fn page_call(rng: &mut Rng, end: End, answered: &mut Answered) {
     assert_eq!(answer.words(), second::page::page(&book, date, &mut theirs).words());
     assert!(bytes.words() == theirs);
     answered.add(("page", end, answer.number));
+}
+
+/// A charge, on a book that may not be written.
+fn charge_call(rng: &mut Rng, end: End, answered: &mut Answered) {
+    let charges::Lent { book, meeting, first, last, tariff } = charges::lent(rng);
+    let words = Guarded::new(&book, end).read_only();
+    let of = Tariff { room: tariff.room, seat: tariff.seat, percent: tariff.percent };
+    let told = caviar::charge(words.words(), meeting, first, last, of);
+    let expected = second::charge::charge(&book, meeting, first, last, &tariff).words();
+    assert_eq!([u64::from(told.number), u64::from(told.place), told.value], expected);
+    answered.add(("charge", end, told.number));
 }
 
 /// A party: its guests may not be written.
@@ -175,6 +187,7 @@ fn inside_what_is_lent() {
             (0..2).for_each(|_| order_calls(&mut rng, &words, end, &mut answered));
             (0..3).for_each(|_| page_call(&mut rng, end, &mut answered));
             (0..3).for_each(|_| party_call(&mut rng, end, &mut answered));
+            (0..3).for_each(|_| charge_call(&mut rng, end, &mut answered));
             (0..8).for_each(|_| ask_and_commit(&mut rng, end, &mut answered));
         }
     }
@@ -192,6 +205,7 @@ fn inside_what_is_lent() {
         ("page", vec![0, 1, 2, 7, 26]),
         ("party", vec![0, 1, 2, 27, 5, 6, 7, 9, 10, 11, 13]),
         ("ask", vec![0, 1, 2, 3, 30]),
+        ("charge", vec![0, 1, 2, 6, 7, 31]),
         ("commit", vec![0, 1, 2, 29, 3, 30]),
     ];
     for (function, numbers) in met {
@@ -217,6 +231,7 @@ fn inside_words_that_are_too_short() {
             assert_eq!(caviar::request(lent.words_mut(), Request::from_words(taxi.words())).words(), [1, 0, 0]);
             assert_eq!(caviar::ask(words, ours(&taxi)), caviar::Asked { answer: caviar::check(words), count: 0 });
             assert_eq!(caviar::commit(lent.words_mut(), 0, ours(&taxi)).words(), [1, 0, 0]);
+            assert_eq!(caviar::charge(words, 9, 1, 0, Tariff::default()).number, 1);
             let laid = caviar::lay(words, lent.words_mut());
             assert_eq!(laid.words(), [if length == site.len() { 25 } else { 24 }, 0, 0], "{length} words");
             assert!(lent.words() == &site[..length]);

@@ -178,6 +178,7 @@ fn each_clause_broken_alone() {
                 caviar::ask(&after, query).answer,
                 caviar::commit(&mut after, state.changes, query),
             ];
+            assert_eq!(caviar::charge(&after, 0, 0, 0, caviar::Tariff::default()).number, 2, "{rule:?}");
             assert!(refusals.iter().all(|answer| answer.words() == [2, 0, 0]), "{rule:?} {refusals:?}");
             assert!(after == before && answers == [7; 6] && page == [9; 40], "{rule:?}");
             broken.add(rule);

@@ -3,6 +3,7 @@
 use crate::material::Bytes;
 use crate::reached;
 use second::book;
+use second::charge::{self, Tariff};
 use second::gen::early;
 use second::gen::orders::{list_words, Sent};
 use second::machine::{Request, Settings, State};
@@ -22,6 +23,7 @@ const AGAIN: usize = 2600;
 const EARLY: usize = 2700;
 const ASK: usize = 2750;
 const COMMIT: usize = 2800;
+const CHARGE: usize = 2850;
 
 pub fn run(input: &[u8]) {
     let mut bytes = Bytes(input);
@@ -76,7 +78,7 @@ fn damaged(mut bytes: Bytes) {
     let last = Sent { order: bytes.order(), request: bytes.request() };
     let (date, length) = (bytes.word(), bytes.word() as usize % MOST_PAGE);
     let (meeting, guests) = guests(&mut bytes);
-    let seen = bytes.count();
+    let (seen, bill) = (bytes.count(), bytes.tariff());
     let mut words = run_list(&settings, &requests(&mut bytes));
     if let Some(count) = words.last_mut().filter(|_| seen.in_book) {
         *count = seen.count;
@@ -88,6 +90,7 @@ fn damaged(mut bytes: Bytes) {
     check(&words);
     call(&words, &last);
     ask_and_commit(&words, seen.count, &last.request);
+    charge(&words, [meeting, date, date], bill);
     page(&words, date, length);
     party(&words, meeting, &guests);
 }
@@ -145,6 +148,21 @@ fn ask_and_commit(before: &[u32], count: u32, request: &Request) {
     }
 }
 
+/// What a meeting costs on any words.
+fn charge(words: &[u32], [meeting, first, last]: [u32; 3], tariff: Tariff) {
+    let of = caviar::Tariff { room: tariff.room, seat: tariff.seat, percent: tariff.percent };
+    let told = caviar::charge(words, meeting, first, last, of);
+    let expected = charge::charge(words, meeting, first, last, &tariff).words();
+    assert_eq!([u64::from(told.number), u64::from(told.place), told.value], expected);
+    reached(CHARGE + told.number as usize);
+    if let Ok(state) =
+        book::calls::open(words).map_err(drop).and_then(|state| (told.number == 0).then_some(state).ok_or(()))
+    {
+        let [first, last] = [first, last].map(second::machine::Date);
+        reached(CHARGE + 40 + charge::room_sessions(&state, meeting, first, last).min(12) as usize);
+    }
+}
+
 /// The porter's page of a date on any words, over so many bytes of junk.
 fn page(words: &[u32], date: u32, length: usize) {
     let junk: Vec<u8> = (0..length).map(|at| (at * 37 + 11) as u8).collect();
@@ -181,6 +199,7 @@ fn list(mut bytes: Bytes) {
     let settings = bytes.settings();
     let (date, length) = (bytes.word(), bytes.word() as usize % MOST_PAGE);
     let (meeting, guests) = guests(&mut bytes);
+    let bill = bytes.tariff();
     let requests = requests(&mut bytes);
     let words = run_list(&settings, &requests);
     assert_eq!(caviar::check(&words).words(), [0, 0, 0]);
@@ -188,6 +207,8 @@ fn list(mut bytes: Bytes) {
     page(&words, date % settings.dates, length);
     party(&words, meeting, &guests);
     party(&words, meeting % settings.meetings, &guests);
+    charge(&words, [meeting, date, date], bill);
+    charge(&words, [meeting % settings.meetings, 0, settings.dates - 1], bill);
     let count = words[words.len() - 1];
     requests.iter().take(4).for_each(|one| ask_and_commit(&words, count.wrapping_sub(1), &one.request));
 }

@@ -1,7 +1,7 @@
 //! What libFuzzer calls with each input. A wrong answer, word or byte panics, which ends the run and
 //! keeps the input. The proved code has no coverage counters of its own, so the target tells the
-//! fuzzer what it reached: kinds, orders, asks, commits, pages and parties with their numbers, early times, rules that a
-//! book breaks.
+//! fuzzer what it reached: kinds, orders, asks, commits, charges, pages and parties with their numbers, early times, rules
+//! that a book breaks.
 #![no_main]
 
 mod functions;

@@ -1,5 +1,6 @@
 //! Bytes as test material: settings of a small site, requests that are mostly in range, raw words.
 
+use second::charge::Tariff;
 use second::machine::site::{GREATEST, HEAD};
 use second::machine::{Request, Settings};
 use second::party::Guest;
@@ -84,6 +85,12 @@ impl Bytes<'_> {
     pub fn count(&mut self) -> Count {
         let byte = self.byte();
         Count { count: if byte < 60 { u32::MAX } else { self.word() }, in_book: byte % 2 == 1 }
+    }
+
+    /// A tariff, mostly in range.
+    pub fn tariff(&mut self) -> Tariff {
+        let [room, seat, percent] = [(); 3].map(|()| self.word());
+        Tariff { room, seat, percent: if percent < 250 { percent % 101 } else { percent } }
     }
 
     pub fn guest(&mut self) -> Guest {

@@ -6,6 +6,7 @@ use second::calls::{perform, Call};
 use second::frames::{frames, lines};
 use second::gen::asking;
 use second::gen::cases::{self, Case};
+use second::gen::charges;
 use second::gen::conflicts::{conflicts_of, edges, Conflict, CONFLICTS};
 use second::gen::early;
 use second::gen::endings::Ending;
@@ -206,7 +207,7 @@ fn cases_hold_every_sort() {
                 parties::Sort::of(&lent, answer.words()).into_iter().for_each(|sort| count(&mut admitted, sort))
             }
             Case::Order { answer, .. } => count(&mut ordered, answer.number().min(31)),
-            Case::Ask { .. } | Case::Commit { .. } => {}
+            Case::Ask { .. } | Case::Commit { .. } | Case::Charge { .. } => {}
             Case::List(case) => count(&mut listed, (case.words_each, case.settings.is_some(), case.answer.number())),
             Case::Input { input, output } => assert_eq!(frames(input), *output),
         }
@@ -242,6 +243,20 @@ fn cases_have_asks_and_commits() {
     println!("seed {}: asks and commits by number {counted:?}", SEED + 5);
     want(&counted, [0, 2, 30].map(|number| ("ask", number)), 1);
     want(&counted, [0, 2, 29, 30].map(|number| ("commit", number)), 1);
+}
+
+/// Charges of the cases: each number, amounts of 32 bits and of more, nine room-sessions and ten, each way to round.
+#[test]
+fn cases_have_charges() {
+    let mut sorts = BTreeMap::new();
+    for case in cases::cases(SEED + 5) {
+        if let Case::Charge { lent, charged } = case {
+            let [number, _, value] = charged.words();
+            charges::Sort::of(&lent, number as u32, value).into_iter().for_each(|sort| count(&mut sorts, sort));
+        }
+    }
+    println!("seed {}: charges {sorts:?}", SEED + 5);
+    want(&sorts, charges::Sort::all(), 1);
 }
 
 /// What the steps of the tables reach, each sort counted.

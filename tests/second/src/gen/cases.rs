@@ -1,9 +1,10 @@
 //! Single cases for the specification check, beside the tables of steps: checked books (each rule
-//! broken alone, lawful, junk), calls on raw books, layings, pages of dates, parties, orders, asks and commits,
-//! lists of requests and of orders, and whole inputs of the line program.
+//! broken alone, lawful, junk), calls on raw books, layings, pages of dates, charges, parties, orders, asks and
+//! commits, lists of requests and of orders, and whole inputs of the line program.
 
 use super::asking;
 use super::books::{damaged, junk_book};
+use super::charges;
 use super::orders::{self, list_words, Plan, Sent};
 use super::pages::busy_state;
 use super::parties::{open_state, party};
@@ -14,11 +15,12 @@ use super::tables::{join, party_text};
 use super::Rng;
 use crate::book::{self, length, words, Rule, TAIL_WORDS};
 use crate::calls::Call;
+use crate::charge::{charge, Charged};
 use crate::frames::{frames, words_line};
 use crate::machine::{run, Answer, Asked, Date, Request, Ring, Settings, State};
 use crate::page::{self, LINE_BYTES};
 use crate::party::{self, Guest, MOST_GUESTS};
-use std::collections::BTreeMap;
+use std::collections::{BTreeMap, BTreeSet};
 
 /// How many of each sort there are: books for each rule that a book can break, then the others.
 const BOOKS_A_RULE: usize = 2;
@@ -29,6 +31,7 @@ const PAGES: usize = 18;
 const PARTIES: usize = 18;
 const ORDERS: usize = 20;
 const COUNTED: usize = 40;
+const CHARGES: usize = 20;
 const LISTS: usize = 12;
 const STREAMS: usize = 8;
 
@@ -47,6 +50,7 @@ pub enum Case {
     Order { before: Vec<u32>, sent: Sent, answer: Answer, after: Vec<u32> },
     Ask { book: Vec<u32>, request: Request, asked: Asked },
     Commit { before: Vec<u32>, count: u32, request: Request, answer: Answer, after: Vec<u32> },
+    Charge { lent: charges::Lent, charged: Charged },
     List(Listed),
     Input { input: Vec<u8>, output: Vec<u8> },
 }
@@ -74,6 +78,7 @@ pub fn cases(seed: u64) -> Vec<Case> {
     all.extend([MOST_GUESTS, MOST_GUESTS + 1].map(large_party));
     all.extend((0..ORDERS).map(|_| ordered(&mut rng)));
     all.extend((0..COUNTED).map(|_| counted(&mut rng)));
+    all.extend(some_charges(&mut rng));
     all.extend((0..LISTS).map(|turn| Case::List(listed(&mut rng, turn))));
     all.extend(inputs(&mut rng).into_iter().map(|input| Case::Input { output: frames(&input), input }));
     all
@@ -249,6 +254,26 @@ fn counted(rng: &mut Rng) -> Case {
     }
 }
 
+/// Charges, on lawful and on damaged books, until each sort is among them.
+fn some_charges(rng: &mut Rng) -> Vec<Case> {
+    let mut wanted: BTreeSet<charges::Sort> = charges::Sort::all().into_iter().collect();
+    let mut all = Vec::new();
+    while !wanted.is_empty() {
+        let lent = charges::lent(rng);
+        if lent.book.len() > MOST_WORDS {
+            continue;
+        }
+        let charged = charge(&lent.book, lent.meeting, lent.first, lent.last, &lent.tariff);
+        let [number, _, value] = charged.words();
+        let sorts = charges::Sort::of(&lent, number as u32, value);
+        if all.len() < CHARGES || !sorts.is_disjoint(&wanted) {
+            wanted.retain(|sort| !sorts.contains(sort));
+            all.push(Case::Charge { lent, charged });
+        }
+    }
+    all
+}
+
 /// Lists of seven and of eight words, with a remainder and too little room in turn; on a book, on one that is damaged,
 /// and with a laying, good or refused.
 fn listed(rng: &mut Rng, turn: usize) -> Listed {
@@ -318,6 +343,12 @@ fn short_stream(rng: &mut Rng) -> Vec<u8> {
     }
 }
 
+fn charge_text(lent: &charges::Lent, charged: &Charged) -> String {
+    let charges::Lent { book, meeting, first, last, tariff } = lent;
+    let asked = format!("{meeting} {first} {last} : {} {} {}", tariff.room, tariff.seat, tariff.percent);
+    format!("charge {} : {asked} -> {}\n", join(book), join(&charged.words()))
+}
+
 fn list_text(case: &Listed) -> String {
     let settings = case.settings.as_ref().map_or(String::new(), |words| format!("{} : ", join(words)));
     let asked = format!("{} : {settings}{} : {}", case.words_each, join(&case.before), join(&case.list));
@@ -361,6 +392,7 @@ fn case_text(case: &Case) -> String {
             let asked = format!("{} : {count} : {}", join(before), join(&request.words()));
             format!("commit {asked} -> {} : {}\n", join(&answer.words()), join(after))
         }
+        Case::Charge { lent, charged } => charge_text(lent, charged),
         Case::List(case) => list_text(case),
         Case::Input { input, output } => format!("input {} -> {}\n", join(input), join(output)),
     }

@@ -1,9 +1,11 @@
 //! Seeded test material: settings, request lists, damaged books, damaged byte streams, calls for a
-//! page, parties, orders, rides at early times, asks and commits. The same seed gives the same material on every machine.
+//! page, parties, orders, rides at early times, asks and commits, charges. The same seed gives the same material on every
+//! machine.
 
 pub mod asking;
 pub mod books;
 pub mod cases;
+pub mod charges;
 pub mod conflicts;
 pub mod early;
 pub mod endings;

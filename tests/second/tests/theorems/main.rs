@@ -3,6 +3,7 @@
 //! in which its premise held and wants enough of every sort, so that none passes emptily.
 
 mod asking;
+mod charges;
 mod common;
 mod frames;
 mod locality;
