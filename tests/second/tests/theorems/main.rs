@@ -4,8 +4,10 @@
 
 mod asking;
 mod common;
+mod exchange;
 mod frames;
 mod locality;
+mod merged;
 mod orders;
 mod pages;
 mod parties;
@@ -13,5 +15,6 @@ mod queries;
 mod reachable;
 mod removal;
 mod repeat;
+mod sharing;
 mod slots;
 mod undo;
