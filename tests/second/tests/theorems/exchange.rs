@@ -40,7 +40,7 @@ impl List {
     }
 }
 
-/// Calls of every sort, and two neighbours behind which others come, from the state on.
+/// The list of these calls, these two, and others behind them, of every sort.
 fn list_of(rng: &mut Rng, start: &State, before: Vec<Call>, pair: (Request, Request)) -> List {
     let mut state = told(start, &before).1;
     for request in [&pair.0, &pair.1] {
@@ -170,12 +170,60 @@ fn dates_of_slots() {
     counts.want(SEED, "pairs by date shared, and shared by the number of times", sorts, 20);
 }
 
+/// What the lists were that the neighbours of the next test stand in.
+struct Met {
+    done: Counts<u32>,
+    refused: Counts<u32>,
+    edges: Counts<(&'static str, &'static str)>,
+    by_number: Counts<bool>,
+    around: Counts<(&'static str, bool)>,
+}
+
+fn call_name(call: &Call) -> &'static str {
+    match call {
+        Call::Request(_) => "request",
+        Call::Order { .. } => "order",
+        Call::Party { .. } => "party",
+        Call::Ask(_) => "ask",
+        Call::Commit { .. } => "commit",
+    }
+}
+
+impl Met {
+    fn add(&mut self, state: &State, list: &List, answers: [Reply; 2]) {
+        let (left, right) = (&list.left, &list.right);
+        for (request, reply) in [left, right].into_iter().zip(answers) {
+            match reply.answer().number() {
+                0 => self.done.add(request.kind),
+                number => self.refused.add(number),
+            }
+        }
+        let edge = edge_of(state, left, right).or_else(|| edge_of(state, right, left));
+        edge.into_iter().for_each(|units| self.edges.add(units));
+        self.by_number.add(share_by_number(state, left, right));
+        list.before.iter().for_each(|call| self.around.add((call_name(call), false)));
+        list.behind.iter().for_each(|call| self.around.add((call_name(call), true)));
+    }
+
+    fn want(&self, seed: u64) {
+        self.done.want(seed, "changed places, done by kind", 1..=20, 40);
+        self.refused.want(seed, "changed places, refused by number", 3..=22, 10);
+        let units = ["dates", "sessions", "times"];
+        let all = units.into_iter().flat_map(|one| units.map(|other| (one, other)));
+        self.edges.want(seed, "at the edge of a date, by the units of the earlier and the later", all, 40);
+        self.by_number.want(seed, "sharing a date by the numbers of times, though by 2.2 none", [true], 100);
+        let calls = ["request", "order", "party", "ask", "commit"];
+        let sorts = calls.into_iter().flat_map(|call| [(call, false), (call, true)]);
+        self.around.want(seed, "calls of these lists, and whether behind the two", sorts, 100);
+    }
+}
+
 /// Rule 21.2, from fresh books and from others, at counts that can rise by two.
 #[test]
 fn neighbours_change_places_in_lists_of_calls() {
     let mut rng = Rng::new(SEED + 1);
-    let (mut done, mut refused) = (Counts::new(), Counts::new());
-    let (mut edges, mut by_number) = (Counts::new(), Counts::new());
+    let (done, refused, edges) = (Counts::new(), Counts::new(), Counts::new());
+    let mut met = Met { done, refused, edges, by_number: Counts::new(), around: Counts::new() };
     for turn in 0..400 {
         let (start, opened) = if turn % 2 == 0 {
             let fresh = State::empty(site(&mut rng, Size::Small));
@@ -191,23 +239,10 @@ fn neighbours_change_places_in_lists_of_calls() {
         for _ in 0..20 {
             let Some(pair) = apart(&mut rng, &state) else { continue };
             let list = list_of(&mut rng, &start, before.clone(), pair);
-            for (request, reply) in [pair.0, pair.1].iter().zip(change_places(&start, &list)) {
-                match reply.answer().number() {
-                    0 => done.add(request.kind),
-                    number => refused.add(number),
-                }
-            }
-            let edge = edge_of(&state, &pair.0, &pair.1).or_else(|| edge_of(&state, &pair.1, &pair.0));
-            edge.into_iter().for_each(|units| edges.add(units));
-            by_number.add(share_by_number(&state, &pair.0, &pair.1));
+            met.add(&state, &list, change_places(&start, &list));
         }
     }
-    done.want(SEED + 1, "changed places, done by kind", 1..=20, 40);
-    refused.want(SEED + 1, "changed places, refused by number", 3..=22, 10);
-    let units = ["dates", "sessions", "times"];
-    let all = units.into_iter().flat_map(|one| units.map(|other| (one, other)));
-    edges.want(SEED + 1, "at the edge of a date, by the units of the earlier and the later", all, 40);
-    by_number.want(SEED + 1, "sharing a date by the numbers of times, though by 2.2 none", [true], 100);
+    met.want(SEED + 1);
 }
 
 /// The only exception: the count before the two is one below the greatest, and each would be done as a change. Then the
