@@ -5,11 +5,12 @@ use crate::common::{dates_of, is_done, no_date_shared, some_state, told, Counts}
 use second::book::{self, words};
 use second::calls::{on_book, Call, Reply};
 use second::gen::asking::{calls, fitting, GREATEST};
-use second::gen::orders::{some_book, Plan};
+use second::gen::orders::{list_words, some_book, Plan, Sent};
 use second::gen::requests::{candidate, opening};
 use second::gen::{site, Rng, Size};
 use second::machine::kinds::{changes_something, uses, Unit};
 use second::machine::questions::first_before_30;
+use second::machine::ring::NO_ORDER;
 use second::machine::{step, Date, Request, State};
 
 const SEED: u64 = 0x7ed0;
@@ -284,7 +285,7 @@ fn one_is_done(start: &State, list: &List) {
     }
 }
 
-/// The same on words, those of no lawful book included: calls one after the other, and lists of requests as words.
+/// The same on words, those of no lawful book included: calls one after the other, and lists as words.
 #[test]
 fn neighbours_change_places_on_words() {
     let mut rng = Rng::new(SEED + 3);
@@ -312,18 +313,30 @@ fn neighbours_change_places_on_words() {
     counts.want(SEED + 3, "words by the answer to the second (3 for more)", 0..=3, 10);
 }
 
-/// Requests as words: three words of answers change places with three, and all others stay.
+/// Requests and orders as words, on the book and from laying it: three words of answers change places with three, and all
+/// others stay.
 fn as_a_list(rng: &mut Rng, state: &State, book: &[u32], pair: (Request, Request)) {
-    let [before, behind] = [0; 2].map(|_| fitting(rng, state));
-    let listed = |middle: [Request; 2]| {
-        let list = [&[before][..], &middle, &[behind]].concat().iter().flat_map(Request::words).collect::<Vec<u32>>();
+    let [before, behind] = [0; 2].map(|_| Sent { order: rng.below(3), request: fitting(rng, state) });
+    let settings = state.settings.words();
+    let listed = |form: &str, middle: [Request; 2]| {
+        let [one, other] = middle.map(|request| Sent { order: NO_ORDER, request });
+        let orders = [before, one, other, behind];
+        let requests: Vec<u32> = orders.iter().flat_map(|sent| sent.request.words()).collect();
+        let orders = list_words(&orders);
         let (mut book, mut answers) = (book.to_vec(), vec![77; 14]);
-        let answer = book::requests(&mut book, &list, &mut answers);
+        let answer = match form {
+            "requests" => book::requests(&mut book, &requests, &mut answers),
+            "orders" => book::orders(&mut book, &orders, &mut answers),
+            "serve" => book::serve(&settings, &mut book, &requests, &mut answers),
+            _ => book::serve_orders(&settings, &mut book, &orders, &mut answers),
+        };
         (answer, answers, book)
     };
-    let (answer, mut answers, one) = listed([pair.0, pair.1]);
-    let (answer_exchanged, answers_exchanged, other) = listed([pair.1, pair.0]);
-    answers[3..9].rotate_left(3);
-    assert_eq!((answer, answers), (answer_exchanged, answers_exchanged), "{pair:?}");
-    assert!(one == other, "{pair:?}");
+    for form in ["requests", "orders", "serve", "serve_orders"] {
+        let (answer, mut answers, one) = listed(form, [pair.0, pair.1]);
+        let (answer_exchanged, answers_exchanged, other) = listed(form, [pair.1, pair.0]);
+        answers[3..9].rotate_left(3);
+        assert_eq!((answer, answers), (answer_exchanged, answers_exchanged), "{form} {pair:?}");
+        assert!(one == other, "{form} {pair:?}");
+    }
 }
