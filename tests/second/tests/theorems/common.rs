@@ -1,5 +1,6 @@
 //! Deep states, walks of requests over them, and counts of what was met.
 
+use second::calls::{perform, Call, Reply};
 use second::gen::requests::aim;
 use second::gen::{deep_state, list, sites, Mix, Rng, Size};
 use second::machine::kinds::{uses, Unit};
@@ -98,6 +99,13 @@ pub fn after(state: &State, request: &Request) -> (Answer, State) {
     (answer, state)
 }
 
+/// The replies to a list of calls, and the state after it.
+pub fn told(start: &State, calls: &[Call]) -> (Vec<Reply>, State) {
+    let mut state = start.clone();
+    let replies = calls.iter().map(|call| perform(&mut state, call)).collect();
+    (replies, state)
+}
+
 /// The state with its change count raised by so many.
 pub fn raised(state: &State, by: u32) -> State {
     State { changes: state.changes + by, ..state.clone() }
@@ -151,4 +159,18 @@ pub fn dates_of(state: &State, request: &Request) -> Option<(Date, Date)> {
 
 pub fn on_date(state: &State, request: &Request, date: Date) -> bool {
     dates_of(state, request).is_some_and(|(first, last)| first <= date && date <= last)
+}
+
+/// The dates of a request's slots, which go from the first's to the last's (rule 2.4); None where it has no slot: its kind
+/// is not 1..20, or its first slot is after its last.
+pub fn slot_dates(state: &State, request: &Request) -> Option<(Date, Date)> {
+    dates_of(state, request).filter(|_| request.first <= request.last)
+}
+
+/// No slot of the one is on the date of a slot of the other (rule 21.1).
+pub fn no_date_shared(state: &State, one: &Request, other: &Request) -> bool {
+    match (slot_dates(state, one), slot_dates(state, other)) {
+        (Some(one), Some(other)) => one.1 < other.0 || other.1 < one.0,
+        _ => true,
+    }
 }

@@ -5,8 +5,10 @@
 mod asking;
 mod charges;
 mod common;
+mod exchange;
 mod frames;
 mod locality;
+mod merged;
 mod orders;
 mod pages;
 mod parties;
@@ -14,5 +16,6 @@ mod queries;
 mod reachable;
 mod removal;
 mod repeat;
+mod sharing;
 mod slots;
 mod undo;
