@@ -81,8 +81,11 @@ order-removes b n r a c e new one two k v q =
 
 pub with-commit : (b : List ℕ) (n : ℕ) (r : Request) (a : Answer) (c : List ℕ) → answered a c ≡ callCommit b n r
     → (answered a c ≡ callCommit b n r) × RemovalKept b r a c
-with-commit b n r a c e = (e, λ one two k v q. subst (λ (d : List ℕ). Removed (ledgerOf b .diary) (ledgerOf d .diary) (r .b) (r .first) (r .last) v) (sym (ap (λ (x : Called). x .book) e))
-    (commit-removal b (record { one = one; two = two }) n r k v (sym (ap (λ (x : Called). x .reply) e) ∙ ap told q)))
+with-commit b n r a c e = (
+  e,
+  λ one two k v q. subst (λ (d : List ℕ). Removed (ledgerOf b .diary) (ledgerOf d .diary) (r .b) (r .first) (r .last) v) (sym (ap (λ (x : Called). x .book) e))
+      (commit-removal b (record { one = one; two = two }) n r k v (sym (ap (λ (x : Called). x .reply) e) ∙ ap told q)),
+)
 
 pub with-removal : (b : List ℕ) (n : ℕ) (r : Request) (a : Answer) (c : List ℕ) → answered a c ≡ callOrder b n r
     → (answered a c ≡ callOrder b n r) × OrderedRemovalKept b n r a c

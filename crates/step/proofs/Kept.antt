@@ -262,7 +262,7 @@ module _ {S : Settings} {b : List ℕ} (good : GoodBook S b) where
         let rest : drop (length b - 1 - k) (drop k c) ≡ after .changes ∷ []
         = ap (drop (length b - 1 - k)) behind-there ∙ drop-at (tailWords (ledgerOf b .tail)) (after .changes ∷ []) (length b - 1 - k) tail-there in
         let put : take k c ++ (w ++ drop (length b - 1 - k) (drop k c))
-            ≡ words (after .diary) ++ (tailWords (noted (ledgerOf b .tail) n r (countedStep (ledgerOf b .diary) (ledgerOf b .changes) r .answer)) ++ (after .changes ∷ []))
+        ≡ words (after .diary) ++ (tailWords (noted (ledgerOf b .tail) n r (countedStep (ledgerOf b .diary) (ledgerOf b .changes) r .answer)) ++ (after .changes ∷ []))
         = ap₂ (λ (u v : List ℕ). u ++ v) front
         (ap₂ (λ (u v : List ℕ). u ++ v) (t ∙ ap (λ (a : Answer). tailWords (noted (ledgerOf b .tail) n r a)) is) rest) in
         ap₂ answered is put ∙ ap (λ (o : Option ℕ). called (answerOrder (ledgerOf b) n r o)) (sym o)
