@@ -914,35 +914,23 @@ class Documents(Tested):
         self.assertIn(f"{command}{indented}\n", (ROOT / "README.md").read_text())
         self.assertIn(f"\n\n{indented}", (ROOT / "docs" / "RULES.md").read_text())
 
-    def test_the_parties_of_the_readme(self):
-        """Each command with what it writes, as the README shows it."""
-        readme = (ROOT / "README.md").read_text()
-        command = r"^    \$ tools/caviar (party .*) < (examples/coach.txt)\n((?:    .*\n)+?)(?=\n|    \$)"
-        shown = re.findall(command, readme, re.MULTILINE)
-        self.assertEqual(len(shown), 2)
-        for words, site, expected in shown:
-            out = self.wrote(*words.split(), given=(ROOT / site).read_bytes()).decode()
+    def as_shown(self, words, site, count):
+        """So many commands of the README on a site, each with what it writes, as the README shows it."""
+        command = rf"^    \$ tools/caviar ((?:{words}) .*) < (examples/{site})\n((?:    .*\n)+?)(?=\n|    \$)"
+        shown = re.findall(command, (ROOT / "README.md").read_text(), re.MULTILINE)
+        self.assertEqual(len(shown), count)
+        for typed, lent, expected in shown:
+            out = self.wrote(*typed.split(), given=(ROOT / lent).read_bytes()).decode()
             self.assertEqual("".join(f"    {line}\n" for line in out.splitlines()), expected)
+
+    def test_the_parties_of_the_readme(self):
+        self.as_shown("party", "coach.txt", 2)
 
     def test_the_offices_of_the_readme(self):
-        """Each ask and commit with what it is told, as the README shows it."""
-        readme = (ROOT / "README.md").read_text()
-        command = r"^    \$ tools/caviar ((?:ask|commit) .*) < (examples/offices.txt)\n((?:    .*\n)+?)(?=\n|    \$)"
-        shown = re.findall(command, readme, re.MULTILINE)
-        self.assertEqual(len(shown), 3)
-        for words, site, expected in shown:
-            out = self.wrote(*words.split(), given=(ROOT / site).read_bytes()).decode()
-            self.assertEqual("".join(f"    {line}\n" for line in out.splitlines()), expected)
+        self.as_shown("ask|commit", "offices.txt", 3)
 
     def test_the_bill_of_the_readme(self):
-        """Each charge with what it is told, as the README shows it."""
-        readme = (ROOT / "README.md").read_text()
-        command = r"^    \$ tools/caviar (charge .*) < (examples/bill.txt)\n((?:    .*\n)+?)(?=\n|    \$)"
-        shown = re.findall(command, readme, re.MULTILINE)
-        self.assertEqual(len(shown), 2)
-        for words, site, expected in shown:
-            out = self.wrote(*words.split(), given=(ROOT / site).read_bytes()).decode()
-            self.assertEqual("".join(f"    {line}\n" for line in out.splitlines()), expected)
+        self.as_shown("charge", "bill.txt", 2)
 
     def test_the_orders_of_the_readme(self):
         typed_text = (ROOT / "examples" / "orders.txt").read_bytes()

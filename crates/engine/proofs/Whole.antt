@@ -16,7 +16,7 @@ use Rattle.model.specs.Machine.{countedStep, Call, ordered, ask, commit, told, 
 use Rattle.model.specs.Reading.{settingsOf}
 use Rattle.model.specs.Ledger.{bookLength, ledgerOf}
 use Rattle.model.specs.Laws.{wellLaid, lawful}
-use Rattle.model.specs.Calls.{Called, called, refusing, callOn, callOrder, callCommit, calls, check, lay, freshBook, settingsGood, callsOf, answerable, listed, callList, serveList}
+use Rattle.model.specs.Calls.{Called, called, callOn, callOrder, callCommit, calls, check, lay, freshBook, settingsGood, callsOf, answerable, listed, callList, serveList}
 use Rattle.model.proofs.Calls.{from-fresh}
 use Rattle.model.proofs.Shows.{good-valid}
 use Rattle.model.specs.Removal.{Removed, RemovalKept, OrderedRemovalKept}
@@ -24,11 +24,8 @@ use Rattle.model.proofs.Removal.{removal, commit-removal}
 use Rattle.model.proofs.Ledger.{words-ledgerOf}
 use Rattle.book.specs.Good.{GoodBook, answered}
 use Rattle.engine.specs.Lists.{All, asListed}
-use Rattle.checking.proofs.Verdicts.{done-good}
+use Rattle.checking.proofs.Verdicts.{done-refused, done-good}
 use Rattle.step.proofs.Kept.{fresh-good, good-call}
-
-done-refused : {n p v : ℕ} {A : Type 0} → Done v ≡ Refused n p → A
-done-refused e = absurd (let z : _≡_ {A = ℕ} 0 1 = cc in omega arith)
 
 -- calls that are the same were told the same answer
 answer-is : {a f : Answer} {b c : List ℕ} → answered a b ≡ answered f c → a ≡ f
@@ -36,19 +33,6 @@ answer-is {a} {f} e = let q : told a ≡ told f = ap (λ (x : Called). x .reply)
 
 told-listed : {a f : Answer} {b c : List ℕ} (w : List ℕ) → answered a b ≡ answered f c → asListed a b w ≡ asListed f c w
 told-listed w e = ap₂ (λ (x : Answer) (y : List ℕ). asListed x y w) (answer-is e) (ap (λ (x : Called). x .book) e)
-
--- the book after a refusal of question 1 or 2
-abbrev refusedBy : List ℕ → Call → Answer → Called
-refusedBy b c a = record { reply = refusing c a; book = b }
-
-pub call-refused : (b : List ℕ) (c : Call) {n p : ℕ} → check b ≡ Refused n p → refusedBy b c (Refused n p) ≡ callOn b c
-unfolding check callOn
-call-refused b c {n} {p} e = go (wellLaid b) refl (lawful b) refl e
-  where
-    go : (o : Bool) → wellLaid b ≡ o → (t : Bool) → lawful b ≡ t → check b ≡ Refused n p → refusedBy b c (Refused n p) ≡ callOn b c
-    go true q true s e = done-refused (rw (q, s) at e)
-    go true q false s e = rw (q, s) (ap (refusedBy b c) (sym (rw (q, s) at e)))
-    go false q t s e = rw q (ap (refusedBy b c) (sym (rw q at e)))
 
 -- what is asked leaves a good book, and tells what is foreseen and the count
 pub asked-good : {S : Settings} {b : List ℕ} → GoodBook S b → (r : Request) {a : Answer} {n : ℕ}

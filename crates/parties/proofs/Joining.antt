@@ -21,8 +21,7 @@ use Rattle.model.specs.Machine.{stepped}
 use Rattle.model.specs.Words.{diaryLength, words}
 use Rattle.model.specs.Reading.{stateOf, readState}
 use Rattle.model.specs.Ledger.{Ledger, ledgerOf, bookWords}
-use Rattle.model.specs.Laws.{wellLaid, lawful}
-use Rattle.model.specs.Calls.{Called, called, callOn, callParty, check}
+use Rattle.model.specs.Calls.{Called, called, callParty}
 use Rattle.model.proofs.Laws.{Sound}
 use Rattle.model.proofs.Sound.{book-sound}
 use Rattle.model.proofs.ReadBack.{stateOf-words}
@@ -35,12 +34,10 @@ use Rattle.model.proofs.Undo.{attend, undo-added}
 use Rattle.model.proofs.Party.{accepted-guest, added, joined-on, joined-off, admit-unfit}
 use Rattle.book.specs.Good.{Good, GoodBook, answered, inWords}
 use Rattle.book.proofs.Goods.{good-laid, good-state, good-words}
+use Rattle.checking.proofs.Verdicts.{done-refused}
 use Rattle.step.proofs.Kept.{good-diary, good-call, part-good, count-is}
 use Rattle.parties.specs.Guests.{guestOf, guestsOf, guestRequest, Reaches, noneYet, oneMore, Within, Adds, TakenBack, lastAsked, ofParty, Lent}
 use Rattle.parties.proofs.Guests.{from, from-first, from-next}
-
-done-refused : {n p v : ℕ} {A : Type 0} → Done v ≡ Refused n p → A
-done-refused e = absurd (let z : _≡_ {A = ℕ} 0 1 = cc in omega arith)
 
 refused-done : {n p v : ℕ} {A : Type 0} → Refused n p ≡ Done v → A
 refused-done e = done-refused (sym e)
@@ -283,16 +280,6 @@ module _ {S : Settings} {b : List ℕ} (good : GoodBook S b) {k : ℕ} (e : k �
         ∙ sym (party-is
         ∙ ap (λ (o : Counted). called (stepped (ledgerOf b .tail) o))
         (counted-all (ledgerOf b .diary) (ledgerOf b .changes) r (stateOf d) (last-is ∙ f)))
-
--- questions 1 and 2, which come first
-pub not-good : (b : List ℕ) (m : ℕ) (gs : List Guest) {n p : ℕ} → check b ≡ Refused n p → answered (Refused n p) b ≡ callParty b m gs
-unfolding check callOn
-not-good b m gs {n} {p} e = go (wellLaid b) refl (lawful b) refl e
-  where
-    go : (o : Bool) → wellLaid b ≡ o → (t : Bool) → lawful b ≡ t → check b ≡ Refused n p → answered (Refused n p) b ≡ callParty b m gs
-    go true q true s e = done-refused (rw (q, s) at e)
-    go true q false s e = rw (q, s) (ap (λ (x : Answer). answered x b) (sym (rw (q, s) at e)))
-    go false q t s e = rw q (ap (λ (x : Answer). answered x b) (sym (rw q at e)))
 
 -- question 27, and the party behind it
 module _ {S : Settings} {b : List ℕ} (good : GoodBook S b) (m : ℕ) {n : ℕ} {w : List ℕ} (gs : List Guest) (lent : Lent n w gs) where

@@ -26,14 +26,3 @@ pub fn on_book(words: &mut [u32], call: &Call) -> Vec<u32> {
         Call::Commit { count, request: asked } => caviar::commit(words, *count, request(asked)).words().to_vec(),
     }
 }
-
-/// The sort of a call, in a word.
-pub fn name(call: &Call) -> &'static str {
-    match call {
-        Call::Request(_) => "request",
-        Call::Order { .. } => "order",
-        Call::Party { .. } => "party",
-        Call::Ask(_) => "ask",
-        Call::Commit { .. } => "commit",
-    }
-}

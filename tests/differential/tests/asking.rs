@@ -2,7 +2,7 @@
 //! greatest; lists of calls of every sort; what was seen is what a commit gets; offices in threads over one book.
 
 use caviar::{Asked, Request};
-use differential::calls::{name, on_book, request as ours};
+use differential::calls::{on_book, request as ours};
 use differential::{seed, times, Counts};
 use second::book;
 use second::calls::{self, perform, Call};
@@ -39,7 +39,7 @@ fn calls_of_all_sorts() {
             Ok(state) => Sort::of(&state, &call.call).into_iter().for_each(|sort| sorts.add(sort)),
             Err(_) => assert!(told[1..].iter().all(|word| *word == 0)),
         }
-        numbers.add((name(&call.call), told[0].min(31)));
+        numbers.add((call.call.name(), told[0].min(31)));
     }
     println!("seed {}: {lents} calls, by sort and number: {numbers}; {sorts}", seed(80));
     sorts.assert_each(Sort::all(), 5);
@@ -143,7 +143,7 @@ fn lists_of_calls() {
             let told = on_book(&mut words, &call);
             assert_eq!(told, perform(&mut state, &call).words(), "{call:?}");
             assert!(words == book::words(&state), "{call:?}");
-            seen.add((name(&call), told[0] == 0));
+            seen.add((call.name(), told[0] == 0));
             let Call::Commit { count, request } = &call else { continue };
             if told[0] != 29 {
                 let there = &points[count];

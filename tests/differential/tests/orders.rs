@@ -2,7 +2,7 @@
 //! lists of eight words; rings that no list made; each clause of the ring's law broken alone; a client that loses answers.
 
 use caviar::{Guest, Order, Request};
-use differential::calls::{name, on_book, request as ours};
+use differential::calls::{on_book, request as ours};
 use differential::{seed, times, Counts};
 use second::book::{self, Rule};
 use second::calls::{perform, Call};
@@ -234,7 +234,7 @@ fn lists_of_calls_from_fresh() {
             let told = on_book(&mut words, call);
             assert_eq!(told, perform(&mut machine, call).words(), "{call:?}");
             assert!(words == book::words(&machine), "{call:?}");
-            seen.add((name(call), told[0] == 0));
+            seen.add((call.name(), told[0] == 0));
         }
         assert_eq!(caviar::check(&words).words(), [0, 0, 0]);
         page_of(&mut rng, &words, &machine);

@@ -14,6 +14,19 @@ pub enum Call {
     Commit { count: u32, request: Request },
 }
 
+impl Call {
+    /// The sort of a call, in a word.
+    pub fn name(&self) -> &'static str {
+        match self {
+            Call::Request(_) => "request",
+            Call::Order { .. } => "order",
+            Call::Party { .. } => "party",
+            Call::Ask(_) => "ask",
+            Call::Commit { .. } => "commit",
+        }
+    }
+}
+
 /// What a call is told: an answer, and where it asks the change count too.
 #[derive(Clone, Copy, Debug, PartialEq, Eq)]
 pub enum Reply {

@@ -6,8 +6,8 @@ use Rattle.model.specs.Site.{validSettings}
 use Rattle.model.proofs.Ledger.{laid-valid, last-word}
 use Rattle.book.proofs.Goods.{ranges-by}
 use Rattle.step.proofs.Kept.{count-is}
-use Rattle.checking.proofs.Verdicts.{done-good}
-use Rattle.engine.proofs.Whole.{call-refused, asked-good}
+use Rattle.checking.proofs.Verdicts.{call-refused, done-good}
+use Rattle.engine.proofs.Whole.{asked-good}
 use borrow.Author.Needs.{needs}
 use Rattle.engine.proofs.ask.Statement.{statement}
 use Rattle.engine.proofs.ask.Tie as tie

@@ -4,8 +4,8 @@ use mathlib.Core.Path.{sym, _∙_}
 use Rattle.model.specs.Machine.{commit}
 use Rattle.model.proofs.Ledger.{last-word}
 use Rattle.step.proofs.Kept.{count-is}
-use Rattle.checking.proofs.Verdicts.{done-good}
-use Rattle.engine.proofs.Whole.{call-refused, other-count, same-count, with-commit}
+use Rattle.checking.proofs.Verdicts.{call-refused, done-good}
+use Rattle.engine.proofs.Whole.{other-count, same-count, with-commit}
 use borrow.Author.Needs.{needs}
 use Rattle.engine.proofs.commit.Statement.{statement}
 use Rattle.engine.proofs.commit.Tie as tie

@@ -4,8 +4,8 @@ use mathlib.Core.Path.{sym, _∙_}
 use borrow.Author.Needs.{needs}
 use Rattle.model.specs.Machine.{ordered}
 use Rattle.step.proofs.Kept.{good-call}
-use Rattle.checking.proofs.Verdicts.{done-good}
-use Rattle.engine.proofs.Whole.{call-refused, with-removal}
+use Rattle.checking.proofs.Verdicts.{call-refused, done-good}
+use Rattle.engine.proofs.Whole.{with-removal}
 use Rattle.engine.proofs.order.Statement.{statement}
 use Rattle.engine.proofs.order.Tie as tie
 

@@ -180,16 +180,6 @@ struct Met {
     around: Counts<(&'static str, bool)>,
 }
 
-fn call_name(call: &Call) -> &'static str {
-    match call {
-        Call::Request(_) => "request",
-        Call::Order { .. } => "order",
-        Call::Party { .. } => "party",
-        Call::Ask(_) => "ask",
-        Call::Commit { .. } => "commit",
-    }
-}
-
 impl Met {
     fn add(&mut self, state: &State, list: &List, answers: [Reply; 2]) {
         let (left, right) = (&list.left, &list.right);
@@ -202,8 +192,8 @@ impl Met {
         let edge = edge_of(state, left, right).or_else(|| edge_of(state, right, left));
         edge.into_iter().for_each(|units| self.edges.add(units));
         self.by_number.add(share_by_number(state, left, right));
-        list.before.iter().for_each(|call| self.around.add((call_name(call), false)));
-        list.behind.iter().for_each(|call| self.around.add((call_name(call), true)));
+        list.before.iter().for_each(|call| self.around.add((call.name(), false)));
+        list.behind.iter().for_each(|call| self.around.add((call.name(), true)));
     }
 
     fn want(&self, seed: u64) {

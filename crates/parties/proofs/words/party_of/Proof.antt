@@ -3,8 +3,9 @@
 use borrow.Author.Needs.{needs}
 use mathlib.Core.Path.{sym, _∙_}
 use native.Mathlib.Omega.{arith}
-use Rattle.checking.proofs.Verdicts.{done-good}
-use Rattle.parties.proofs.Joining.{not-good, unfit, fit}
+use Rattle.model.specs.Machine.{party}
+use Rattle.checking.proofs.Verdicts.{call-refused, done-good}
+use Rattle.parties.proofs.Joining.{unfit, fit}
 use Rattle.parties.proofs.words.party_of.Statement.{statement}
 use Rattle.parties.proofs.words.party_of.Tie as tie
 
@@ -18,7 +19,7 @@ same-length : tie.Need-same-length
 same-length c = search needs
 
 returns : tie.Need-returns
-returns c = λ gs l. not-good _ _ gs (sym (c .before .before .before .check .ensures) ∙ c .before .checked .given .1)
+returns c = λ gs l. call-refused _ (party _ gs) (sym (c .before .before .before .check .ensures) ∙ c .before .checked .given .1)
 
 enum-told : tie.Need-enum-told
 enum-told c = search needs
