@@ -1,0 +1,1 @@
+//! The page of a date, for people.

@@ -1,0 +1,1 @@
+//! A read-only view of the words of a book.
