@@ -2,12 +2,13 @@
 //! a commit for each row. One desk leads, by an advisory lock of the session that writes the rows; others follow the rows.
 mod session;
 
+use crate::folder::Found;
 use crate::journal::{Journal, Place, Record, Written};
-use crate::site::{Replay, Site, SiteNumber};
+use crate::serve::say;
+use crate::site::{Replay, SiteNumber};
 use crate::{stop, Outcome, DAMAGED, SYSTEM, USAGE};
 use session::{Session, Statement};
 use std::ffi::CStr;
-use std::io::Write;
 use std::time::Duration;
 
 /// How often a follower looks for rows, and whether the lock is free.
@@ -53,26 +54,25 @@ struct Table {
     site: SiteNumber,
 }
 
-/// Follows the rows until the lock is this desk's, then reads the last of them and leads. The site is where a snapshot left it.
-pub fn lead(connection: &str, site: &mut Site) -> Outcome<Box<dyn Journal>> {
-    let table = Table::open(connection, site.number)?;
+/// Follows the rows until the lock is this desk's, then reads the last of them and leads. What was found is a snapshot's book.
+pub fn lead(connection: &str, found: &mut Found) -> Outcome<Box<dyn Journal>> {
+    let table = Table::open(connection, found.site.number)?;
     let (mut joined, mut told) = (false, false);
     loop {
         let leads = table.try_lock()?;
         if table.is_there(leads)? {
             if !joined {
-                table.join(site.place)?;
+                table.join(found.site.place)?;
                 joined = true;
             }
-            table.follow(site)?;
+            table.follow(found)?;
         }
         if leads {
             table.settle()?;
             return Ok(Box::new(table));
         }
         if !told {
-            // Nobody may be reading; that is no reason to end.
-            let _ = writeln!(std::io::stdout(), "follows from {}: another desk leads, or the server is a standby", site.place.seq);
+            say("follows: another desk leads, or the server is a standby");
             told = true;
         }
         if crate::system::ending() {
@@ -150,9 +150,9 @@ impl Table {
     }
 
     /// Does the calls of the rows that are there and not yet in the book.
-    fn follow(&self, site: &mut Site) -> Outcome<()> {
-        let from = bigint(site.place.seq)?;
-        let mut replay = Replay::new(site);
+    fn follow(&self, found: &mut Found) -> Outcome<()> {
+        let from = bigint(found.site.place.seq)?;
+        let mut replay = Replay::new(&mut found.site);
         self.session.run(Statement::Prepared(c"rows"), &[&self.site, &from], |row| {
             let place = replay.place();
             let record = record_of(row, place.seq)?;
@@ -162,7 +162,10 @@ impl Table {
             }
             replay.add(&record, u64::MAX)
         })?;
-        replay.flush()
+        replay.flush()?;
+        found.replayed += replay.done;
+        found.seconds += replay.seconds;
+        Ok(())
     }
 
     /// A row that was read may be on this server alone: its session or the server died while it waited for the standby. Nothing may be

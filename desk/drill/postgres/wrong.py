@@ -1,0 +1,1 @@
+def all_caught(setting): return ""
