@@ -38,6 +38,12 @@ impl Folder {
         File::open(&self.0)?.sync_all()
     }
 
+    /// Makes the folder's own name last.
+    fn sync_name(&self) -> std::io::Result<()> {
+        let above = self.0.canonicalize()?;
+        File::open(above.parent().unwrap_or(&above))?.sync_all()
+    }
+
     fn rename(&self, from: &str, to: &str) -> std::io::Result<()> {
         std::fs::rename(self.path(from), self.path(to))
     }
