@@ -16,6 +16,10 @@ use crate::{stop, system, Outcome, LOCKED};
 use std::fs::File;
 use std::io::{Read, Seek, Write};
 use std::path::{Path, PathBuf};
+use std::time::{Duration, Instant};
+
+/// A desk that was just killed still has its lock for a moment.
+const DYING: Duration = Duration::from_millis(500);
 
 #[derive(Clone)]
 pub struct Folder(PathBuf);
@@ -73,7 +77,13 @@ impl Folder {
     pub fn lock(&self) -> Outcome<File> {
         let open = File::options().read(true).write(true).create(true).truncate(false).open(self.path("lock"));
         let mut file = system("opening the lock", open)?;
-        if !crate::system::try_lock(&file) {
+        let last = Instant::now() + DYING;
+        let mut ours = crate::system::try_lock(&file);
+        while !ours && Instant::now() < last {
+            std::thread::sleep(Duration::from_millis(20));
+            ours = crate::system::try_lock(&file);
+        }
+        if !ours {
             let mut owner = String::new();
             let _ = file.read_to_string(&mut owner);
             return stop(LOCKED, format!("another desk has this site: process {}", owner.trim()));
