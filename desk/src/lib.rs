@@ -2,9 +2,20 @@
 //!
 //! It decides nothing about bookings: every answer is the proved engine's (crate `caviar`).
 
+pub mod call;
+pub mod folder;
+pub mod journal;
+pub mod line;
 pub mod look;
+pub mod orders;
+pub mod send;
+pub mod serve;
 pub mod show;
+pub mod site;
+pub mod sum;
+pub mod system;
 pub mod view;
+pub mod words;
 
 /// Why a desk ends before it is told to: an exit code and a sentence.
 #[derive(Debug)]
