@@ -8,6 +8,8 @@ pub mod journal;
 pub mod line;
 pub mod look;
 pub mod orders;
+#[cfg(feature = "pg")]
+pub mod postgres;
 pub mod send;
 pub mod serve;
 pub mod show;

@@ -148,6 +148,7 @@ def standby(setting):
         stand.hang_up(clients)
         stand.judged()
         ended(other, 0, signal.SIGTERM)
+        primary.bury()
     stand.finished(stand.desk(0).started())
     return (f"{setting.rounds} primaries destroyed, {stand.answered} answers; served again after {times(waits)}, "
             f"with a desk that followed on the standby {times(ready)}")
@@ -181,7 +182,7 @@ def waiting_pair(setting, name):
 def promoted(stand, second, which):
     """The primary is gone; the standby, which was down, is promoted, and a desk serves what it has."""
     stand.server.destroy()
-    second.start(synchronous_standby_names="")
+    second.start()
     second.promote()
     stand.server = second
     desk = stand.desk(which).started()
@@ -221,7 +222,7 @@ def unsettled(setting):
         stopped(clients)
         promoted(stand, second, 0)
         raise Loss("a desk served a change that was on one machine only")
-    second.start(synchronous_standby_names="")
+    second.start()
     other.started()
     stand.judged()
     stand.finished(other)

@@ -23,6 +23,10 @@ def programs():
     return max(versions, key=lambda path: float(path.parent.name), default=None)
 
 
+# After a crash a server syncs its files one by one, some seconds long, or the whole file system at once.
+QUICK_RECOVERY = {"recovery_init_sync_method": "syncfs"} if programs() and float(programs().parent.name) >= 14 else {}
+
+
 def missing():
     """The Debian packages that are not there."""
     headers = any(Path(path).exists() for path in ("/usr/include/postgresql/libpq-fe.h", "/usr/include/libpq-fe.h"))
@@ -89,8 +93,8 @@ class Server:
         self.sql(f"CREATE DATABASE {DATABASE} OWNER {ROLE}", database="postgres")
 
     def start(self, **settings):
-        settings = {"unix_socket_directories": self.folder, "listen_addresses": "", "max_connections": 40,
-                    "shared_buffers": "32MB", **settings}
+        settings = {"unix_socket_directories": self.folder, "listen_addresses": "", "max_connections": 40, "shared_buffers": "32MB",
+                    **QUICK_RECOVERY, **settings}
         options = [part for name, value in settings.items() for part in ("-c", f"{name}={value}")]
         with open(self.log, "ab") as log:
             self.process = subprocess.Popen([programs() / "postgres", "-D", self.data, *options], user=self.user, cwd=self.folder,
@@ -136,7 +140,10 @@ class Server:
         other = Server(self.folder.parent, name)
         self.command("pg_basebackup", "-h", self.folder, "-U", "postgres", "-D", other.data, "-c", "fast", "--no-sync",
                      "-R", "-d", f"application_name={name}")
-        other.start(synchronous_standby_names="")
+        # The copy has this server's settings too. Whom it waits for when it is promoted is its own matter.
+        with open(other.data / "postgresql.auto.conf", "a", encoding="utf-8") as settings:
+            settings.write("synchronous_standby_names = ''\n")
+        other.start()
         self.sql(f"ALTER SYSTEM SET synchronous_standby_names = '\"{name}\"'")
         self.sql("SELECT pg_reload_conf()")
         wait_until("the standby", lambda: self.sql("SELECT 1 FROM pg_stat_replication WHERE sync_state = 'sync'"))
@@ -168,6 +175,9 @@ class Server:
                 pass
 
     def destroy(self):
-        """The machine is gone: its processes, then its data."""
+        """The machine is gone: its processes, then its data, which nobody finds any more; `bury` clears the space, which takes long."""
         self.kill()
-        shutil.rmtree(self.data)
+        self.data.rename(self.folder / "lost")
+
+    def bury(self):
+        shutil.rmtree(self.folder / "lost")

@@ -130,7 +130,9 @@ impl Table {
         match right {
             None => Ok(false),
             Some(right) if right == TRUE => Ok(true),
-            Some(_) => stop(USAGE, "the table desk_journal must be an ordinary, logged one with PRIMARY KEY (site, first)"),
+            Some(_) => {
+                stop(USAGE, "the table desk_journal must be an ordinary, logged one with PRIMARY KEY (site, first)")
+            }
         }
     }
 
@@ -158,7 +160,10 @@ impl Table {
             let record = record_of(row, place.seq)?;
             if record.before() != place {
                 let found = record.before().seq;
-                return stop(DAMAGED, format!("the row of call {found} in desk_journal does not follow call {}", place.seq));
+                return stop(
+                    DAMAGED,
+                    format!("the row of call {found} in desk_journal does not follow call {}", place.seq),
+                );
             }
             replay.add(&record, u64::MAX)
         })?;
@@ -193,7 +198,10 @@ impl Journal for Table {
         let count = self.session.run(Statement::Prepared(c"insert"), &values, |_| Ok(()))?;
         self.without_notice()?;
         if count != 1 {
-            return stop(SYSTEM, format!("PostgreSQL stored {count} rows instead of one: does desk_journal have a trigger or a rule?"));
+            return stop(
+                SYSTEM,
+                format!("PostgreSQL stored {count} rows instead of one: does desk_journal have a trigger or a rule?"),
+            );
         }
         Ok(())
     }

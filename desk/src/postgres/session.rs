@@ -198,7 +198,9 @@ impl Session {
         let places: Vec<*const c_char> = values.iter().map(|value| value.as_ptr().cast()).collect();
         let mut lengths = Vec::new();
         for value in values {
-            let Ok(length) = c_int::try_from(value.len()) else { return stop(SYSTEM, "a value is too long for PostgreSQL") };
+            let Ok(length) = c_int::try_from(value.len()) else {
+                return stop(SYSTEM, "a value is too long for PostgreSQL");
+            };
             lengths.push(length);
         }
         let formats = vec![BINARY; values.len()];
@@ -302,7 +304,9 @@ mod tests {
 
     #[test]
     fn a_fault_says_what_to_do() {
-        assert!(fault("ERROR: duplicate key\nDETAIL: it is", "23505").why.contains("key DETAIL: it is (another desk has written"));
+        assert!(fault("ERROR: duplicate key\nDETAIL: it is", "23505")
+            .why
+            .contains("key DETAIL: it is (another desk has written"));
         assert_eq!(fault("FATAL: no", "XX000").why, "PostgreSQL: FATAL: no");
     }
 }
