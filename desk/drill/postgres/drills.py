@@ -129,7 +129,7 @@ def standby(setting):
     In every second round a desk follows on the standby already, and leads there as soon as it is promoted."""
     stand = Stand(setting, new_server(setting))
     ended(stand.desk(0).started(), 0, signal.SIGTERM)
-    waits, ready = [], []
+    waits, ready, promotions = [], [], []
     for turn in range(setting.rounds):
         primary, second = stand.server, stand.server.standby(f"standby{turn}")
         leads = stand.desk(turn % 2).started()
@@ -140,7 +140,9 @@ def standby(setting):
         talk(clients, 0.1)
         stopped(clients)
         ended(leads, 5)
+        promotions.append(time.monotonic())
         second.promote()
+        promotions[-1] = time.monotonic() - promotions[-1]
         other = other or stand.desk(1 - turn % 2, second)
         other.started()
         (ready if turn % 2 else waits).append(time.monotonic() - start)
@@ -151,7 +153,7 @@ def standby(setting):
         primary.bury()
     stand.finished(stand.desk(0).started())
     return (f"{setting.rounds} primaries destroyed, {stand.answered} answers; served again after {times(waits)}, "
-            f"with a desk that followed on the standby {times(ready)}")
+            f"with a desk that followed on the standby {times(ready)}; of it the promotion {times(promotions)}")
 
 
 def nothing_told(clients, stand, seconds):
@@ -202,8 +204,24 @@ def cancelled(setting):
     stand.server.sql(f"SELECT pg_cancel_backend({stand.server.leader(stand.number)})")
     ended(other, 5)
     stand.hang_up(clients)
+    # A desk that waits for a standby which does not come can be told to end.
+    waits = stand.desk(0)
+    wait_until("the lock", lambda: stand.server.leader(stand.number), LATE)
+    ended(waits, 5, signal.SIGTERM)
     promoted(stand, second, 0)
-    return f"two waits cancelled, two desks ended, {stand.answered} answers"
+    return f"two waits cancelled, two desks ended, one told to end while it waited, {stand.answered} answers"
+
+
+def repeated(stand, desk):
+    """Clients send their unanswered orders again, and nothing else; the desk is killed behind the answers."""
+    clients = stand.connect(desk)
+    for client in clients:
+        client.send(*client.first)
+        client.traffic = None
+    talk(clients, 0.2)
+    desk.kill()
+    stopped(clients)
+    stand.hang_up(clients)
 
 
 def unsettled(setting):
@@ -216,12 +234,9 @@ def unsettled(setting):
     wait_until("the follower's lock", lambda: stand.server.leader(stand.number), LATE)
     time.sleep(0.3)
     if "listening" in other.text():
-        clients = stand.work(other, 0.2)
-        stand.hang_up(clients)
-        other.kill()
-        stopped(clients)
+        repeated(stand, other)
         promoted(stand, second, 0)
-        raise Loss("a desk served a change that was on one machine only")
+        raise Loss("a desk listened before the standby had its rows")
     second.start()
     other.started()
     stand.judged()

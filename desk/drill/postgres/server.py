@@ -58,6 +58,12 @@ def children(pid):
     return found
 
 
+def end_all():
+    """No server goes on behind its drill."""
+    while RUNNING:
+        RUNNING.pop().kill()
+
+
 def wait_until(what, condition, seconds=30.0, pause=0.01):
     """What the condition gives as soon as it gives something."""
     end = time.monotonic() + seconds

@@ -16,6 +16,12 @@ WINDOW = 6
 LATE = 5.0
 
 
+def end_all():
+    """No desk goes on behind its drill."""
+    while RUNNING:
+        RUNNING.pop().kill()
+
+
 class Rows:
     """The journal of a site as the server has it, in the shape of reader.Folder."""
 
@@ -136,7 +142,10 @@ def ended(desk, code, number=None):
 
 def stopped(clients):
     """All connections end; the desk has said why, if it said anything."""
-    drain(clients, LATE)
+    try:
+        drain(clients, LATE)
+    except Loss:
+        raise Loss("the desk serves on where it had to end") from None
     for client in clients:
         if client.message and not client.message.startswith("! stopped: "):
             raise Loss(f"a client was told {client.message}")

@@ -1,8 +1,10 @@
 //! A session with a PostgreSQL server, by libpq. It is never opened again: what belongs to a session, its locks for one, is lost with it.
+use crate::system::{self, PollFd, READABLE};
 use crate::{stop, Outcome, Stop, SYSTEM, USAGE};
 use std::cell::RefCell;
 use std::ffi::{c_char, c_int, c_uint, c_void, CStr, CString};
 use std::ptr::null;
+use std::time::{Duration, Instant};
 
 /// libpq's `PGconn` and `PGresult`.
 type Connection = *mut c_void;
@@ -42,6 +44,9 @@ extern "C" {
         answer_format: c_int,
     ) -> c_int;
     fn PQsetSingleRowMode(connection: Connection) -> c_int;
+    fn PQsocket(connection: Connection) -> c_int;
+    fn PQconsumeInput(connection: Connection) -> c_int;
+    fn PQisBusy(connection: Connection) -> c_int;
     fn PQgetResult(connection: Connection) -> Answer;
     fn PQclear(answer: Answer);
     fn PQresultStatus(answer: Answer) -> c_int;
@@ -65,6 +70,9 @@ const SINGLE_TUPLE: c_int = 9;
 const STATE: c_int = b'C' as c_int;
 /// Values are sent and taken as bytes: numbers with the highest byte first.
 const BINARY: c_int = 1;
+
+/// A desk that is told to end gives a statement under way so long. A commit may wait for a standby that never comes.
+const LAST: Duration = Duration::from_secs(2);
 
 /// What is run: a statement's text, or the name of a prepared one.
 #[derive(Clone, Copy)]
@@ -235,6 +243,7 @@ impl Session {
         self.send(statement, values)?;
         let mut touched = 0;
         loop {
+            self.wait()?;
             // SAFETY: the connection is open; null says that the statement is over.
             let answer = Held(unsafe { PQgetResult(self.connection) });
             if answer.0.is_null() {
@@ -251,6 +260,20 @@ impl Session {
             CONNECTION_OK => Ok(touched),
             _ => Err(self.refusal()),
         }
+    }
+
+    /// Waits until an answer has come, or the connection has failed, which the next look at it tells.
+    fn wait(&self) -> Outcome<()> {
+        let mut told_to_end = None;
+        // SAFETY: the connection is ours, and null allowed.
+        while unsafe { PQconsumeInput(self.connection) == 1 && PQisBusy(self.connection) == 1 } {
+            let fd = unsafe { PQsocket(self.connection) };
+            system::wait(&mut [PollFd { fd, events: READABLE, revents: 0 }], 100);
+            if system::ending() && told_to_end.get_or_insert_with(Instant::now).elapsed() > LAST {
+                return stop(SYSTEM, "told to end while PostgreSQL stores: what was not answered may be stored or not");
+            }
+        }
+        Ok(())
     }
 
     /// The first value of the first row, if there is a row.
