@@ -8,7 +8,7 @@ use crate::view::{count, slots, View};
 use chart::share;
 use std::ops::Range;
 
-/// More dates than this make a page that browsers are slow to show: two months of the largest site are some 20 MB.
+/// More dates than this make a page that browsers are slow to show: two months of the largest site, half full, are 15 MB.
 const MOST_DATES: u32 = 62;
 
 const STYLE: &str = include_str!("look/style.css");
@@ -17,14 +17,12 @@ const STYLE: &str = include_str!("look/style.css");
 pub fn page(book: &[u32], from: u32, to: u32) -> Result<String, String> {
     let view = View::of(book)?;
     if from > to {
-        return Err(format!("the dates are backward: {from} is after {to}"));
+        return Err(format!("the dates are backward: the first, {from}, is after the last, {to}"));
     }
     view.known(to)?;
     if to - from >= MOST_DATES {
-        return Err(format!(
-            "{} are too many for one page: ask for at most {MOST_DATES}",
-            count(to - from + 1, "date")
-        ));
+        let dates = count(to - from + 1, "date");
+        return Err(format!("{dates} are too many for one page: ask for at most {MOST_DATES}"));
     }
     let dates = from..to + 1;
     let mut page = head(&view, &dates);

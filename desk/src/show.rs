@@ -3,11 +3,11 @@
 use crate::view::{count, runs, slots, View};
 use std::ops::Range;
 
-/// How wide a list becomes before it goes on in the next line.
-const LIST: usize = 60;
-/// A table of numbers with more rows than this is set in blocks side by side, as many as fit on the page's width.
-const ROWS: usize = 20;
+/// How wide a page becomes, and a list in a table before it goes on in the next line.
 const PAGE: usize = 120;
+const LIST: usize = 48;
+/// A table of numbers with more rows than this is set in blocks side by side, as many as the page has room for.
+const ROWS: usize = 20;
 
 /// A column's head. Numbers end below each other, lists begin below each other.
 enum Column {
@@ -34,7 +34,7 @@ fn leave(view: &View, date: u32) -> String {
     if visitors.is_empty() {
         return "Leave: nobody\n".to_string();
     }
-    let lines = wrap(&runs(visitors.iter().copied()), LIST + 30);
+    let lines = wrap(&runs(visitors.iter().copied()), PAGE - 20);
     format!("Leave: {} of {}\n  {}\n", visitors.len(), count(view.visitors, "visitor"), lines.join("\n  "))
 }
 

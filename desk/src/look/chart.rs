@@ -45,7 +45,7 @@ impl Strip {
     }
 
     /// The left edge of a column of a date.
-    pub fn left(&self, date: u32, part: u32) -> i64 {
+    fn left(&self, date: u32, part: u32) -> i64 {
         (i64::from(date) - i64::from(self.dates.start)) * i64::from(self.date_width()) + i64::from(part * self.cell)
     }
 
@@ -91,9 +91,9 @@ impl Strip {
 /// A chart that is being written.
 pub struct Chart<'a> {
     page: &'a mut String,
-    pub strip: &'a Strip,
+    strip: &'a Strip,
     id: String,
-    pub height: u32,
+    height: u32,
 }
 
 impl<'a> Chart<'a> {
