@@ -157,6 +157,7 @@ fn write(bytes: &[u8]) -> Outcome<()> {
 /// The book as it is now, for people.
 fn page(folder: &Folder, page: impl Fn(&[u32]) -> Result<String, String>) -> Outcome<()> {
     let found = load(folder, Want::default())?;
+    found.notes.iter().for_each(|note| eprintln!("desk: note: {note}"));
     match page(&found.site.book) {
         Ok(page) => write(page.as_bytes()),
         Err(why) => stop(USAGE, why),

@@ -12,7 +12,7 @@ pub use files::FileJournal;
 pub use snapshot::{make, prune, Snapshot};
 pub use start::{load, Found, Want};
 
-use crate::{stop, system, Outcome, LOCKED};
+use crate::{stop, system, Outcome, LOCKED, USAGE};
 use std::fs::File;
 use std::io::{Read, Seek, Write};
 use std::path::{Path, PathBuf};
@@ -20,6 +20,8 @@ use std::time::{Duration, Instant};
 
 /// A desk that was just killed still has its lock for a moment.
 const DYING: Duration = Duration::from_millis(500);
+
+const ELSEWHERE: &str = "elsewhere";
 
 #[derive(Clone)]
 pub struct Folder(PathBuf);
@@ -71,6 +73,28 @@ impl Folder {
 
     fn segments(&self) -> Outcome<Vec<u64>> {
         self.numbered("log-")
+    }
+
+    /// Is the journal of this site in a database, not in this folder?
+    pub fn is_elsewhere(&self) -> bool {
+        self.path(ELSEWHERE).exists()
+    }
+
+    /// Says so in the folder, before the first record goes there: a desk over files alone would serve an old book.
+    pub fn set_elsewhere(&self) -> Outcome<()> {
+        if !self.segments()?.is_empty() {
+            let why = "this site keeps its journal in files: `desk replay` and `desk import` make a site from its book that has none yet";
+            return stop(USAGE, why);
+        }
+        if self.is_elsewhere() {
+            return Ok(());
+        }
+        let write = File::create(self.path(ELSEWHERE)).and_then(|mut file| {
+            file.write_all(b"the journal of this site is in PostgreSQL\n")?;
+            file.sync_all()?;
+            self.sync()
+        });
+        system("saying that the journal is elsewhere", write)
     }
 
     /// One desk for a site: the lock lasts as long as the file is open.

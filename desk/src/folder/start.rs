@@ -54,7 +54,12 @@ pub fn load(folder: &Folder, want: Want) -> Outcome<Found> {
         notes,
     };
     let mut loss = false;
-    if !want.without_journal {
+    if folder.is_elsewhere() && !want.without_journal {
+        if want.to.is_some() {
+            return stop(USAGE, "the journal of this site is in PostgreSQL, and this command reads files");
+        }
+        walk.notes.push("the journal of this site is in PostgreSQL: this is its newest snapshot here".into());
+    } else if !want.without_journal {
         let walked = walk.segments().and_then(|()| walk.compare(mark));
         if let Err(damage) = walked {
             loss = walk.accepts(damage)?;
