@@ -132,18 +132,19 @@ def standby(setting):
     waits, ready, promotions = [], [], []
     for turn in range(setting.rounds):
         primary, second = stand.server, stand.server.standby(f"standby{turn}")
-        leads = stand.desk(turn % 2).started()
-        other = follows(stand.desk(1 - turn % 2, second)) if turn % 2 else None
+        either = primary.connection(second)
+        leads = stand.desk(turn % 2, either).started()
+        other = follows(stand.desk(1 - turn % 2, second.connection())) if turn % 2 else None
         clients = stand.work(leads, stand.random.uniform(0.05, 0.3))
         start = time.monotonic()
         primary.destroy()
         talk(clients, 0.1)
         stopped(clients)
         ended(leads, 5)
-        promotions.append(time.monotonic())
+        before = time.monotonic()
         second.promote()
-        promotions[-1] = time.monotonic() - promotions[-1]
-        other = other or stand.desk(1 - turn % 2, second)
+        promotions.append(time.monotonic() - before)
+        other = other or stand.desk(1 - turn % 2, either)
         other.started()
         (ready if turn % 2 else waits).append(time.monotonic() - start)
         stand.server = second

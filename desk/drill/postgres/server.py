@@ -116,9 +116,10 @@ class Server:
     def last_words(self):
         return self.log.read_text(errors="replace").strip().rpartition("\n")[2]
 
-    def connection(self, role=ROLE):
-        """What `desk serve --pg` is given."""
-        return f"host={self.folder} user={role} dbname={DATABASE}"
+    def connection(self, *others):
+        """What `desk serve --pg` is given: this server, or the one of several that takes changes."""
+        hosts = ",".join(str(server.folder) for server in (self, *others))
+        return f"host={hosts} user={ROLE} dbname={DATABASE}" + (" target_session_attrs=read-write" if others else "")
 
     def sql(self, text, database=DATABASE):
         """The rows of a statement, as lines of text."""

@@ -3,12 +3,13 @@
 import random
 import shutil
 import signal
+import struct
 import time
 
 from clients import Client, drain, finish, talk
-from desk import Desk, new_site
+from desk import Desk, command, new_site
 from judge import Judge, Loss
-from reader import ORDER, Folder, Place, read_record
+from reader import EDITION, JOURNAL, ORDER, Folder, Place, crc32c, read_record
 from traffic import CLIENTS, SMALL, Traffic, owner
 
 RUNNING = []
@@ -65,11 +66,10 @@ class Stand:
         self.again = [[] for _ in range(CLIENTS)]
         self.answered = 0
 
-    def desk(self, which, server=None, *options):
+    def desk(self, which, connection=None):
         """A desk on one of the folders; it may lead or follow."""
         setting = self.setting._replace(work=self.works[which])
-        connection = (server or self.server).connection()
-        desk = Desk(setting, self.folders[which], "--pg", connection, "--every", 400, "--figures", *options)
+        desk = Desk(setting, self.folders[which], "--pg", connection or self.server.connection(), "--every", 400)
         RUNNING.append(desk)
         return desk
 
@@ -100,9 +100,9 @@ class Stand:
             self.again[index] += [line.text for line in again]
             self.answered += client.told
 
-    def judged(self, server=None):
+    def judged(self):
         """All that was answered is in the rows, and the rows are what the engine says."""
-        self.rows.take((server or self.server).rows(self.number), self.folders)
+        self.rows.take(self.server.rows(self.number), self.folders)
         self.judge.judge(self.rows, self.lines)
         self.lines = [[] for _ in self.lines]
 
@@ -118,6 +118,19 @@ class Stand:
         for desk in (*others, leads):
             ended(desk, 0, signal.SIGTERM)
         self.judged()
+        self.audited(leads.folder)
+
+    def audited(self, folder):
+        """The rows, put together as a segment beside the snapshots, are a site in files that the desk itself finds right."""
+        copy = self.setting.work / "audited"
+        shutil.copytree(folder, copy, ignore=shutil.ignore_patterns("elsewhere", "lock", "sock"))
+        head = struct.pack("<8sII16s28x", JOURNAL, EDITION, 0, self.number)
+        records = b"".join(data for _, data in self.rows.data)
+        (copy / ("log-" + 16 * "0")).write_bytes(head + struct.pack("<I", crc32c(head)) + records)
+        code, _, why = command(self.setting, "audit", copy)
+        if code:
+            raise Loss(f"desk audit of the rows ends with {code}: {why}")
+        shutil.rmtree(copy)
 
 
 def follows(desk):
