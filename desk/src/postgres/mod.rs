@@ -60,11 +60,11 @@ pub fn lead(connection: &str, found: &mut Found) -> Outcome<Box<dyn Journal>> {
     let (mut joined, mut told) = (false, false);
     loop {
         let leads = table.try_lock()?;
-        if table.is_there(leads)? {
-            if !joined {
-                table.join(found.site.place)?;
-                joined = true;
-            }
+        if !joined && table.is_there(leads)? {
+            table.join(found.site.place)?;
+            joined = true;
+        }
+        if joined {
             table.follow(found)?;
         }
         if leads {
@@ -209,5 +209,36 @@ impl Journal for Table {
     /// The table has no segments.
     fn begin_segment(&mut self, _: Place) -> Outcome<()> {
         Ok(())
+    }
+}
+
+#[cfg(test)]
+mod tests {
+    use super::*;
+    use crate::call::{Calls, REQUEST};
+
+    #[test]
+    fn a_row_is_one_whole_record() {
+        let mut calls = Calls::default();
+        calls.keep(REQUEST, &[1, 0, 1, 0, 1, 0, 0], [0; 3]);
+        let written = Written::new(Place { seq: 40, chain: 77 }, &calls);
+        let record = record_of(&[&written.bytes], 40).unwrap_or_else(|stop| panic!("{}", stop.why));
+        assert_eq!((record.before(), record.after()), (written.before, written.after));
+        let longer = [&written.bytes[..], &[0]].concat();
+        let shorter = &written.bytes[..written.bytes.len() - 4];
+        for row in [&[&longer[..]][..], &[shorter], &[&[]], &[]] {
+            let stop = record_of(row, 40).err().expect("no record");
+            assert_eq!(
+                (stop.code, stop.why.as_str()),
+                (DAMAGED, "a row of desk_journal at or behind call 40 is damaged")
+            );
+        }
+    }
+
+    #[test]
+    fn a_place_is_a_bigint_with_the_highest_byte_first() {
+        assert_eq!(bigint(0x102).ok(), Some([0, 0, 0, 0, 0, 0, 1, 2]));
+        assert_eq!(bigint(u64::MAX).err().map(|stop| stop.code), Some(DAMAGED));
+        assert_eq!(lock_key(&std::array::from_fn(|at| at as u8)), [0, 1, 2, 3, 4, 5, 6, 7]);
     }
 }

@@ -93,6 +93,7 @@ unsafe impl Send for Session {}
 extern "C" fn on_notice(notices: *mut c_void, text: *const c_char) {
     // SAFETY: the address is that of the session's box, which lives as long as the connection; libpq's text ends with a zero byte.
     let (notices, text) = unsafe { (&*notices.cast::<RefCell<String>>(), text_at(text)) };
+    // Nobody else has it while libpq runs; and a panic may not go through libpq.
     if let Ok(mut notices) = notices.try_borrow_mut() {
         notices.push_str(&text);
     }
@@ -265,9 +266,10 @@ impl Session {
     /// Waits until an answer has come, or the connection has failed, which the next look at it tells.
     fn wait(&self) -> Outcome<()> {
         let mut told_to_end = None;
-        // SAFETY: the connection is ours, and null allowed.
+        // SAFETY: the connection is ours.
+        let fd = unsafe { PQsocket(self.connection) };
+        // SAFETY: the same.
         while unsafe { PQconsumeInput(self.connection) == 1 && PQisBusy(self.connection) == 1 } {
-            let fd = unsafe { PQsocket(self.connection) };
             system::wait(&mut [PollFd { fd, events: READABLE, revents: 0 }], 100);
             if system::ending() && told_to_end.get_or_insert_with(Instant::now).elapsed() > LAST {
                 return stop(SYSTEM, "told to end while PostgreSQL stores: what was not answered may be stored or not");
