@@ -1,0 +1,152 @@
+//! The tables, in Markdown: ratios first, the aims beside them.
+use crate::crowd::Runs;
+use crate::desk::Figures;
+use crate::measure::{Replays, Results, COUNTS, DEPTH, MANY, ONE, SOME};
+use crate::series::{Series, Unit};
+
+fn row(cells: &[String]) {
+    println!("| {} |", cells.join(" | "));
+}
+
+fn head(cells: &[&str]) {
+    println!("\n| {} |\n|{}", cells.join(" | "), "---|".repeat(cells.len()));
+}
+
+/// Requests a second, p50 and p99.
+fn speed(runs: &Runs, clients: u32) -> String {
+    let p50 = runs.series(clients, |run| run.p50).say(Unit::Milliseconds);
+    let p99 = runs.series(clients, |run| run.p99).say(Unit::Milliseconds);
+    format!("{}; {p50}; {p99}", runs.per_second(clients).say(Unit::Number))
+}
+
+pub fn print(results: &Results) {
+    one_at_a_time(results);
+    other_lines(results);
+    head(&["ratio", "aim", "of what", "figures"]);
+    batches(results);
+    checks(results);
+    replay("medium", &results.replay_medium);
+    replay("largest", &results.replay_largest);
+    over_postgres(results);
+}
+
+fn one_at_a_time(results: &Results) {
+    head(&[
+        "clients",
+        "desk, medium / SQLite",
+        "/ PostgreSQL",
+        "no check / SQLite",
+        "aim",
+        "desk, medium: /s; p50; p99",
+        "desk, largest",
+        "no check",
+        "SQLite",
+        "PostgreSQL",
+    ]);
+    let aims = ["0.3 of SQLite, 0.8 without check", "1.5 of SQLite, 4 without", "5 of SQLite, 10 without"];
+    for (clients, aim) in COUNTS.into_iter().zip(aims) {
+        let over =
+            |runs: &Runs, others: &Runs| runs.per_second(clients).over(&others.per_second(clients)).say(Unit::Ratio);
+        row(&[
+            clients.to_string(),
+            over(&results.medium, &results.sqlite),
+            over(&results.medium, &results.postgres),
+            over(&results.tiny, &results.sqlite),
+            aim.into(),
+            speed(&results.medium, clients),
+            speed(&results.largest, clients),
+            speed(&results.tiny, clients),
+            speed(&results.sqlite, clients),
+            speed(&results.postgres, clients),
+        ]);
+    }
+}
+
+fn other_lines(results: &Results) {
+    head(&["/ one booking at a time", "what", "/s; p50; p99"]);
+    let deep = |site| format!("{MANY} clients with {DEPTH} lines each at a time, {site}");
+    let rows = [
+        (&results.deep_medium, &results.medium, MANY, deep("medium")),
+        (&results.deep_largest, &results.largest, MANY, deep("largest")),
+        (&results.orders, &results.medium, SOME, format!("{SOME} clients with orders, medium")),
+        (&results.asks, &results.medium, SOME, format!("{SOME} clients that ask, medium")),
+    ];
+    for (runs, plain, clients, what) in rows {
+        let ratio = runs.per_second(clients).over(&plain.per_second(clients)).say(Unit::Ratio);
+        row(&[ratio, what, speed(runs, clients)]);
+    }
+}
+
+/// What of a batch is neither check nor store.
+fn batches(results: &Results) {
+    for (clients, aim) in [(ONE, "0.1"), (MANY, "0.65")] {
+        let of = |value: &dyn Fn(Figures) -> f64| results.medium.series(clients, |run| value(run.figures));
+        let (check, store, batch) =
+            (&results.check_medium, of(&|figures| figures.store), of(&|figures| figures.batch()));
+        let rest = batch.less(&store).less(check);
+        let figures = format!(
+            "a batch {}, of it check {}, store {}, rest {}; {} lines; between batches {}",
+            batch.say(Unit::Microseconds),
+            check.say(Unit::Microseconds),
+            store.say(Unit::Microseconds),
+            rest.say(Unit::Microseconds),
+            of(&|figures| figures.lines).say(Unit::Number),
+            of(&|figures| figures.idle).say(Unit::Microseconds)
+        );
+        let what = format!("of a batch what is neither check nor store, {clients} clients, medium");
+        row(&[rest.over(&batch).say(Unit::Ratio), aim.into(), what, figures]);
+    }
+}
+
+fn checks(results: &Results) {
+    let check = &results.check_largest;
+    let each = |value: &Series, aim: &str, what: String, more: String| {
+        let figures = format!("{}; check {}{more}", value.say(Unit::Milliseconds), check.say(Unit::Milliseconds));
+        row(&[value.over(check).say(Unit::Ratio), aim.into(), what, figures]);
+    };
+    for clients in COUNTS {
+        let p50 = results.largest.series(clients, |run| run.p50);
+        each(&p50, "1.5", format!("p50 / one check, {clients} clients, largest"), String::new());
+    }
+    let snapshots = &results.snapshots;
+    let longest = format!("; the longest wait of a client {}", snapshots.longest.say(Unit::Milliseconds));
+    each(&snapshots.waited, "4", "snapshot: answers waited / one check, largest".into(), longest);
+    each(&snapshots.on_disk, "12", "snapshot: on disk / one check, largest".into(), String::new());
+}
+
+fn replay(site: &str, replays: &Replays) {
+    let figures = |time: &Series| {
+        format!("{} a change; in memory {}", time.say(Unit::Nanoseconds), replays.memory.say(Unit::Nanoseconds))
+    };
+    let ratio = |time: &Series| time.over(&replays.memory).say(Unit::Ratio);
+    row(&[
+        ratio(&replays.desk),
+        "1.3".into(),
+        format!("replay / the same list in memory, {site}"),
+        figures(&replays.desk),
+    ]);
+    row(&[
+        ratio(&replays.start),
+        String::new(),
+        format!("the same with reading the files, {site}"),
+        figures(&replays.start),
+    ]);
+}
+
+fn over_postgres(results: &Results) {
+    for clients in [ONE, MANY] {
+        let store = |runs: &Runs| runs.series(clients, |run| run.figures.store);
+        let (table, files) = (store(&results.over_postgres), store(&results.medium));
+        let figures = match table.0.len() {
+            0 => "not built".into(),
+            _ => format!(
+                "{} a batch; in files {}; bookings {}",
+                table.say(Unit::Microseconds),
+                files.say(Unit::Microseconds),
+                speed(&results.over_postgres, clients)
+            ),
+        };
+        let what = format!("store over PostgreSQL / in files, {clients} clients, medium");
+        row(&[table.over(&files).say(Unit::Ratio), "2".into(), what, figures]);
+    }
+}
