@@ -12,8 +12,9 @@ pub struct Run {
     pub p50: f64,
     pub p99: f64,
     pub longest: f64,
-    /// What the desk said of its batches; nothing where no desk worked.
+    /// What the desk said of its batches, and a check of its book just before and behind; zeros where no desk worked.
     pub figures: Figures,
+    pub check: f64,
 }
 
 /// How many, how long, and how many requests each sends at a time.
@@ -41,7 +42,8 @@ impl Crowd {
         let at = |part: f64| times[((times.len() as f64 * part) as usize).min(times.len() - 1)];
         let requests = times.len() as u64 * u64::from(self.depth);
         let per_second = requests as f64 / seconds;
-        Run { requests, per_second, p50: at(0.5), p99: at(0.99), longest: at(1.0), figures: Figures::default() }
+        let (p50, p99, longest) = (at(0.5), at(0.99), at(1.0));
+        Run { requests, per_second, p50, p99, longest, figures: Figures::default(), check: 0.0 }
     }
 
     /// The time of each step, and of all.
@@ -50,9 +52,9 @@ impl Crowd {
         let start = Instant::now();
         let end = start + Duration::from_secs_f64(self.seconds);
         let mut times = Vec::new();
-        for number in 0.. {
+        for number in 0u32.. {
             let begun = Instant::now();
-            if begun >= end && number % 2 == 0 && number > 0 {
+            if begun >= end && number.is_multiple_of(2) && number > 0 {
                 break;
             }
             step(number);

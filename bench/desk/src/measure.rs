@@ -15,6 +15,8 @@ pub const MANY: u32 = 64;
 pub const COUNTS: [u32; 3] = [ONE, SOME, MANY];
 /// Lines that a client sends at a time, where it sends several.
 pub const DEPTH: u32 = 16;
+/// A journal is done again so often in a pass, by the desk and in memory; the least time counts.
+const TURNS: usize = 3;
 /// The desk takes a snapshot only when it is told to.
 const NO_SNAPSHOT: [&str; 2] = ["--every", "1000000000000"];
 
@@ -42,32 +44,35 @@ impl Place {
         kept: bool,
         enter: impl Fn(u32) -> Client,
     ) -> Run {
+        let check = self.site.check();
         let desk = self.folder.serve(&[&NO_SNAPSHOT[..], options].concat());
         let mut run = crowd.run(enter);
         run.figures = desk.end(if kept { run.requests } else { 0 });
+        run.check = (check + self.site.check()) / 2.0;
         run
     }
 
     /// Many lines at a time; then the desk is killed, and all that was answered must be there. The journal is done again by the desk,
     /// and once more in memory.
     fn killed(&self, crowd: Crowd, replays: &mut Replays) -> Run {
-        let before = self.folder.check();
+        let before = self.folder.check(TURNS);
         let desk = self.folder.serve(&NO_SNAPSHOT);
         let run = crowd.run(|client| lines::bookings(&self.folder.path, &self.site, client, crowd.depth));
         desk.kill();
-        let after = self.folder.check();
+        let after = self.folder.check(TURNS);
         assert_eq!(after.kept - before.kept, run.requests, "calls kept by a killed desk, and bookings accepted");
         let list = newest_calls(&self.folder.path);
         let calls = (list.len() / 8) as f64;
         assert_eq!(after.again, calls, "calls done again, and calls of the newest segment");
         replays.desk.0.push(after.seconds / calls);
         replays.start.0.push((after.whole - before.whole) / calls);
-        replays.memory.0.push(in_memory(&self.site, &list) / calls);
+        replays.memory.0.push(in_memory(&self.site, &list, TURNS) / calls);
         run
     }
 
     /// Snapshots while clients book, one behind the other.
     fn snapshots(&self, crowd: Crowd, snapshots: &mut Snapshots) {
+        let check = self.site.check();
         let desk = self.folder.serve(&NO_SNAPSHOT);
         let start = Instant::now();
         let (run, taken) = std::thread::scope(|scope| {
@@ -86,6 +91,7 @@ impl Place {
         snapshots.on_disk.0.push(median(on_disk));
         snapshots.longest.0.push(run.longest);
         desk.end(run.requests);
+        snapshots.check.0.push((check + self.site.check()) / 2.0);
     }
 }
 
@@ -97,12 +103,13 @@ pub struct Replays {
     pub memory: Series,
 }
 
-/// Seconds: how long answers waited for it, after which it was on disk, and the longest that a client waited at all.
+/// Seconds: how long answers waited for it, after which it was on disk, the longest that a client waited at all, and a check.
 #[derive(Default)]
 pub struct Snapshots {
     pub waited: Series,
     pub on_disk: Series,
     pub longest: Series,
+    pub check: Series,
 }
 
 #[derive(Default)]
@@ -118,9 +125,6 @@ pub struct Results {
     pub deep_largest: Runs,
     pub orders: Runs,
     pub asks: Runs,
-    /// Seconds of a check.
-    pub check_medium: Series,
-    pub check_largest: Series,
     pub replay_medium: Replays,
     pub replay_largest: Replays,
     pub snapshots: Snapshots,
@@ -149,8 +153,6 @@ impl Bench {
     }
 
     pub fn pass(&mut self) {
-        self.results.check_medium.0.push(self.medium.site.check(201));
-        self.results.check_largest.0.push(self.largest.site.check(15));
         for clients in COUNTS {
             self.one_at_a_time(clients);
         }

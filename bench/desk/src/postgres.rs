@@ -35,7 +35,8 @@ const CONNECTED: c_int = 0;
 const COMMAND_OK: c_int = 1;
 
 /// The medium site: 200 visitors have leave on all 90 dates.
-const SCHEMA: [&CStr; 5] = [
+const SCHEMA: [&CStr; 6] = [
+    c"SET client_min_messages = warning",
     c"DROP TABLE IF EXISTS leave, hotel",
     c"CREATE TABLE leave(visitor int, date int, PRIMARY KEY(visitor, date))",
     c"CREATE TABLE hotel(room int, date int, visitor int, PRIMARY KEY(room, date), UNIQUE(visitor, date))",
@@ -89,7 +90,7 @@ impl Session {
 
     /// One booking and its commit.
     fn book(&self, client: u32, number: u32) {
-        let name = if number % 2 == 0 { c"add" } else { c"erase" };
+        let name = if number.is_multiple_of(2) { c"add" } else { c"erase" };
         let words = [client, number / 2 % 90, client].map(u32::to_be_bytes);
         let values = [0, 1, 2].map(|at: usize| words[at].as_ptr().cast());
         // SAFETY: three binary values of four bytes each, which live until the call returns.

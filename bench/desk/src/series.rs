@@ -72,8 +72,11 @@ fn short(value: f64) -> String {
 /// Three digits, and then zeros, in groups of three.
 fn thousands(value: f64) -> String {
     let step = 10f64.powi((value.abs().max(1.0).log10() as i32 - 2).max(0));
-    let digits = format!("{:.0}", (value / step).round() * step);
+    let digits = format!("{:.0}", (value.abs() / step).round() * step);
     let mut text = String::new();
+    if value < 0.0 {
+        text.push('-');
+    }
     for (place, digit) in digits.chars().enumerate() {
         if place > 0 && (digits.len() - place) % 3 == 0 {
             text.push(',');
@@ -87,4 +90,28 @@ fn thousands(value: f64) -> String {
 pub fn median(mut values: Vec<f64>) -> f64 {
     values.sort_by(f64::total_cmp);
     values[values.len() / 2]
+}
+
+#[cfg(test)]
+mod tests {
+    use super::*;
+
+    #[test]
+    fn numbers_are_said_in_few_digits() {
+        let said = |value| Series(vec![value]).say(Unit::Number);
+        assert_eq!([0.0, 7.4, 99.6, 1234.0].map(said), ["0", "7", "100", "1,230"]);
+        assert_eq!([123_456.0, 999_999.0, -186.0, -1234.0].map(said), ["123,000", "1,000,000", "-186", "-1,230"]);
+        assert_eq!(
+            [0.0123, 0.996, 9.94, 9.96, 123.4].map(|value| Series(vec![value]).say(Unit::Ratio)),
+            ["0.01", "1.0", "9.9", "10", "123"]
+        );
+    }
+
+    #[test]
+    fn a_series_is_a_range() {
+        assert_eq!(Series(vec![0.0021, 0.0012]).say(Unit::Milliseconds), "1.2 to 2.1 ms");
+        assert_eq!(Series(vec![0.00121, 0.00122]).say(Unit::Milliseconds), "1.2 ms");
+        assert_eq!(Series::default().say(Unit::Ratio), "-");
+        assert_eq!(Series(vec![6.0, 4.0]).over(&Series(vec![3.0])).0, [2.0]);
+    }
 }

@@ -11,6 +11,9 @@ pub const CLIENTS: u32 = 64;
 /// Each on so many dates at most.
 const DATES: usize = 20;
 
+/// Seconds in which checks are measured.
+const CHECKING: f64 = 0.05;
+
 const REMOVE: u32 = 3;
 const LEAVE: u32 = 1;
 const ADD_HOTEL: u32 = 4;
@@ -46,13 +49,14 @@ impl Site {
         Site { book, bookings }
     }
 
-    /// The seconds of one check of the book: the value in the middle of so many.
-    pub fn check(&self, times: usize) -> f64 {
+    /// The seconds of one check of the book: the value in the middle of some.
+    pub fn check(&self) -> f64 {
         let one = || {
             let start = Instant::now();
             assert_eq!(caviar::check(black_box(&self.book)).number, 0, "a book");
             start.elapsed().as_secs_f64()
         };
+        let times = (CHECKING / one().max(1e-6)).clamp(5.0, 1000.0) as usize;
         crate::series::median((0..times).map(|_| one()).collect())
     }
 }

@@ -87,7 +87,7 @@ impl Connection {
 
     /// One booking and its commit.
     fn book(&self, client: u32, number: u32) {
-        let statement = if number % 2 == 0 { self.add } else { self.erase };
+        let statement = if number.is_multiple_of(2) { self.add } else { self.erase };
         let values = [client, number / 2 % 90, client];
         // SAFETY: the statement was prepared and lives as long as this.
         unsafe {

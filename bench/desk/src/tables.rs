@@ -1,7 +1,7 @@
 //! The tables, in Markdown: ratios first, the aims beside them.
-use crate::crowd::Runs;
+use crate::crowd::{Run, Runs};
 use crate::desk::Figures;
-use crate::measure::{Replays, Results, COUNTS, DEPTH, MANY, ONE, SOME};
+use crate::measure::{Replays, Results, Snapshots, COUNTS, DEPTH, MANY, ONE, SOME};
 use crate::series::{Series, Unit};
 
 fn row(cells: &[String]) {
@@ -77,41 +77,47 @@ fn other_lines(results: &Results) {
     }
 }
 
+fn plural(clients: u32) -> String {
+    format!("{clients} client{}", if clients == 1 { "" } else { "s" })
+}
+
 /// What of a batch is neither check nor store.
 fn batches(results: &Results) {
     for (clients, aim) in [(ONE, "0.1"), (MANY, "0.65")] {
-        let of = |value: &dyn Fn(Figures) -> f64| results.medium.series(clients, |run| value(run.figures));
-        let (check, store, batch) =
-            (&results.check_medium, of(&|figures| figures.store), of(&|figures| figures.batch()));
-        let rest = batch.less(&store).less(check);
+        let of = |value: &dyn Fn(&Figures) -> f64| results.medium.series(clients, |run| value(&run.figures));
+        let (store, batch) = (of(&|figures| figures.store), of(&Figures::batch));
+        let check = results.medium.series(clients, |run| run.check);
+        let rest = batch.less(&store).less(&check);
         let figures = format!(
-            "a batch {}, of it check {}, store {}, rest {}; {} lines; between batches {}",
+            "a batch of {} lines {}: check {}, store {}, the rest {} (of it sending {}); between batches {}",
+            of(&|figures| figures.lines).say(Unit::Number),
             batch.say(Unit::Microseconds),
             check.say(Unit::Microseconds),
             store.say(Unit::Microseconds),
             rest.say(Unit::Microseconds),
-            of(&|figures| figures.lines).say(Unit::Number),
+            of(&|figures| figures.send).say(Unit::Microseconds),
             of(&|figures| figures.idle).say(Unit::Microseconds)
         );
-        let what = format!("of a batch what is neither check nor store, {clients} clients, medium");
+        let what = format!("of a batch what is neither check nor store, {}, medium", plural(clients));
         row(&[rest.over(&batch).say(Unit::Ratio), aim.into(), what, figures]);
     }
 }
 
+/// Waiting on the largest site, in checks of its book.
 fn checks(results: &Results) {
-    let check = &results.check_largest;
-    let each = |value: &Series, aim: &str, what: String, more: String| {
+    let in_checks = |value: &Series, check: &Series, aim: &str, what: String, more: String| {
         let figures = format!("{}; check {}{more}", value.say(Unit::Milliseconds), check.say(Unit::Milliseconds));
         row(&[value.over(check).say(Unit::Ratio), aim.into(), what, figures]);
     };
     for clients in COUNTS {
-        let p50 = results.largest.series(clients, |run| run.p50);
-        each(&p50, "1.5", format!("p50 / one check, {clients} clients, largest"), String::new());
+        let of = |value: fn(&Run) -> f64| results.largest.series(clients, value);
+        let what = format!("p50 / one check, {}, largest", plural(clients));
+        in_checks(&of(|run| run.p50), &of(|run| run.check), "1.5", what, String::new());
     }
-    let snapshots = &results.snapshots;
-    let longest = format!("; the longest wait of a client {}", snapshots.longest.say(Unit::Milliseconds));
-    each(&snapshots.waited, "4", "snapshot: answers waited / one check, largest".into(), longest);
-    each(&snapshots.on_disk, "12", "snapshot: on disk / one check, largest".into(), String::new());
+    let Snapshots { waited, on_disk, longest, check } = &results.snapshots;
+    let longest = format!("; the longest wait of a client {}", longest.say(Unit::Milliseconds));
+    in_checks(waited, check, "4", "snapshot: answers waited / one check, largest".into(), longest);
+    in_checks(on_disk, check, "12", "snapshot: on disk / one check, largest".into(), String::new());
 }
 
 fn replay(site: &str, replays: &Replays) {
@@ -146,7 +152,7 @@ fn over_postgres(results: &Results) {
                 speed(&results.over_postgres, clients)
             ),
         };
-        let what = format!("store over PostgreSQL / in files, {clients} clients, medium");
+        let what = format!("store over PostgreSQL / in files, {}, medium", plural(clients));
         row(&[table.over(&files).say(Unit::Ratio), "2".into(), what, figures]);
     }
 }
