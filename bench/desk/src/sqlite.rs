@@ -28,7 +28,6 @@ extern "C" {
     fn sqlite3_step(statement: *mut c_void) -> c_int;
     fn sqlite3_reset(statement: *mut c_void) -> c_int;
     fn sqlite3_changes(database: *mut c_void) -> c_int;
-    fn sqlite3_busy_timeout(database: *mut c_void, milliseconds: c_int) -> c_int;
 }
 
 const OK: c_int = 0;
@@ -56,15 +55,13 @@ struct Connection {
 unsafe impl Send for Connection {}
 
 impl Connection {
-    fn open(path: &Path, schema: &str) -> Connection {
+    fn open(path: &Path) -> Connection {
         let name = CString::new(path.to_str().expect("a name in UTF-8")).expect("a name without zero bytes");
         let mut connection = Connection { database: null_mut(), add: null_mut(), erase: null_mut() };
         // SAFETY: the name ends with a zero byte, and the handle is written to a field of ours.
         assert_eq!(unsafe { sqlite3_open(name.as_ptr(), &mut connection.database) }, OK, "{}", path.display());
-        // SAFETY: the database is open.
-        assert_eq!(unsafe { sqlite3_busy_timeout(connection.database, 60_000) }, OK);
         connection.execute(SETTINGS);
-        connection.execute(schema);
+        connection.execute(SCHEMA);
         connection.add = connection.prepare(ADD);
         connection.erase = connection.prepare(ERASE);
         connection
@@ -112,30 +109,12 @@ impl Drop for Connection {
     }
 }
 
-/// How the clients share a database.
-#[derive(Clone, Copy, PartialEq)]
-pub enum Sharing {
-    /// All use one connection, in turns.
-    One,
-    /// Each has its own.
-    Each,
-}
-
-/// A new database for each run.
-pub fn run(folder: &Path, crowd: Crowd, sharing: Sharing) -> Run {
-    let path = folder.join("sqlite");
+/// A new database for each run. The clients use one connection in turns: with one for each of them SQLite was no faster at 8 clients, and
+/// slower at 64, where some waited for seconds.
+pub fn run(folder: &Path, crowd: Crowd) -> Run {
     for end in ["", "-wal", "-shm"] {
         let _ = std::fs::remove_file(folder.join(format!("sqlite{end}")));
     }
-    let first = Mutex::new(Connection::open(&path, SCHEMA));
-    match sharing {
-        Sharing::One => crowd.run(|client| {
-            let shared = &first;
-            move |number| shared.lock().expect("no client has failed").book(client, number)
-        }),
-        Sharing::Each => crowd.run(|client| {
-            let own = Connection::open(&path, "");
-            move |number| own.book(client, number)
-        }),
-    }
+    let shared = &Mutex::new(Connection::open(&folder.join("sqlite")));
+    crowd.run(|client| move |number| shared.lock().expect("no client has failed").book(client, number))
 }

@@ -1,7 +1,7 @@
 //! The tables, in Markdown: ratios first, the aims beside them.
 use crate::crowd::{Run, Runs};
 use crate::desk::Figures;
-use crate::measure::{Replays, Results, Snapshots, COUNTS, DEPTH, MANY, ONE, SOME};
+use crate::measure::{Results, Snapshots, COUNTS, DEPTH, MANY, ONE, SOME};
 use crate::series::{Series, Unit};
 
 fn row(cells: &[String]) {
@@ -25,8 +25,7 @@ pub fn print(results: &Results) {
     head(&["ratio", "aim", "of what", "figures"]);
     batches(results);
     checks(results);
-    replay("medium", &results.replay_medium);
-    replay("largest", &results.replay_largest);
+    replay(results);
     over_postgres(results);
 }
 
@@ -89,14 +88,14 @@ fn batches(results: &Results) {
         let check = results.medium.series(clients, |run| run.check);
         let rest = batch.less(&store).less(&check);
         let figures = format!(
-            "a batch of {} lines {}: check {}, store {}, the rest {} (of it sending {}); between batches {}",
-            of(&|figures| figures.lines).say(Unit::Number),
+            "a batch {}: check {}, store {}, the rest {} (of it sending {}); between batches {}; lines a batch {}",
             batch.say(Unit::Microseconds),
             check.say(Unit::Microseconds),
             store.say(Unit::Microseconds),
             rest.say(Unit::Microseconds),
             of(&|figures| figures.send).say(Unit::Microseconds),
-            of(&|figures| figures.idle).say(Unit::Microseconds)
+            of(&|figures| figures.idle).say(Unit::Microseconds),
+            of(&|figures| figures.lines).say(Unit::Number)
         );
         let what = format!("of a batch what is neither check nor store, {}, medium", plural(clients));
         row(&[rest.over(&batch).say(Unit::Ratio), aim.into(), what, figures]);
@@ -120,23 +119,19 @@ fn checks(results: &Results) {
     in_checks(on_disk, check, "12", "snapshot: on disk / one check, largest".into(), String::new());
 }
 
-fn replay(site: &str, replays: &Replays) {
-    let figures = |time: &Series| {
-        format!("{} a change; in memory {}", time.say(Unit::Nanoseconds), replays.memory.say(Unit::Nanoseconds))
-    };
-    let ratio = |time: &Series| time.over(&replays.memory).say(Unit::Ratio);
-    row(&[
-        ratio(&replays.desk),
-        "1.3".into(),
-        format!("replay / the same list in memory, {site}"),
-        figures(&replays.desk),
-    ]);
-    row(&[
-        ratio(&replays.start),
-        String::new(),
-        format!("the same with reading the files, {site}"),
-        figures(&replays.start),
-    ]);
+fn replay(results: &Results) {
+    let (medium, largest) = (&results.replay_medium, &results.replay_largest);
+    let rows = [
+        (medium, &medium.desk, "1.3", "replay / the same list in memory, medium"),
+        (largest, &largest.desk, "1.3", "replay / the same list in memory, largest"),
+        // On the largest site the reading of the snapshot is so much longer that the difference is lost in it.
+        (medium, &medium.start, "", "the same with reading the journal, medium"),
+    ];
+    for (replays, time, aim, what) in rows {
+        let memory = &replays.memory;
+        let figures = format!("{} a change; in memory {}", time.say(Unit::Nanoseconds), memory.say(Unit::Nanoseconds));
+        row(&[time.over(memory).say(Unit::Ratio), aim.into(), what.into(), figures]);
+    }
 }
 
 fn over_postgres(results: &Results) {
@@ -144,9 +139,9 @@ fn over_postgres(results: &Results) {
         let store = |runs: &Runs| runs.series(clients, |run| run.figures.store);
         let (table, files) = (store(&results.over_postgres), store(&results.medium));
         let figures = match table.0.len() {
-            0 => "not built".into(),
+            0 => "not measured: no server, or a desk without `--features pg`".into(),
             _ => format!(
-                "{} a batch; in files {}; bookings {}",
+                "{} a batch; in files {}; bookings: {}",
                 table.say(Unit::Microseconds),
                 files.say(Unit::Microseconds),
                 speed(&results.over_postgres, clients)
