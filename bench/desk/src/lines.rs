@@ -9,7 +9,7 @@ use std::time::Duration;
 /// The answer of a booking that was accepted.
 const DONE: &[u8] = b"000000000000000000000000\n";
 
-pub struct Connection {
+struct Connection {
     stream: UnixStream,
     answers: Vec<u8>,
 }
