@@ -21,6 +21,8 @@ const SIGTERM: i32 = 15;
 pub struct Figures {
     pub engine: f64,
     pub store: f64,
+    /// Of storing, what went into waiting for the disk.
+    pub sync: f64,
     pub send: f64,
     pub read: f64,
     pub idle: f64,
@@ -33,6 +35,7 @@ impl Figures {
         Figures {
             engine: time("engine"),
             store: time("store"),
+            sync: time("sync"),
             send: time("send"),
             read: time("read"),
             idle: time("idle"),

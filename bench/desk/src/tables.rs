@@ -80,24 +80,24 @@ fn plural(clients: u32) -> String {
     format!("{clients} client{}", if clients == 1 { "" } else { "s" })
 }
 
-/// What of a batch is neither check nor store.
+/// What of a batch is neither check nor sync.
 fn batches(results: &Results) {
     for (clients, aim) in [(ONE, "0.1"), (MANY, "0.65")] {
         let of = |value: &dyn Fn(&Figures) -> f64| results.medium.series(clients, |run| value(&run.figures));
-        let (store, batch) = (of(&|figures| figures.store), of(&Figures::batch));
+        let (sync, batch) = (of(&|figures| figures.sync), of(&Figures::batch));
         let check = results.medium.series(clients, |run| run.check);
-        let rest = batch.less(&store).less(&check);
+        let rest = batch.less(&sync).less(&check);
         let figures = format!(
-            "a batch {}: check {}, store {}, the rest {} (of it sending {}); between batches {}; lines a batch {}",
+            "a batch {}: check {}, sync {}, the rest {} (of it sending {}); between batches {}; lines a batch {}",
             batch.say(Unit::Microseconds),
             check.say(Unit::Microseconds),
-            store.say(Unit::Microseconds),
+            sync.say(Unit::Microseconds),
             rest.say(Unit::Microseconds),
             of(&|figures| figures.send).say(Unit::Microseconds),
             of(&|figures| figures.idle).say(Unit::Microseconds),
             of(&|figures| figures.lines).say(Unit::Number)
         );
-        let what = format!("of a batch what is neither check nor store, {}, medium", plural(clients));
+        let what = format!("of a batch what is neither check nor sync, {}, medium", plural(clients));
         row(&[rest.over(&batch).say(Unit::Ratio), aim.into(), what, figures]);
     }
 }
