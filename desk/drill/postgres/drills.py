@@ -59,21 +59,29 @@ def terminate(server, pid):
 
 
 def session(setting):
-    """The session that has the lock is ended by the server, busy or idle: the desk stores and answers no more, and ends with 5."""
+    """The session that has the lock is ended by the server: the desk stores and answers no more, and ends with 5.
+
+    It is busy then, or idle, or frozen: it wakes when another has led for a while, and clients have sent it lines."""
     stand = Stand(setting, new_server(setting))
     leads, other = stand.pair()
     waits = []
     for turn in range(setting.rounds):
         clients = stand.work(leads, stand.random.uniform(0.02, 0.2))
-        idle = turn % 2 == 1
-        if idle:
+        way = ("busy", "idle", "frozen")[turn % 3]
+        if way == "idle":
             pause(clients)
         pid, start = stand.server.leader(stand.number), time.monotonic()
+        if way == "frozen":
+            leads.signal(signal.SIGSTOP)
         terminate(stand.server, pid)
-        if idle:
+        if way != "busy":
             other.started()
             waits.append(time.monotonic() - start)
+        if way == "idle":
             resume(clients, stand)
+        elif way == "frozen":
+            talk(clients, 0.05)
+            leads.signal(signal.SIGCONT)
         talk(clients, 0.2)
         stopped(clients)
         ended(leads, 5)
@@ -82,7 +90,7 @@ def session(setting):
         stand.judged()
         leads, other = other, follows(stand.desk(0 if leads.folder == stand.folders[0] else 1))
     stand.finished(leads, other)
-    return f"{setting.rounds} sessions ended, {stand.answered} answers; another leads after {times(waits)} where they were idle"
+    return f"{setting.rounds} sessions ended, {stand.answered} answers; another leads after {times(waits)} where they were not busy"
 
 
 def pause(clients):
