@@ -1,0 +1,113 @@
+"""Calls: a short session (start with a torn end, lines, snapshot, lines, end), and each system call of it that changes a
+file or sends an answer is once the one before which, in which, or behind which the desk dies, or the one that fails."""
+
+import collections
+import errno
+import random
+import signal
+
+import faults
+from clients import drain, finish, talk
+from judge import Loss
+from reader import Folder
+from drillsite import Site, snapshot_comes
+
+HOWS = ("before", "half", "after", errno.EIO, errno.ENOSPC)
+# What a failed call does, by its letter and the beginning of the file's name: the journal and its mark stop the desk.
+STOPS = (("W", "log"), ("S", "log"), ("T", "log"), ("C", "log"), ("R", "log"), ("W", "mark"), ("S", "mark"), ("C", "mark"))
+GOES_ON = (("W", "snap"), ("S", "snap"), ("C", "snap"), ("R", "snap"), ("A", ""))
+
+
+def base(setting):
+    """A site that was killed, with a record that was half written at the end of its journal."""
+    site = Site(setting, "calls", setting.seed)
+    desk = site.serve("--every", 40).started()
+    clients = site.clients((30,))
+    talk(clients, 0.05)
+    finish(clients)
+    desk.kill()
+    drain(clients)
+    found = site.judged(clients)
+    last = found.segments[max(found.segments)]
+    with open(site.folder / last.name, "r+b") as log:
+        log.seek(last.end)
+        log.write(random.Random(setting.seed).randbytes(90))
+    return site
+
+
+def session(site, env):
+    """The desk, its clients, and how it ended; the session goes as far as the desk lives."""
+    desk = site.serve("--every", 10000, env=env)
+    clients = []
+    if desk.listens():
+        try:
+            clients = site.clients()
+        except OSError:
+            desk.code()
+    for part in range(2 if clients else 0):
+        for client in clients:
+            client.send(*client.first, *(client.traffic.line() for _ in range(4)))
+            client.first = []
+        finish(clients)
+        if part == 0:
+            desk.signal(signal.SIGUSR1)
+            snapshot_comes(desk)
+    desk.signal(signal.SIGTERM)
+    drain(clients)
+    return desk, clients, desk.code()
+
+
+def expected(desk, clients, code, failed):
+    """Whether the desk did what is promised when a call failed."""
+    if not failed:
+        return code == 0
+    kind = (failed[0].data.decode(), failed[0].name[:4].rstrip("-."))
+    if any(kind[0] == op and kind[1].startswith(name) for op, name in STOPS):
+        told = all(client.message and client.message.startswith("! stopped") for client in clients if client.told < len(client.lines))
+        return code == 5 and told
+    if kind in GOES_ON and "listening\n" in desk.text():
+        return code == 0
+    return code in (0, 5)
+
+
+def one_case(site, at, how):
+    """One call breaks; then the site is judged, served again and judged again."""
+    trace = site.setting.work / "trace"
+    trace.unlink(missing_ok=True)
+    desk, clients, code = session(site, faults.variables(site.folder, trace, at, how))
+    failed = [event for event in faults.read_trace(trace) if event.op == "F"]
+    if isinstance(how, int) and not expected(desk, clients, code, failed):
+        raise Loss(f"call {at} failed with {errno.errorcode[how]} ({failed}), and the desk ended with {code}: {desk.text().strip()}")
+    if how == "before" and code not in (0, -signal.SIGKILL):
+        raise Loss(f"the desk was to die before call {at}, and ended with {code}: {desk.text().strip()}")
+    site.judged(clients)
+    desk, clients, code = session(site, None)
+    if code:
+        raise Loss(f"after call {at} ({how}) the next desk ended with {code}: {desk.text().strip()}")
+    site.judged(clients)
+    return failed[0].data.decode() + " " + failed[0].name if failed else how
+
+
+def run(setting):
+    chance = random.Random(setting.seed)
+    first = base(setting)
+    trace = setting.work / "whole"
+    site = first.copy("calls0")
+    _, clients, code = session(site, faults.variables(site.folder, trace))
+    if code:
+        raise Loss(f"the session ended with {code}")
+    site.judged(clients)
+    site.remove()
+    count = len(faults.read_trace(trace))
+    cases = [(at, how) for at in range(1, count + 1) for how in HOWS]
+    if setting.rounds < len(cases):
+        cases = sorted(chance.sample(cases, setting.rounds), key=str)
+    seen = collections.Counter()
+    for at, how in cases:
+        site = first.copy("call")
+        try:
+            seen[one_case(site, at, how) if isinstance(how, int) else how] += 1
+        except Loss as loss:
+            raise Loss(f"call {at}, {how}: {loss}") from None
+        site.remove()
+    return f"{len(cases)} of {count * len(HOWS)} ways to break {count} calls: {', '.join(f'{n} {what}' for what, n in seen.items())}"

@@ -1,0 +1,111 @@
+"""A desk that a drill runs: started, signalled, ended, and its other commands."""
+
+import os
+import signal
+import subprocess
+import time
+from pathlib import Path
+from typing import NamedTuple
+
+from judge import Loss, Trouble, lawful
+from reader import DAMAGED, Folder, words_of
+from traffic import SMALL, hexed
+
+PATIENCE = 20
+
+
+class Setting(NamedTuple):
+    """What a drill is given: the desk's program, a folder to work in, a seed, how many rounds, and whether it is the long run."""
+
+    desk: Path
+    work: Path
+    seed: int
+    rounds: int
+    long: bool
+
+
+class Desk:
+    """A desk that serves a folder."""
+
+    def __init__(self, setting, folder, *options, env=None):
+        self.folder, self.said = Path(folder), setting.work / "desk.out"
+        with open(self.said, "wb") as out:
+            command = [setting.desk, "serve", folder, *map(str, options)]
+            self.process = subprocess.Popen(command, stdout=out, stderr=out, stdin=subprocess.DEVNULL,
+                                            env={**os.environ, **(env or {})})
+
+    def text(self):
+        return self.said.read_text(errors="replace")
+
+    def listens(self):
+        """Waits until it listens; False if it ended before."""
+        end = time.monotonic() + PATIENCE
+        while time.monotonic() < end:
+            if "listening\n" in self.text():
+                return True
+            if self.process.poll() is not None:
+                return "listening\n" in self.text()
+            time.sleep(0.002)
+        self.kill()
+        raise Loss(f"the desk neither listens nor ends in {PATIENCE} seconds")
+
+    def started(self):
+        if not self.listens():
+            raise Loss(f"the desk does not start, {self.code()}: {self.text().strip()}")
+        return self
+
+    def signal(self, number):
+        if self.process.poll() is None:
+            self.process.send_signal(number)
+
+    def kill(self):
+        self.signal(signal.SIGKILL)
+        return self.code()
+
+    def end(self):
+        self.signal(signal.SIGTERM)
+        return self.code()
+
+    def code(self):
+        """Its exit code, once it has ended."""
+        try:
+            return self.process.wait(PATIENCE)
+        except subprocess.TimeoutExpired:
+            self.process.kill()
+            self.process.wait()
+            raise Loss(f"the desk does not end in {PATIENCE} seconds") from None
+
+
+def command(setting, *words, given=""):
+    """Runs a command of the desk: its exit code, what it wrote, and its messages."""
+    done = subprocess.run([setting.desk, *map(str, words)], input=given.encode(), capture_output=True, timeout=120, check=False)
+    return done.returncode, done.stdout, done.stderr.decode(errors="replace")
+
+
+def new_site(setting, name, settings=SMALL):
+    folder = setting.work / name
+    code, _, why = command(setting, "init", folder, given=hexed(settings) + "\n")
+    if code:
+        raise Trouble(f"desk init ends with {code}: {why}")
+    return folder
+
+
+def book_at(setting, folder, seq):
+    """The words that `desk replay` gives."""
+    code, book, why = command(setting, "replay", folder, "--to", seq)
+    if code:
+        raise Loss(f"desk replay --to {seq} ends with {code}: {why}")
+    return words_of(book)
+
+
+def judged(setting, folder, judge, clients):
+    """Judges a site that no desk has: by the reader, by the engine, and by the desk's own commands."""
+    found = Folder(folder)
+    start = found.start(lawful)
+    code, _, why = command(setting, "check", folder)
+    if start.verdict == DAMAGED or code:
+        raise Loss(f"the site is damaged: reader says {start.verdict} {start.why}, desk check ends with {code}: {why.strip()}")
+    judge.judge(found, clients)
+    if book_at(setting, folder, len(judge.calls)) != judge.engine.words():
+        raise Loss("desk replay gives another book than the engine's list from fresh")
+    return found

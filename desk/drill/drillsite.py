@@ -1,0 +1,60 @@
+"""A site under drill: its folder, its judge, its clients' traffic, and what they are to send again."""
+
+import copy
+import random
+import shutil
+import time
+
+from clients import Client
+from desk import Desk, judged, new_site
+from judge import Judge
+from reader import ORDER
+from traffic import CLIENTS, SMALL, Traffic, owner
+
+
+class Site:
+    def __init__(self, setting, name, seed, settings=SMALL):
+        self.setting, self.folder = setting, new_site(setting, name, settings)
+        self.judge = Judge(settings, owner)
+        self.traffic = [Traffic(client, f"{seed} {name}", settings) for client in range(CLIENTS)]
+        self.again = [[] for _ in self.traffic]
+        self.random = random.Random(f"{seed} {name} site")
+
+    def copy(self, name):
+        """The same site once more, under another name."""
+        twin = copy.copy(self)
+        twin.folder = self.setting.work / name
+        shutil.rmtree(twin.folder, ignore_errors=True)
+        shutil.copytree(self.folder, twin.folder, ignore=shutil.ignore_patterns("sock"))
+        twin.judge, twin.traffic, twin.again, twin.random = copy.deepcopy(
+            (self.judge, self.traffic, self.again, self.random))
+        return twin
+
+    def remove(self):
+        shutil.rmtree(self.folder)
+
+    def serve(self, *options, env=None):
+        return Desk(self.setting, self.folder, *options, env=env)
+
+    def clients(self, windows=(1, 4, 30, 200)):
+        """All clients, connected; each will first send again what it has to."""
+        return [Client(self.folder, traffic, self.random.choice(windows), again)
+                for traffic, again in zip(self.traffic, self.again)]
+
+    def judged(self, clients):
+        """Judges the site behind a round, when no desk has it; orders without an answer, and some with one, are then sent again."""
+        lines = [client.lines for client in clients] or [[] for _ in self.traffic]
+        found = judged(self.setting, self.folder, self.judge, lines)
+        for index, sent in enumerate(lines):
+            orders = [line for line in sent if line.call and line.call.call == ORDER]
+            done = [line.text for line in orders if line.told is not None]
+            lost = [line.text for line in orders if line.told is None]
+            self.again[index] = lost + self.random.sample(done, min(len(done), 5)) if sent else self.again[index]
+        return found
+
+
+def snapshot_comes(desk, seconds=1.0):
+    """Waits until a snapshot that was not there is there, or the desk has ended, or no snapshot comes."""
+    before, end = set(desk.folder.glob("snap-*")), time.monotonic() + seconds
+    while set(desk.folder.glob("snap-*")) <= before and desk.process.poll() is None and time.monotonic() < end:
+        time.sleep(0.002)

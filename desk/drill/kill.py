@@ -1,0 +1,60 @@
+"""Kill: clients send lines of every sort, the desk is killed at a random moment (now and then ended by SIGTERM), and starts
+again on the same folder. Behind each round the files and all answers are judged; then every order without an answer, and
+some with one, are sent again."""
+
+import random
+import signal
+import threading
+
+from clients import drain, finish, talk
+from judge import Loss
+from drillsite import Site
+
+ROUNDS_OF_A_SITE = 25
+
+
+def one_round(site, chance, seconds):
+    """Serves, kills or ends, judges; what the clients sent."""
+    desk = site.serve("--every", 50, "--patience", 10).started()
+    clients = site.clients()
+    gently = chance.random() < 0.2
+    blow = threading.Timer(seconds, desk.signal, [signal.SIGTERM if gently else signal.SIGKILL])
+    events = [(chance.uniform(0, seconds), lambda: desk.signal(signal.SIGUSR1))] if chance.random() < 0.3 else []
+    blow.start()
+    talk(clients, seconds, events)
+    blow.join()
+    drain(clients)
+    code = desk.code()
+    if code != (0 if gently else -signal.SIGKILL):
+        raise Loss(f"the desk ended with {code}: {desk.text().strip()}")
+    site.judged(clients)
+    return clients
+
+
+def settle(site):
+    """A last round in peace: everything that is to be sent again is answered."""
+    desk = site.serve("--every", 50).started()
+    clients = site.clients()
+    for client in clients:
+        client.send(*client.first)
+    finish(clients)
+    desk.end()
+    drain(clients)
+    if any(line.told is None for client in clients for line in client.lines):
+        raise Loss("a line that was sent again is not answered")
+    site.judged(clients)
+
+
+def run(setting):
+    chance = random.Random(setting.seed)
+    lines = answers = calls = 0
+    for first in range(0, setting.rounds, ROUNDS_OF_A_SITE):
+        site = Site(setting, f"kill{first}", setting.seed)
+        for _ in range(min(ROUNDS_OF_A_SITE, setting.rounds - first)):
+            clients = one_round(site, chance, chance.choice((0.003, 0.02, 0.06, 0.12)) * chance.random())
+            lines += sum(len(client.lines) for client in clients)
+            answers += sum(client.told for client in clients)
+        settle(site)
+        calls += len(site.judge.calls)
+        site.remove()
+    return f"{setting.rounds} rounds, {lines} lines sent, {answers} answered, {calls} calls kept"
