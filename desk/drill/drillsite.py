@@ -26,8 +26,9 @@ class Site:
         twin.folder = self.setting.work / name
         shutil.rmtree(twin.folder, ignore_errors=True)
         shutil.copytree(self.folder, twin.folder, ignore=shutil.ignore_patterns("sock"))
-        twin.judge, twin.traffic, twin.again, twin.random = copy.deepcopy(
-            (self.judge, self.traffic, self.again, self.random))
+        twin.judge = self.judge.copy()
+        twin.traffic = [traffic.copy() for traffic in self.traffic]
+        twin.again, twin.random = copy.deepcopy((self.again, self.random))
         return twin
 
     def remove(self):

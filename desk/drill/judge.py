@@ -6,6 +6,7 @@ lines can be laid along the list: a line whose call is kept stands at the place 
 other line (a refusal, an ask, an order sent again) stands at some place where the engine says what the client was told.
 """
 
+import copy
 import ctypes
 import functools
 from pathlib import Path
@@ -80,6 +81,11 @@ class Engine:
         if library().caviar_lay(self.settings, len(settings), self.book, len(self.book)).number:
             raise Trouble("the engine refuses the settings of this drill")
 
+    def copy(self):
+        twin = copy.copy(self)
+        twin.book = type(self.book).from_buffer_copy(self.book)
+        return twin
+
     def words(self):
         return tuple(self.book)
 
@@ -132,6 +138,11 @@ class Remembered:
     def __init__(self):
         self.orders = {}
 
+    def copy(self):
+        twin = Remembered()
+        twin.orders = dict(self.orders)
+        return twin
+
     def add(self, call, answer):
         number = call.words[7]
         if number in self.orders:
@@ -182,6 +193,10 @@ class Trail:
                    if at < len(self.lines) and self.lines[at].call == call and self.lines[at].told in (None, told)}
         return self.at
 
+    def told_last(self):
+        """Whether the line that was laid last was answered."""
+        return min(self.at) <= self.answered
+
     def ended(self):
         """Whether all answered lines are accounted for; the others may have been done or not."""
         return max(self.at) >= self.answered
@@ -193,7 +208,27 @@ class Judge:
     def __init__(self, settings, owner):
         self.settings, self.owner = settings, owner
         self.line = hexed(settings)
-        self.engine, self.calls, self.remembered = Engine(settings), [], Remembered()
+        self.begin()
+
+    def begin(self):
+        """`answered` is how many calls there are up to the last one whose line was answered."""
+        self.engine, self.calls, self.remembered, self.answered = Engine(self.settings), [], Remembered(), 0
+
+    def copy(self):
+        twin = copy.copy(self)
+        twin.engine, twin.calls, twin.remembered = self.engine.copy(), list(self.calls), self.remembered.copy()
+        return twin
+
+    def again(self, calls):
+        """Begins again, with calls that were judged before."""
+        self.begin()
+        for call in calls:
+            self.take(call, self.engine.do(call))
+
+    def take(self, call, answer):
+        self.calls.append(call)
+        if call.call == ORDER:
+            self.remembered.add(call, answer)
 
     def unkept(self, line):
         """What a line is told here if nothing is kept of it; None if something would be."""
@@ -223,9 +258,8 @@ class Judge:
             if not trails[owner].stored(call, answer):
                 raise Loss(f"call {len(self.calls)} was not sent by client {owner}, or was told something else, "
                            f"or a line before it is missing: {call}, answered {answer}")
-            if call.call == ORDER:
-                self.remembered.add(call, answer)
-            self.calls.append(call)
+            self.take(call, answer)
+            self.answered = len(self.calls) if trails[owner].told_last() else self.answered
             for trail in trails:
                 trail.passed(self)
         for trail in trails:

@@ -225,6 +225,12 @@ class Folder:
         """All calls from the first on, as far as the segments join."""
         return [call for record in self.records() for call in record.calls]
 
+    def calls_from(self, seq):
+        """The calls behind a place, by the segments that are good, whether all those before are or not."""
+        segments = (segment for segment in self.segments.values() if not isinstance(segment, Wrong))
+        records = (record for segment in segments for record in segment.records if record.place.seq >= seq)
+        return [call for record in records for call in record.calls]
+
     def records(self):
         place, records = Place(0, 0), []
         for segment in self.segments.values():

@@ -4,6 +4,7 @@ Each client books for visitors and meetings of its own (those whose number leave
 clients there are) and counts its orders in a range of its own, so that a kept call tells which client sent it.
 """
 
+import copy
 import random
 import string
 from typing import NamedTuple, Optional
@@ -98,6 +99,11 @@ class Traffic:
         self.limits, self.next_order = settings, OWN_ORDERS * client + 1
         self.count: Optional[int] = None
         self.sent_orders = []
+
+    def copy(self):
+        twin = copy.copy(self)
+        twin.random, twin.sent_orders = copy.deepcopy(self.random), list(self.sent_orders)
+        return twin
 
     def own(self, limit):
         return self.random.randrange(self.client, limit, CLIENTS)

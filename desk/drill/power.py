@@ -1,0 +1,186 @@
+"""Power: from the trace of a session the disks are made that a power cut could leave at each point of it. What was synced is
+there; of what was not, each sector of 512 bytes and each name comes or not. On each such disk the desk must start, with all
+answers that were sent before the cut, and the next session goes on from one of them."""
+
+import random
+import shutil
+
+import faults
+from calls import session
+from clients import drain, finish
+from drillsite import Site
+from judge import Loss
+from traffic import Line
+
+SECTOR = 512
+CUTS_OF_A_SESSION = 12
+SESSIONS_OF_A_SITE = 5
+# The socket and the lock are a process's own.
+NOT_DATA = ("sock", "lock")
+
+
+class File:
+    """A file's bytes that are on disk for sure, and what was done to it since: ("W", where, bytes) and ("T", length)."""
+
+    def __init__(self, data=b""):
+        self.data, self.since = bytearray(data), []
+
+    def sync(self):
+        for change in self.since:
+            self.change(self.data, change)
+        self.since = []
+
+    @staticmethod
+    def change(data, change):
+        if change[0] == "T":
+            del data[change[1]:]
+            data.extend(bytes(change[1] - len(data)))
+            return
+        _, at, new = change
+        data.extend(bytes(max(0, at - len(data))))
+        data[at:at + len(new)] = new
+
+    def cut(self, comes):
+        """The bytes behind a power cut; `comes` says of each thing whether it came to the disk."""
+        data = bytearray(self.data)
+        for change in self.since:
+            if change[0] == "T":
+                if comes():
+                    self.change(data, change)
+                continue
+            _, at, new = change
+            while new:
+                length = SECTOR - at % SECTOR
+                if comes():
+                    self.change(data, ("W", at, new[:length]))
+                at, new = at + length, new[length:]
+        return bytes(data)
+
+
+class Disk:
+    """A folder while events come: the names as they are, those that are on disk for sure, and what was done to names since."""
+
+    def __init__(self, folder):
+        self.names = {path.name: File(path.read_bytes()) for path in folder.iterdir() if not path.name.startswith(NOT_DATA)}
+        self.sure, self.since = dict(self.names), []
+
+    def event(self, event):
+        name = event.name
+        if name.startswith(NOT_DATA) or event.op in "AF":
+            return
+        if event.op == "C" and name not in self.names:
+            self.rename(None, name, File())
+        elif event.op in "CT":
+            if event.op == "T" or event.number:
+                self.names[name].since.append(("T", 0 if event.op == "C" else event.number))
+        elif event.op == "W":
+            self.names[name].since.append(("W", event.number, event.data))
+        elif event.op == "S":
+            self.names[name].sync()
+        elif event.op in "RU":
+            self.rename(name, event.data.decode() if event.op == "R" else None, self.names[name])
+        elif event.op == "D":
+            self.sure, self.since = dict(self.names), []
+
+    def rename(self, old, new, file):
+        self.apply(self.names, (old, new, file))
+        self.since.append((old, new, file))
+
+    @staticmethod
+    def apply(names, change):
+        old, new, file = change
+        if names.get(old) is file:
+            del names[old]
+        if new:
+            names[new] = file
+
+    def cut(self, folder, comes):
+        """Writes a folder that a power cut could leave."""
+        names = dict(self.sure)
+        for change in self.since:
+            if comes():
+                self.apply(names, change)
+        shutil.rmtree(folder, ignore_errors=True)
+        folder.mkdir()
+        for name, file in names.items():
+            (folder / name).write_bytes(file.cut(comes))
+
+
+def answers_before(events, count):
+    """How many lines each client was sent in the first so many events."""
+    sent = {}
+    for event in events[:count]:
+        if event.op == "A":
+            sent[event.number] = sent.get(event.number, b"") + event.data
+    return {client: sum(not line.startswith(b"!") for line in data.split(b"\n")[:-1]) for client, data in sent.items()}
+
+
+def known(clients, sent):
+    """The clients' lines, with the answers that were sent before the cut."""
+    lines = []
+    for number, client in enumerate(clients, 1):
+        known_lines = [Line(line.text) for line in client.lines]
+        for line, told in zip(known_lines[:sent.get(number, 0)], client.lines):
+            line.told = told.told
+        lines.append(known_lines)
+    return lines
+
+
+class Known:
+    """A client of the session as it looks at the cut."""
+
+    def __init__(self, lines):
+        self.lines = lines
+
+
+def chooser(chance):
+    """What comes to the disk: nothing, everything, or by some odds."""
+    odds = chance.choice((0, 1, 0.5, 0.5, 0.1, 0.9))
+    return lambda: chance.random() < odds
+
+
+def starts(site):
+    """The desk starts, answers what is sent again, and is killed."""
+    desk = site.serve().started()
+    clients = site.clients()
+    for client in clients:
+        client.send(*client.first, "s", client.traffic.party())
+    finish(clients)
+    desk.kill()
+    drain(clients)
+    site.judged(clients)
+
+
+def one_session(site, chance, cuts):
+    """A session, and the power cuts that could have happened in it; the site behind one of them."""
+    before, trace = site.copy("before"), site.setting.work / "trace"
+    trace.unlink(missing_ok=True)
+    _, clients, code = session(site, faults.variables(site.folder, trace))
+    if code:
+        raise Loss(f"a desk whose calls are only written down ended with {code}")
+    events, disk, passed, after = faults.read_trace(trace), Disk(before.folder), 0, None
+    for point in sorted(chance.choices(range(len(events) + 1), k=cuts)):
+        for event in events[passed:point]:
+            disk.event(event)
+        passed = point
+        after = before.copy("cut")
+        disk.cut(after.folder, chooser(chance))
+        after.traffic = [traffic.copy() for traffic in site.traffic]
+        try:
+            after.judged([Known(lines) for lines in known(clients, answers_before(events, point))])
+            starts(after)
+        except Loss as loss:
+            last = events[point - 1][:3] if point else "the start"
+            raise Loss(f"power cut at event {point} of {len(events)}, behind {last}: {loss}") from None
+    return after
+
+
+def run(setting):
+    chance, cuts, sessions, site = random.Random(setting.seed), 0, 0, None
+    while cuts < setting.rounds:
+        if sessions % SESSIONS_OF_A_SITE == 0:
+            site = Site(setting, f"power{sessions}", setting.seed)
+        count = min(CUTS_OF_A_SESSION, setting.rounds - cuts)
+        site = one_session(site.copy("session"), chance, count)
+        cuts, sessions = cuts + count, sessions + 1
+    return f"{cuts} power cuts in {sessions} sessions"
