@@ -25,7 +25,7 @@ class Client:
     def __init__(self, folder, traffic=None, window=1, first=()):
         self.sock, self.traffic, self.window = connect(folder), traffic, window
         self.sock.setblocking(False)
-        self.lines, self.told, self.out, self.rest = [], 0, b"", b""
+        self.lines, self.told, self.out, self.rest = [], 0, bytearray(), b""
         self.first, self.message, self.open = list(first), None, True
 
     def send(self, *texts):
@@ -43,11 +43,13 @@ class Client:
 
     def write(self):
         try:
-            self.out = self.out[self.sock.send(self.out):]
+            with memoryview(self.out) as out:
+                sent = self.sock.send(out[:1 << 18])
+            del self.out[:sent]
         except BlockingIOError:
             pass
         except OSError:
-            self.out = b""
+            self.out.clear()
 
     def read(self):
         try:

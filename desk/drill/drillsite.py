@@ -46,7 +46,7 @@ class Site:
         """Judges the site behind a round, when no desk has it; orders without an answer, and some with one, are then sent again."""
         lines = [client.lines for client in clients] or [[] for _ in self.traffic]
         found = judged(self.setting, self.folder, self.judge, lines)
-        for index, sent in enumerate(lines):
+        for index, sent in enumerate(lines[:len(self.again)]):
             orders = [line for line in sent if line.call and line.call.call == ORDER]
             done = [line.text for line in orders if line.told is not None]
             lost = [line.text for line in orders if line.told is None]

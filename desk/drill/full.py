@@ -61,7 +61,7 @@ def starts(site):
 def on_small_disk(setting, place, chance):
     """A file of somebody else's fills the disk up to some point: the desk's first space is reserved, the next is not."""
     site = Site(setting, f"{place.name}/site", setting.seed)
-    desk = site.serve("--every", chance.choice((100, 100000))).started()
+    desk = site.serve("--every", chance.choice((100, 100000)) if setting.long else 100).started()
     rest = place / "rest"
     fill(rest)
     clients = filled(site, desk)
