@@ -76,7 +76,7 @@ fn serve_options(folder: &Path, rest: &[String]) -> Outcome<Options> {
         match option.as_str() {
             "--tcp" => options.tcp = Some(loopback(parsed("--tcp", rest.next())?)?),
             "--pg" => options.pg = Some(parsed("--pg", rest.next())?),
-            "--clients" => options.clients = parsed("--clients", rest.next())?,
+            "--clients" => options.clients = clients(parsed("--clients", rest.next())?)?,
             "--every" => options.every = parsed("--every", rest.next())?,
             "--patience" => options.patience = Duration::from_secs(parsed("--patience", rest.next())?),
             "--accept-loss" => options.accept_loss = Some(parsed("--accept-loss", rest.next())?),
@@ -85,6 +85,14 @@ fn serve_options(folder: &Path, rest: &[String]) -> Outcome<Options> {
         }
     }
     Ok(options)
+}
+
+/// Each has a descriptor, and their lines together are one record.
+fn clients(count: usize) -> Outcome<usize> {
+    match count {
+        1..=1_000 => Ok(count),
+        _ => usage("--clients is from 1 to 1000"),
+    }
 }
 
 fn loopback(address: SocketAddr) -> Outcome<SocketAddr> {
@@ -149,6 +157,7 @@ fn write(bytes: &[u8]) -> Outcome<()> {
 /// The book as it is now, for people.
 fn page(folder: &Folder, page: impl Fn(&[u32]) -> Result<String, String>) -> Outcome<()> {
     let found = load(folder, Want::default())?;
+    found.notes.iter().for_each(|note| eprintln!("desk: note: {note}"));
     match page(&found.site.book) {
         Ok(page) => write(page.as_bytes()),
         Err(why) => stop(USAGE, why),

@@ -5,6 +5,7 @@ use std::net::Shutdown;
 use std::os::unix::net::UnixStream;
 use std::path::Path;
 use std::sync::{Arc, Condvar, Mutex};
+use std::time::{Duration, Instant};
 
 /// Lines that may be unanswered at a time (docs/DESK.md, 4.3).
 const MOST: usize = 1_000;
@@ -33,9 +34,20 @@ impl Unanswered {
     }
 }
 
+/// A desk that was just started may not listen yet.
+fn connected(folder: &Path) -> std::io::Result<UnixStream> {
+    let last = Instant::now() + Duration::from_secs(3);
+    loop {
+        match UnixStream::connect(folder.join("sock")) {
+            Err(_) if Instant::now() < last => std::thread::sleep(Duration::from_millis(50)),
+            result => return result,
+        }
+    }
+}
+
 /// Sends until standard input ends, and waits for the last answer.
 pub fn send(folder: &Path) -> Outcome<()> {
-    let stream = system("connecting to the desk (is it running?)", UnixStream::connect(folder.join("sock")))?;
+    let stream = system("connecting to the desk (is it running?)", connected(folder))?;
     let unanswered = Arc::new(Unanswered::default());
     let (output, counted) = (system("connecting", stream.try_clone())?, unanswered.clone());
     std::thread::spawn(move || send_lines(output, &counted));

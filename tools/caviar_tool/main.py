@@ -7,6 +7,7 @@ from pathlib import Path
 
 from . import library
 from . import typed as words_typed
+from .desk import conversation
 from .explain import echo, explained, question, sentence, sentence_alone, sentence_of_settings
 from .lines import printable, read_answer, read_lines, text_lines, written
 from .rules import INFO, KINDS, QUESTIONS, Ask, Charge, Problem, Raw, Settings
@@ -26,6 +27,11 @@ library that tools/build-library makes:
     caviar party meeting 0 visitor 1 sessions 0..1, visitor 2 session 1 < site.txt
     caviar ask add-hotel room 0 visitor 1 date 0 < site.txt
     caviar charge meeting 0 dates 0..2 room 12000 seat 850 percent 10 < site.txt
+
+Where a desk serves a site (docs/DESK.md), its folder takes the place of the site:
+
+    caviar desk FOLDER ask add-hotel room 0 visitor 1 date 0
+    caviar desk FOLDER < requests.txt
 """
 
 PAGE = """
@@ -63,6 +69,15 @@ What a meeting costs on the site over some dates: rates in cents for a conferenc
 seat, and by how many percent the rooms are less from ten room-sessions on. Without percent they are not.
 
     caviar charge meeting 0 dates 0..2 room 12000 seat 850 percent 10 < site.txt
+"""
+
+
+DESK = """
+Requests, orders, asks, commits and parties as they are typed elsewhere, one in the arguments or many on standard input.
+Settings may stand before them and must be those of the site.
+
+    caviar desk mysite add-leave visitor 1 dates 0..1
+    caviar desk mysite < requests.txt
 """
 
 
@@ -186,6 +201,12 @@ def single(parse):
     return run
 
 
+def desk(options):
+    """What the desk of a folder tells to typed calls."""
+    text = " ".join(options.words) if options.words else standard_input()
+    return conversation(options.folder, words_typed.parse_text(text, calls=True))
+
+
 def table(_):
     """The refusal numbers with their rules in words."""
     lines = []
@@ -240,6 +261,9 @@ def parser():
     charging = command(single(words_typed.parse_charge), "charge",
                        "say what a meeting costs, on the site on standard input", CHARGE)
     charging.add_argument("words", nargs="+", metavar="WORD", help="meeting N dates N..N room N seat N [percent N]")
+    talking = command(desk, "desk", "send typed requests to the desk of a folder, and say what it tells", DESK)
+    talking.add_argument("folder", metavar="FOLDER", help="the folder of the site that the desk serves")
+    talking.add_argument("words", nargs="*", metavar="WORD", help="one typed call; else standard input")
     command(table, "table", "print the refusal numbers 1 to 31 with their rules")
     command(kinds, "kinds", "print the kinds of requests and the words that each takes")
     return top

@@ -12,10 +12,16 @@ pub use files::FileJournal;
 pub use snapshot::{make, prune, Snapshot};
 pub use start::{load, Found, Want};
 
-use crate::{stop, system, Outcome, LOCKED};
+use crate::{stop, system, Outcome, LOCKED, USAGE};
 use std::fs::File;
 use std::io::{Read, Seek, Write};
 use std::path::{Path, PathBuf};
+use std::time::{Duration, Instant};
+
+/// A desk that was just killed still has its lock for a moment.
+const DYING: Duration = Duration::from_millis(500);
+
+const ELSEWHERE: &str = "elsewhere";
 
 #[derive(Clone)]
 pub struct Folder(PathBuf);
@@ -36,6 +42,12 @@ impl Folder {
     /// Makes new names and renamings last.
     fn sync(&self) -> std::io::Result<()> {
         File::open(&self.0)?.sync_all()
+    }
+
+    /// Makes the folder's own name last.
+    fn sync_name(&self) -> std::io::Result<()> {
+        let above = self.0.canonicalize()?;
+        File::open(above.parent().unwrap_or(&above))?.sync_all()
     }
 
     fn rename(&self, from: &str, to: &str) -> std::io::Result<()> {
@@ -63,11 +75,39 @@ impl Folder {
         self.numbered("log-")
     }
 
+    /// Is the journal of this site in a database, not in this folder?
+    pub fn is_elsewhere(&self) -> bool {
+        self.path(ELSEWHERE).exists()
+    }
+
+    /// Says so in the folder, before the first record goes there: a desk over files alone would serve an old book.
+    pub fn set_elsewhere(&self) -> Outcome<()> {
+        if !self.segments()?.is_empty() {
+            let why = "this site keeps its journal in files: `desk replay` and `desk import` make a site from its book that has none yet";
+            return stop(USAGE, why);
+        }
+        if self.is_elsewhere() {
+            return Ok(());
+        }
+        let write = File::create(self.path(ELSEWHERE)).and_then(|mut file| {
+            file.write_all(b"the journal of this site is in PostgreSQL\n")?;
+            file.sync_all()?;
+            self.sync()
+        });
+        system("saying that the journal is elsewhere", write)
+    }
+
     /// One desk for a site: the lock lasts as long as the file is open.
     pub fn lock(&self) -> Outcome<File> {
         let open = File::options().read(true).write(true).create(true).truncate(false).open(self.path("lock"));
         let mut file = system("opening the lock", open)?;
-        if !crate::system::try_lock(&file) {
+        let last = Instant::now() + DYING;
+        let mut ours = crate::system::try_lock(&file);
+        while !ours && Instant::now() < last {
+            std::thread::sleep(Duration::from_millis(20));
+            ours = crate::system::try_lock(&file);
+        }
+        if !ours {
             let mut owner = String::new();
             let _ = file.read_to_string(&mut owner);
             return stop(LOCKED, format!("another desk has this site: process {}", owner.trim()));

@@ -91,8 +91,9 @@ pub fn make(folder: &Folder, book: Vec<u32>) -> Outcome<()> {
         return stop(USAGE, format!("these words are no book: question {number} refuses them"));
     }
     if !folder.exists() {
-        system("making the folder", DirBuilder::new().recursive(true).mode(0o700).create(&folder.0))?;
+        system("making the folder", DirBuilder::new().mode(0o700).create(&folder.0))?;
     }
+    system("making the folder last", folder.sync_name())?;
     if !folder.snapshots()?.is_empty() || !folder.segments()?.is_empty() {
         return stop(USAGE, format!("there is a site in {} already", folder.0.display()));
     }

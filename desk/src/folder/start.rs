@@ -54,7 +54,12 @@ pub fn load(folder: &Folder, want: Want) -> Outcome<Found> {
         notes,
     };
     let mut loss = false;
-    if !want.without_journal {
+    if folder.is_elsewhere() && !want.without_journal {
+        if want.to.is_some() {
+            return stop(USAGE, "the journal of this site is in PostgreSQL, and this command reads files");
+        }
+        walk.notes.push("the journal of this site is in PostgreSQL: this is its newest snapshot here".into());
+    } else if !want.without_journal {
         let walked = walk.segments().and_then(|()| walk.compare(mark));
         if let Err(damage) = walked {
             loss = walk.accepts(damage)?;
@@ -70,7 +75,10 @@ pub fn load(folder: &Folder, want: Want) -> Outcome<Found> {
 fn newest(folder: &Folder, want: Want, notes: &mut Vec<String>) -> Outcome<Site> {
     let all = folder.snapshots()?;
     if all.is_empty() {
-        return stop(USAGE, "there is no site in this folder; `desk init` makes one");
+        return match folder.segments()?.len() {
+            0 => stop(USAGE, "there is no site in this folder; `desk init` makes one"),
+            _ => stop(DAMAGED, "there is a journal in this folder, and no snapshot"),
+        };
     }
     let wanted = |seq: &u64| *seq <= want.to.unwrap_or(u64::MAX) && (*seq == 0 || !want.from_first);
     for seq in all.into_iter().rev().filter(wanted) {

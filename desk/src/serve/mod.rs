@@ -67,8 +67,12 @@ pub fn serve(options: &Options) -> Outcome<()> {
 
 fn open(folder: &Folder, options: &Options) -> Outcome<(Found, Box<dyn Journal>)> {
     if let Some(connection) = &options.pg {
+        folder.set_elsewhere()?;
         let found = load(folder, Want { without_journal: true, ..Want::default() })?;
         return elsewhere(connection, found);
+    }
+    if folder.is_elsewhere() {
+        return crate::stop(crate::USAGE, "this site keeps its journal in PostgreSQL: `--pg CONNECTION` is wanted");
     }
     let found = load(folder, Want { accept_loss: options.accept_loss, ..Want::default() })?;
     found.put_loss_aside(folder)?;

@@ -83,7 +83,8 @@ impl<'a> Desk<'a> {
         let patience = self.options.patience;
         self.clients.retain(|client| client.stays(patience));
         self.snapshots.finish(false);
-        if system::snapshot_wanted() || self.snapshots.since(&self.site) >= self.options.every {
+        let due = self.snapshots.since(&self.site) >= self.options.every;
+        if !self.snapshots.busy() && (due || system::snapshot_wanted()) {
             self.snapshots.begin(&self.site, self.journal.as_mut())?;
         }
         Ok(())

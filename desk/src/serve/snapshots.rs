@@ -24,9 +24,14 @@ impl Snapshots {
         site.place.seq - self.last
     }
 
+    /// Is one being written?
+    pub fn busy(&self) -> bool {
+        self.writer.is_some()
+    }
+
     /// Begins a segment and a snapshot, unless one is being written or nothing was kept since.
     pub fn begin(&mut self, site: &Site, journal: &mut dyn Journal) -> Outcome<()> {
-        if self.writer.is_some() || self.since(site) == 0 {
+        if self.busy() || self.since(site) == 0 {
             return Ok(());
         }
         let start = Instant::now();
