@@ -11,7 +11,7 @@ from clients import drain, finish, talk
 from desk import book_at, command
 from drillsite import Site
 from judge import Loss, lawful
-from reader import DAMAGED, HEAD, Folder
+from reader import DAMAGED, HEAD, STARTS, Folder
 
 LAST = 4096
 
@@ -109,6 +109,8 @@ def one_damage(site, chance):
     if expects.verdict == DAMAGED:
         raise Loss(f"{what}: the desk starts, and reader.py says: {expects.why}")
     desk.kill()
+    if Folder(site.folder).start(lawful).verdict != STARTS:
+        raise Loss(f"{what}: the desk has started, and the torn end is still there")
     serves(site, expects, what)
     again(site)
     return "passed over" if expects.notes else expects.verdict
