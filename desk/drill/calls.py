@@ -7,27 +7,20 @@ import random
 import signal
 
 import faults
-from clients import drain, finish, talk
+from clients import drain, finish
 from judge import Loss
-from reader import Folder
 from drillsite import Site, snapshot_comes
 
 HOWS = ("before", "half", "after", errno.EIO, errno.ENOSPC)
 # What a failed call does, by its letter and the beginning of the file's name: the journal and its mark stop the desk.
-STOPS = (("W", "log"), ("S", "log"), ("T", "log"), ("C", "log"), ("R", "log"), ("W", "mark"), ("S", "mark"), ("C", "mark"))
+STOPS = (("W", "log"), ("S", "log"), ("T", "log"), ("C", "log"), ("R", "log"), ("W", "mark"), ("S", "mark"), ("C", "mark"), ("T", "mark"))
 GOES_ON = (("W", "snap"), ("S", "snap"), ("C", "snap"), ("R", "snap"), ("A", ""))
 
 
 def base(setting):
     """A site that was killed, with a record that was half written at the end of its journal."""
     site = Site(setting, "calls", setting.seed)
-    desk = site.serve("--every", 40).started()
-    clients = site.clients((30,))
-    talk(clients, 0.05)
-    finish(clients)
-    desk.kill()
-    drain(clients)
-    found = site.judged(clients)
+    found = site.grown(40, "--every", 40)
     last = found.segments[max(found.segments)]
     with open(site.folder / last.name, "r+b") as log:
         log.seek(last.end)
@@ -35,7 +28,7 @@ def base(setting):
     return site
 
 
-def session(site, env):
+def session(site, env, turns=1, lines=4):
     """The desk, its clients, and how it ended; the session goes as far as the desk lives."""
     desk = site.serve("--every", 10000, env=env)
     clients = []
@@ -44,12 +37,12 @@ def session(site, env):
             clients = site.clients()
         except OSError:
             desk.code()
-    for part in range(2 if clients else 0):
+    for turn in range(2 * turns if clients else 0):
         for client in clients:
-            client.send(*client.first, *(client.traffic.line() for _ in range(4)))
+            client.send(*client.first, *(client.traffic.line() for _ in range(lines)))
             client.first = []
         finish(clients)
-        if part == 0:
+        if turn + 1 == turns:
             desk.signal(signal.SIGUSR1)
             snapshot_comes(desk)
     desk.signal(signal.SIGTERM)
@@ -80,12 +73,14 @@ def one_case(site, at, how):
         raise Loss(f"call {at} failed with {errno.errorcode[how]} ({failed}), and the desk ended with {code}: {desk.text().strip()}")
     if how == "before" and code not in (0, -signal.SIGKILL):
         raise Loss(f"the desk was to die before call {at}, and ended with {code}: {desk.text().strip()}")
-    site.judged(clients)
+    site.judged(clients, thorough=at % 4 == 0)
     desk, clients, code = session(site, None)
     if code:
         raise Loss(f"after call {at} ({how}) the next desk ended with {code}: {desk.text().strip()}")
-    site.judged(clients)
-    return failed[0].data.decode() + " " + failed[0].name if failed else how
+    site.judged(clients, thorough=False)
+    if isinstance(how, int):
+        return f"failed {failed[0].data.decode()} of {failed[0].name.split('-')[0] or 'a socket'}" if failed else "not reached"
+    return f"died {how}"
 
 
 def run(setting):
@@ -106,7 +101,7 @@ def run(setting):
     for at, how in cases:
         site = first.copy("call")
         try:
-            seen[one_case(site, at, how) if isinstance(how, int) else how] += 1
+            seen[one_case(site, at, how)] += 1
         except Loss as loss:
             raise Loss(f"call {at}, {how}: {loss}") from None
         site.remove()

@@ -7,7 +7,8 @@ import random
 import re
 import signal
 
-from clients import drain, finish, talk
+import faults
+from clients import drain, finish
 from desk import book_at, command
 from drillsite import Site
 from judge import Loss, lawful
@@ -20,14 +21,7 @@ def base(setting, name, how):
     """A site with several segments and snapshots."""
     site = Site(setting, name, setting.seed)
     for every in (40, 60, 10000):
-        desk = site.serve("--every", every).started()
-        clients = site.clients((30,))
-        talk(clients, 0.05)
-        finish(clients)
-        desk.signal(how)
-        drain(clients)
-        desk.code()
-        site.judged(clients)
+        site.grown(40, "--every", every, how=how)
     return site
 
 
@@ -37,6 +31,8 @@ def targets(folder):
     segments = [segment for segment in found.segments.values() if segment.records]
     last = segments[-1]
     yield "journal", last.name, max(HEAD, last.end - LAST), last.end + 40
+    if last.rest:
+        yield "behind the journal", last.name, last.end, last.end + LAST
     yield "newest segment", max(path.name for path in folder.glob("log-*")), 0, LAST
     yield "mark", "mark", 0, 16
     for seq in sorted(found.snapshots)[-2:]:
@@ -74,29 +70,55 @@ def serves(site, start, what):
         raise Loss(f"{what}: another book is served than the engine's of {seq} calls")
 
 
-def refused(site, desk, before, what, chance):
-    """The desk has ended with 3: nothing was written; if a person accepts the loss, it goes on with the first calls."""
+def refused(site, desk, before, what):
+    """The desk has ended with 3, and nothing was written."""
     if desk.code() != 3:
         raise Loss(f"{what}: the desk ends with {desk.code()}: {desk.text().strip()}")
     if contents(site.folder) != before:
         raise Loss(f"{what}: the desk ended with 3 and has changed files")
-    offer = re.search(r"--accept-loss (\d+)", desk.text())
-    if not offer or chance.random() < 0.5:
-        return "refused"
-    seq = int(offer[1])
+    return re.search(r"--accept-loss (\d+)", desk.text())
+
+
+def accepted(site, seq, before, what, chance):
+    """A person accepts the loss of the message, and no other one: the site goes on with the first calls, and keeps the rest aside. The
+    desk that puts it aside may die at it."""
     wrong = site.serve("--accept-loss", seq + 1)
     if wrong.listens() or wrong.code() != 3 or contents(site.folder) != before:
         raise Loss(f"{what}: a loss was accepted that is not the one of the message")
-    site.serve("--accept-loss", seq).started().kill()
-    if Folder(site.folder).calls()[:seq] != site.judge.calls[:seq] or len(Folder(site.folder).calls()) != seq:
+    env = faults.variables(site.folder, at=chance.randrange(1, 20), how=chance.choice(("before", "half", "after")))
+    desk = site.serve("--accept-loss", seq, env=chance.choice((env, None)))
+    desk.listens()
+    desk.kill()
+    desk = site.serve("--accept-loss", seq).started()
+    desk.kill()
+    calls = Folder(site.folder).calls()
+    if len(calls) != seq or calls != site.judge.calls[:seq]:
         raise Loss(f"{what}: --accept-loss {seq} does not serve the first {seq} calls")
-    site.serve().started().end()
+    for name, data in before.items():
+        if name.startswith(("log-", "snap-")) and not still_there(site.folder, name, data.rstrip(b"\0")):
+            raise Loss(f"{what}: {name} is not kept aside")
+    site.judge.again(calls)
+    site.grown(3)
     return "accepted"
 
 
+def still_there(folder, name, data):
+    """Whether the bytes of a file are there: under its name or one that begins with lost-, or its first under the one and its last under
+    the other."""
+    if any(path.read_bytes().rstrip(b"\0") == data for path in folder.glob(f"*{name}*")):
+        return True
+    for path in folder.glob(f"lost-{name}-*"):
+        end = int(path.name.split("-")[3])
+        if ((folder / name).read_bytes()[:end] + path.read_bytes()).rstrip(b"\0") == data:
+            return True
+    return False
+
+
 def one_damage(site, chance):
-    what, name, first, last = chance.choice(list(targets(site.folder)))
-    what = f"{what}: {damaged(site.folder / name, first, last, chance)}"
+    choices = list(targets(site.folder))
+    snapshots = [choice for choice in choices if "snapshot" in choice[0]]
+    several = snapshots if chance.random() < 0.1 else [chance.choice(choices)]
+    what = ", ".join(f"{what}: {damaged(site.folder / name, first, last, chance)}" for what, name, first, last in several)
     before, expects = contents(site.folder), Folder(site.folder).start(lawful)
     code, _, why = command(site.setting, "check", site.folder)
     if (code == 3) != (expects.verdict == DAMAGED) or contents(site.folder) != before:
@@ -105,7 +127,8 @@ def one_damage(site, chance):
     if not desk.listens():
         if expects.verdict != DAMAGED:
             raise Loss(f"{what}: the desk does not start, and reader.py says that it could: {desk.text().strip()}")
-        return refused(site, desk, before, what, chance)
+        offer = refused(site, desk, before, what)
+        return accepted(site, int(offer[1]), before, what, chance) if offer and chance.random() < 0.5 else "refused"
     if expects.verdict == DAMAGED:
         raise Loss(f"{what}: the desk starts, and reader.py says: {expects.why}")
     desk.kill()

@@ -3,9 +3,10 @@
 import copy
 import random
 import shutil
+import signal
 import time
 
-from clients import Client
+from clients import Client, drain, finish
 from desk import Desk, judged, new_site
 from judge import Judge
 from reader import ORDER
@@ -42,10 +43,22 @@ class Site:
         return [Client(self.folder, traffic, self.random.choice(windows), again)
                 for traffic, again in zip(self.traffic, self.again)]
 
-    def judged(self, clients):
-        """Judges the site behind a round, when no desk has it; orders without an answer, and some with one, are then sent again."""
+    def grown(self, count, *options, how=signal.SIGKILL):
+        """Each client sends so many lines and has its answers; then the desk ends in this way."""
+        desk = self.serve(*options).started()
+        clients = self.clients((1,))
+        for client in clients:
+            client.send(*client.first, *(client.traffic.line() for _ in range(count)))
+        finish(clients)
+        desk.signal(how)
+        drain(clients)
+        desk.code()
+        return self.judged(clients)
+
+    def judged(self, clients, thorough=True):
+        """Judges the site behind a round; orders without an answer, and some with one, are then sent again."""
         lines = [client.lines for client in clients] or [[] for _ in self.traffic]
-        found = judged(self.setting, self.folder, self.judge, lines)
+        found = judged(self.setting, self.folder, self.judge, lines, thorough)
         for index, sent in enumerate(lines[:len(self.again)]):
             orders = [line for line in sent if line.call and line.call.call == ORDER]
             done = [line.text for line in orders if line.told is not None]

@@ -7,8 +7,9 @@ import signal
 import threading
 
 from clients import drain, finish, talk
-from judge import Loss
+from desk import command
 from drillsite import Site
+from judge import Loss
 
 ROUNDS_OF_A_SITE = 25
 
@@ -43,6 +44,9 @@ def settle(site):
     if any(line.told is None for client in clients for line in client.lines):
         raise Loss("a line that was sent again is not answered")
     site.judged(clients)
+    code, _, why = command(site.setting, "audit", site.folder)
+    if code:
+        raise Loss(f"desk audit ends with {code}: {why}")
 
 
 def run(setting):

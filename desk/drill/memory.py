@@ -5,7 +5,7 @@ import collections
 import random
 import struct
 
-from clients import drain, finish, talk
+from clients import drain, finish
 from desk import command
 from drillsite import Site
 from judge import Loss, Trouble
@@ -69,8 +69,9 @@ def lawful_flip(site, desk, clients, word):
 
 def one_flip(site, chance):
     desk = site.serve().started()
-    clients = site.clients((30,))
-    talk(clients, 0.02)
+    clients = site.clients()
+    for client in clients:
+        client.send(*(client.traffic.line() for _ in range(5)))
     finish(clients)
     site.judged(clients)
     for client in clients:
@@ -91,13 +92,7 @@ def one_flip(site, chance):
 def run(setting):
     chance, seen = random.Random(setting.seed), collections.Counter()
     first = Site(setting, "memory", setting.seed)
-    desk = first.serve().started()
-    clients = first.clients((30,))
-    talk(clients, 0.2)
-    finish(clients)
-    desk.kill()
-    drain(clients)
-    first.judged(clients)
+    first.grown(200)
     for _ in range(setting.rounds):
         seen[one_flip(first.copy("flipped"), chance)] += 1
     return f"{setting.rounds} flipped bits: " + ", ".join(f"{count} {what}" for what, count in seen.items())

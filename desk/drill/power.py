@@ -8,12 +8,13 @@ import shutil
 import faults
 from calls import session
 from clients import drain, finish
+from desk import command
 from drillsite import Site
 from judge import Loss
-from traffic import Line
+from traffic import SMALL, Line, hexed
 
 SECTOR = 512
-CUTS_OF_A_SESSION = 12
+CUTS_OF_A_SESSION = 16
 SESSIONS_OF_A_SITE = 5
 # The socket and the lock are a process's own.
 NOT_DATA = ("sock", "lock")
@@ -94,16 +95,16 @@ class Disk:
         if new:
             names[new] = file
 
-    def cut(self, folder, comes):
+    def cut(self, folder, chance):
         """Writes a folder that a power cut could leave."""
-        names = dict(self.sure)
+        names, comes = dict(self.sure), chooser(chance)
         for change in self.since:
             if comes():
                 self.apply(names, change)
         shutil.rmtree(folder, ignore_errors=True)
         folder.mkdir()
         for name, file in names.items():
-            (folder / name).write_bytes(file.cut(comes))
+            (folder / name).write_bytes(file.cut(chooser(chance)))
 
 
 def answers_before(events, count):
@@ -134,9 +135,15 @@ class Known:
 
 
 def chooser(chance):
-    """What comes to the disk: nothing, everything, or by some odds."""
-    odds = chance.choice((0, 1, 0.5, 0.5, 0.1, 0.9))
+    """What comes to the disk of one file, or of the names: nothing, everything, or by some odds."""
+    odds = chance.choice((0, 1, 0, 1, 0.5, 0.1, 0.9))
     return lambda: chance.random() < odds
+
+
+def points(events, chance, count):
+    """Where the power goes: anywhere, and as often right behind something that is not synced yet."""
+    behind = [at for at, event in enumerate(events, 1) if event.op in "WTCRU"]
+    return sorted(chance.choice(behind) if chance.random() < 0.5 else chance.randrange(len(events) + 1) for _ in range(count))
 
 
 def starts(site):
@@ -148,26 +155,26 @@ def starts(site):
     finish(clients)
     desk.kill()
     drain(clients)
-    site.judged(clients)
+    site.judged(clients, thorough=False)
 
 
 def one_session(site, chance, cuts):
     """A session, and the power cuts that could have happened in it; the site behind one of them."""
     before, trace = site.copy("before"), site.setting.work / "trace"
     trace.unlink(missing_ok=True)
-    _, clients, code = session(site, faults.variables(site.folder, trace))
+    _, clients, code = session(site, faults.variables(site.folder, trace), turns=6, lines=1)
     if code:
         raise Loss(f"a desk whose calls are only written down ended with {code}")
     events, disk, passed, after = faults.read_trace(trace), Disk(before.folder), 0, None
-    for point in sorted(chance.choices(range(len(events) + 1), k=cuts)):
+    for point in points(events, chance, cuts):
         for event in events[passed:point]:
             disk.event(event)
         passed = point
         after = before.copy("cut")
-        disk.cut(after.folder, chooser(chance))
+        disk.cut(after.folder, chance)
         after.traffic = [traffic.copy() for traffic in site.traffic]
         try:
-            after.judged([Known(lines) for lines in known(clients, answers_before(events, point))])
+            after.judged([Known(lines) for lines in known(clients, answers_before(events, point))], thorough=False)
             starts(after)
         except Loss as loss:
             last = events[point - 1][:3] if point else "the start"
@@ -175,12 +182,36 @@ def one_session(site, chance, cuts):
     return after
 
 
+def cut_init(setting, chance):
+    """The power goes while a site is made: behind it there is a site or none, and then one can be made; one that was said to be made is
+    there. Gives the number of cuts."""
+    folder, trace = setting.work / "init", setting.work / "trace"
+    trace.unlink(missing_ok=True)
+    made, _, why = command(setting, "init", folder, given=hexed(SMALL) + "\n", env=faults.variables(folder, trace))
+    if made:
+        raise Loss(f"desk init ends with {made}: {why}")
+    shutil.rmtree(folder)
+    folder.mkdir()
+    events, disk = faults.read_trace(trace), Disk(folder)
+    for point in range(len(events) + 1):
+        disk.cut(folder, chance)
+        code, _, why = command(setting, "check", folder)
+        if code == 2 and point < len(events):
+            code, _, why = command(setting, "init", folder, given=hexed(SMALL) + "\n")
+        if code:
+            raise Loss(f"power cut at event {point} of {len(events)} of desk init, and then {code}: {why}")
+        if point < len(events):
+            disk.event(events[point])
+    return len(events) + 1
+
+
 def run(setting):
-    chance, cuts, sessions, site = random.Random(setting.seed), 0, 0, None
+    chance, sessions, site = random.Random(setting.seed), 0, None
+    cuts = cut_init(setting, chance)
     while cuts < setting.rounds:
         if sessions % SESSIONS_OF_A_SITE == 0:
             site = Site(setting, f"power{sessions}", setting.seed)
         count = min(CUTS_OF_A_SESSION, setting.rounds - cuts)
         site = one_session(site.copy("session"), chance, count)
         cuts, sessions = cuts + count, sessions + 1
-    return f"{cuts} power cuts in {sessions} sessions"
+    return f"{cuts} power cuts, in {sessions} sessions and in making a site"

@@ -13,8 +13,8 @@ from typing import NamedTuple
 from judge import ROOT, Trouble
 
 HERE = Path(__file__).resolve().parent
-# The rounds that a drill has to catch a wrong desk in.
-ROUNDS = {"kill": 10, "calls": 120, "power": 120, "damage": 100, "orders": 4, "odd": 1}
+# The rounds that a drill has to catch a wrong desk in: more than in the short run, since it ends when it has caught it.
+ROUNDS = {"kill": 40, "calls": 400, "power": 800, "damage": 400, "orders": 6, "odd": 1}
 
 
 class Edit(NamedTuple):
