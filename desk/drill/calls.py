@@ -17,9 +17,9 @@ STOPS = (("W", "log"), ("S", "log"), ("T", "log"), ("C", "log"), ("R", "log"), (
 GOES_ON = (("W", "snap"), ("S", "snap"), ("C", "snap"), ("R", "snap"), ("A", ""))
 
 
-def base(setting):
+def base(setting, number):
     """A site that was killed, with a record that was half written at the end of its journal."""
-    site = Site(setting, "calls", setting.seed)
+    site = Site(setting, f"calls{number}", setting.seed)
     found = site.grown(40, "--every", 40)
     last = found.segments[max(found.segments)]
     with open(site.folder / last.name, "r+b") as log:
@@ -83,26 +83,28 @@ def one_case(site, at, how):
     return f"died {how}"
 
 
-def run(setting):
-    chance = random.Random(setting.seed)
-    first = base(setting)
-    trace = setting.work / "whole"
-    site = first.copy("calls0")
+def whole(first):
+    """The number of calls that are counted in a session in which none breaks."""
+    site, trace = first.copy("whole"), first.setting.work / "trace"
+    trace.unlink(missing_ok=True)
     _, clients, code = session(site, faults.variables(site.folder, trace))
     if code:
         raise Loss(f"the session ended with {code}")
     site.judged(clients)
-    site.remove()
-    count = len(faults.read_trace(trace))
-    cases = [(at, how) for at in range(1, count + 1) for how in HOWS]
-    if setting.rounds < len(cases):
-        cases = sorted(chance.sample(cases, setting.rounds), key=str)
-    seen = collections.Counter()
-    for at, how in cases:
-        site = first.copy("call")
-        try:
-            seen[one_case(site, at, how)] += 1
-        except Loss as loss:
-            raise Loss(f"call {at}, {how}: {loss}") from None
-        site.remove()
-    return f"{len(cases)} of {count * len(HOWS)} ways to break {count} calls: {', '.join(f'{n} {what}' for what, n in seen.items())}"
+    return len(faults.read_trace(trace))
+
+
+def run(setting):
+    chance, seen = random.Random(setting.seed), collections.Counter()
+    sites = 0
+    while sum(seen.values()) < setting.rounds:
+        first = base(setting, sites)
+        cases = [(at, how) for at in range(1, whole(first) + 1) for how in HOWS]
+        cases = chance.sample(cases, min(len(cases), setting.rounds - sum(seen.values())))
+        for at, how in sorted(cases, key=str):
+            try:
+                seen[one_case(first.copy("call"), at, how)] += 1
+            except Loss as loss:
+                raise Loss(f"call {at}, {how}: {loss}") from None
+        sites += 1
+    return f"{sum(seen.values())} calls broken in {sites} sessions: " + ", ".join(f"{count} {what}" for what, count in sorted(seen.items()))
