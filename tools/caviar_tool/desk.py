@@ -1,5 +1,6 @@
 """Typed calls to a desk (docs/DESK.md): its lines, its socket, and what it tells."""
 
+import contextlib
 import itertools
 import os
 import socket
@@ -42,6 +43,7 @@ class Desk:
                 break
             except OSError as error:
                 if time.monotonic() > last:
+                    self.socket.close()
                     raise Problem(f"no desk answers at {path}: {error.strerror or error}") from None
                 time.sleep(0.05)
         self.answers = self.socket.makefile("r", encoding="ascii", errors="replace", newline="\n")
@@ -68,6 +70,10 @@ class Desk:
             raise Problem(f"the desk has closed the connection; call {at} and those behind it have no answer")
         return words
 
+    def close(self):
+        self.answers.close()
+        self.socket.close()
+
     def settings(self):
         return settings_in(line_of(self.told(["s"])[0]))
 
@@ -93,13 +99,13 @@ def said(settings, entry, answer):
 
 def conversation(folder, entries):
     """Each call as it would be typed, and what the desk told it. Settings before them must be the desk's own."""
-    desk = Desk(folder)
-    settings = desk.settings()
-    if entries and isinstance(entries[0], Settings):
-        if entries[0] != settings:
-            raise Problem(f"the desk's site is another one: {echo(settings)}")
-        entries = entries[1:]
-    replies = desk.told([line_for(entry) for entry in entries])
+    with contextlib.closing(Desk(folder)) as desk:
+        settings = desk.settings()
+        if entries and isinstance(entries[0], Settings):
+            if entries[0] != settings:
+                raise Problem(f"the desk's site is another one: {echo(settings)}")
+            entries = entries[1:]
+        replies = desk.told([line_for(entry) for entry in entries])
     lines = []
     for entry, reply in zip(entries, replies):
         try:
