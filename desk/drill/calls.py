@@ -59,7 +59,7 @@ def expected(desk, clients, code, failed):
         told = all(client.message and client.message.startswith("! stopped") for client in clients if client.told < len(client.lines))
         return code == 5 and told
     if kind in GOES_ON and "listening\n" in desk.text():
-        return code == 0
+        return code == 0 and (kind[0] == "A" or not any(client.waiting() for client in clients))
     return code in (0, 5)
 
 

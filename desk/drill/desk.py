@@ -1,5 +1,6 @@
 """A desk that a drill runs: started, signalled, ended, and its other commands."""
 
+import ctypes
 import os
 import signal
 import subprocess
@@ -24,15 +25,23 @@ class Setting(NamedTuple):
     long: bool
 
 
+def die_with_parent():
+    """A desk does not outlive its drill (PR_SET_PDEATHSIG)."""
+    ctypes.CDLL(None).prctl(1, signal.SIGKILL)
+
+
 class Desk:
     """A desk that serves a folder."""
+
+    running = []
 
     def __init__(self, setting, folder, *options, env=None):
         self.folder, self.said = Path(folder), setting.work / "desk.out"
         with open(self.said, "wb") as out:
             command = [setting.desk, "serve", folder, *map(str, options)]
             self.process = subprocess.Popen(command, stdout=out, stderr=out, stdin=subprocess.DEVNULL,
-                                            env={**os.environ, **(env or {})})
+                                            env={**os.environ, **(env or {})}, preexec_fn=die_with_parent)
+        self.running.append(self)
 
     def text(self):
         return self.said.read_text(errors="replace")
@@ -69,11 +78,20 @@ class Desk:
     def code(self):
         """Its exit code, once it has ended."""
         try:
-            return self.process.wait(PATIENCE)
+            code = self.process.wait(PATIENCE)
+            if self in self.running:
+                self.running.remove(self)
+            return code
         except subprocess.TimeoutExpired:
             self.process.kill()
             self.process.wait()
             raise Loss(f"the desk does not end in {PATIENCE} seconds") from None
+
+
+def end_all():
+    """Ends the desks that a drill has left."""
+    for desk in list(Desk.running):
+        desk.kill()
 
 
 def command(setting, *words, given="", env=None):

@@ -9,6 +9,7 @@ import subprocess
 
 import faults
 from clients import drain, talk
+from desk import end_all
 from drillsite import Site
 from judge import Loss
 
@@ -103,6 +104,7 @@ def run(setting):
             try:
                 clients = on_small_disk(setting, place, chance)
             finally:
+                end_all()
                 subprocess.run(["umount", str(place)], check=False)
         lines += sum(client.told for client in clients)
     return f"{small} full disks (tmpfs of {SIZE}), {setting.rounds - small} by the fault library, {lines} lines answered before"

@@ -7,9 +7,10 @@ import signal
 import threading
 
 from clients import drain, finish, talk
-from desk import command
+from desk import book_at, command
 from drillsite import Site
-from judge import Loss
+from judge import Engine, Loss
+from reader import Folder
 
 ROUNDS_OF_A_SITE = 25
 
@@ -28,7 +29,9 @@ def one_round(site, chance, seconds):
     code = desk.code()
     if code != (0 if gently else -signal.SIGKILL):
         raise Loss(f"the desk ended with {code}: {desk.text().strip()}")
-    site.judged(clients)
+    found = site.judged(clients)
+    if found.mark is None or found.mark.seq < site.judge.answered:
+        raise Loss(f"{site.judge.answered} calls were answered, and the mark says {found.mark}")
     return clients
 
 
@@ -47,6 +50,14 @@ def settle(site):
     code, _, why = command(site.setting, "audit", site.folder)
     if code:
         raise Loss(f"desk audit ends with {code}: {why}")
+    snapshots = sorted(Folder(site.folder).snapshots)
+    if snapshots[0] != 0 or len(snapshots) > 3 or snapshots[-1] != len(site.judge.calls):
+        raise Loss(f"behind the end there are the snapshots {snapshots}, and {len(site.judge.calls)} calls")
+    for seq in (site.random.randrange(len(site.judge.calls) + 1) for _ in range(3)):
+        engine = Engine(site.judge.settings)
+        engine.do_all(site.judge.calls[:seq])
+        if book_at(site.setting, site.folder, seq) != engine.words():
+            raise Loss(f"desk replay --to {seq} gives another book than the engine's list from fresh")
 
 
 def run(setting):

@@ -4,6 +4,7 @@ clients than there is room for; a second desk; another site's journal. Others ar
 import random
 import shutil
 import socket
+import subprocess
 import time
 
 from clients import Client, connect, drain, finish, talk, turn
@@ -13,7 +14,7 @@ from judge import Loss
 from reader import HEAD, crc32c
 from traffic import NO_FRAME, hexed
 
-ROOM, PATIENCE = 12, 1
+ROOM, PATIENCE = 12, 2
 LONG_LINE = 50_000_000
 
 
@@ -22,7 +23,7 @@ class Crowd:
 
     def __init__(self, setting, chance):
         self.site, self.random = Site(setting, "odd", setting.seed), chance
-        options = ("--clients", ROOM, "--patience", PATIENCE, "--every", 200, "--tcp", "127.0.0.1:0")
+        options = ("--clients", ROOM, "--patience", PATIENCE, "--every", 60, "--tcp", "127.0.0.1:0")
         self.desk = self.site.serve(*options).started()
         self.port = int(self.desk.text().split("tcp 127.0.0.1:")[1].split()[0])
         self.usual, self.odd = self.site.clients((1, 4, 30)), []
@@ -107,7 +108,7 @@ def thousands(crowd):
     client = crowd.newcomer()
     client.send(*(crowd.random.choice(("s", "junk", hexed(crowd.site.traffic[1].wild()))) for _ in range(6000)))
     start = time.monotonic()
-    while client.out and time.monotonic() - start < PATIENCE / 2:
+    while client.out and time.monotonic() - start < PATIENCE / 4:
         client.write()
         turn(crowd.usual, 0.001)
     crowd.meanwhile(lambda: not client.waiting(), "thousands of lines")
@@ -150,11 +151,30 @@ def too_many(crowd):
     talk(crowd.usual, 0.05)
     for sock in socks:
         sock.close()
-    talk(crowd.usual, 0.3)
-    client = crowd.newcomer()
-    client.send("s")
-    finish([client])
-    client.close()
+    end = time.monotonic() + 5
+    while not let_in(crowd.site.folder):
+        talk(crowd.usual, 0.05)
+        if time.monotonic() > end:
+            raise Loss("clients have gone, and there is still no room for others")
+
+
+def let_in(folder):
+    with connect(folder) as sock:
+        sock.settimeout(5)
+        sock.sendall(b"s\n")
+        return not sock.recv(200).startswith(b"!")
+
+
+def read_meanwhile(crowd):
+    """The commands that only read do so while the site is served, and find nothing wrong."""
+    setting, folder = crowd.site.setting, crowd.site.folder
+    for words in [("check", folder), ("audit", folder), ("replay", folder, "--to", 20)] * 6:
+        reading = subprocess.Popen([setting.desk, *map(str, words)], stdout=subprocess.DEVNULL, stderr=subprocess.PIPE)
+        crowd.meanwhile(lambda: reading.poll() is not None, f"desk {words[0]}")
+        why = reading.stderr.read().decode()
+        reading.stderr.close()
+        if reading.returncode:
+            raise Loss(f"desk {words[0]} of a site that is served ends with {reading.returncode}: {why}")
 
 
 def second_desk(crowd):
@@ -188,7 +208,7 @@ def wrong_usage(setting, site):
 
 def run(setting):
     chance, answers = random.Random(setting.seed), 0
-    parts = (strange_lines, long_line, half_lines, no_newline, thousands, reads_nothing, too_many, second_desk)
+    parts = (strange_lines, long_line, half_lines, no_newline, thousands, reads_nothing, too_many, second_desk, read_meanwhile)
     for number in range(setting.rounds):
         crowd = Crowd(setting, chance)
         for part in parts:

@@ -36,8 +36,12 @@ def read_edit(path):
     return Edit(path.stem, head["drill"], head["what"], changes)
 
 
+def names():
+    return sorted(path.stem for path in (HERE / "wrong").glob("*.edit"))
+
+
 def edits():
-    return [read_edit(path) for path in sorted((HERE / "wrong").glob("*.edit"))]
+    return [read_edit(HERE / "wrong" / f"{name}.edit") for name in names()]
 
 
 def apply(edit, desk):
