@@ -9,7 +9,7 @@ import signal
 import faults
 from clients import drain, finish
 from judge import Loss
-from drillsite import Site, snapshot_comes
+from drillsite import Site, take_snapshot
 
 HOWS = ("before", "half", "after", errno.EIO, errno.ENOSPC)
 # What a failed call does, by its letter and the beginning of the file's name: the journal and its mark stop the desk.
@@ -43,8 +43,7 @@ def session(site, env, turns=1, lines=4):
             client.first = []
         finish(clients)
         if turn + 1 == turns:
-            desk.signal(signal.SIGUSR1)
-            snapshot_comes(desk)
+            take_snapshot(desk)
     desk.signal(signal.SIGTERM)
     drain(clients)
     return desk, clients, desk.code()

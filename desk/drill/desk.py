@@ -3,6 +3,7 @@
 import ctypes
 import os
 import signal
+import struct
 import subprocess
 import time
 from pathlib import Path
@@ -94,19 +95,25 @@ def end_all():
         desk.kill()
 
 
-def command(setting, *words, given="", env=None):
+def command(setting, *words, given=b"", env=None):
     """Runs a command of the desk: its exit code, what it wrote, and its messages."""
-    done = subprocess.run([setting.desk, *map(str, words)], input=given.encode(), capture_output=True, timeout=120, check=False,
+    done = subprocess.run([setting.desk, *map(str, words)], input=given, capture_output=True, timeout=120, check=False,
                           env={**os.environ, **(env or {})})
     return done.returncode, done.stdout, done.stderr.decode(errors="replace")
 
 
-def new_site(setting, name, settings=SMALL):
+def new_site(setting, name, settings=SMALL, words=None):
+    """Makes a site, from settings or from the words of a book."""
     folder = setting.work / name
-    code, _, why = command(setting, "init", folder, given=hexed(settings) + "\n")
+    made = ("import", struct.pack(f"<{len(words)}I", *words)) if words else ("init", settings_line(settings))
+    code, _, why = command(setting, made[0], folder, given=made[1])
     if code:
-        raise Trouble(f"desk init ends with {code}: {why}")
+        raise Trouble(f"desk {made[0]} ends with {code}: {why}")
     return folder
+
+
+def settings_line(settings):
+    return hexed(settings).encode() + b"\n"
 
 
 def book_at(setting, folder, seq):

@@ -14,9 +14,9 @@ from traffic import CLIENTS, SMALL, Traffic, owner
 
 
 class Site:
-    def __init__(self, setting, name, seed, settings=SMALL):
-        self.setting, self.folder = setting, new_site(setting, name, settings)
-        self.judge = Judge(settings, owner)
+    def __init__(self, setting, name, seed, settings=SMALL, words=None):
+        self.setting, self.folder = setting, new_site(setting, name, settings, words)
+        self.judge = Judge(settings, owner, words)
         self.traffic = [Traffic(client, f"{seed} {name}", settings) for client in range(CLIENTS)]
         self.again = [[] for _ in self.traffic]
         self.random = random.Random(f"{seed} {name} site")
@@ -67,8 +67,9 @@ class Site:
         return found
 
 
-def snapshot_comes(desk, seconds=1.0):
-    """Waits until a snapshot that was not there is there, or the desk has ended, or no snapshot comes."""
+def take_snapshot(desk, seconds=0.3):
+    """Asks for a snapshot, and waits until it is there, or the desk has ended, or none comes."""
     before, end = set(desk.folder.glob("snap-*")), time.monotonic() + seconds
+    desk.signal(signal.SIGUSR1)
     while set(desk.folder.glob("snap-*")) <= before and desk.process.poll() is None and time.monotonic() < end:
         time.sleep(0.002)

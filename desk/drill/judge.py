@@ -11,7 +11,7 @@ import ctypes
 import functools
 from pathlib import Path
 
-from reader import COMMIT, ORDER, PARTY, REQUEST, Place, Wrong, crc32c
+from reader import COMMIT, ORDER, ORDER_WORDS, PARTY, REQUEST, Place, Wrong, crc32c
 from traffic import ASK, JUNK, NO_FRAME, SETTINGS, hexed, kept
 
 ROOT = Path(__file__).resolve().parent.parent.parent
@@ -73,13 +73,15 @@ def lawful(words):
 
 
 class Engine:
-    """A book, from fresh."""
+    """A book: from fresh, or from the words that a site was made from."""
 
-    def __init__(self, settings):
+    def __init__(self, settings, words=None):
         self.settings = array(settings)
         self.book = (WORD * library().caviar_book_len(self.settings, len(settings)))()
         if library().caviar_lay(self.settings, len(settings), self.book, len(self.book)).number:
             raise Trouble("the engine refuses the settings of this drill")
+        if words:
+            self.book[:] = words
 
     def copy(self):
         twin = copy.copy(self)
@@ -135,8 +137,13 @@ class Engine:
 class Remembered:
     """The orders that a desk remembers (4.6): the last 65,536, with their words and first answers."""
 
-    def __init__(self):
+    def __init__(self, words=None):
         self.orders = {}
+        ring = words[-706:-1] if words else ()
+        for place in range(ring[-1], ring[-1] + 64) if ring else ():
+            number, *entry = ring[place % 64 * ORDER_WORDS:][:ORDER_WORDS]
+            if number:
+                self.orders[number] = (tuple(entry[:7]), tuple(entry[7:]))
 
     def copy(self):
         twin = Remembered()
@@ -205,14 +212,18 @@ class Trail:
 class Judge:
     """The journal of one site as far as it was judged, and the engine's book there."""
 
-    def __init__(self, settings, owner):
-        self.settings, self.owner = settings, owner
+    def __init__(self, settings, owner, words=None):
+        self.settings, self.owner, self.words = settings, owner, words
         self.line = hexed(settings)
         self.begin()
 
     def begin(self):
         """`answered` is how many calls there are up to the last one whose line was answered."""
-        self.engine, self.calls, self.remembered, self.answered = Engine(self.settings), [], Remembered(), 0
+        self.engine, self.remembered = self.fresh()
+        self.calls, self.answered = [], 0
+
+    def fresh(self):
+        return Engine(self.settings, self.words), Remembered(self.words)
 
     def copy(self):
         twin = copy.copy(self)
@@ -277,8 +288,8 @@ class Judge:
 
     def from_fresh(self, folder):
         """The engine's list from fresh: the same book, the sums of the answers, the books and orders of the snapshots."""
-        engine, remembered, place = Engine(self.settings), Remembered(), Place(0, 0)
-        self.same_snapshot(folder, place, engine, remembered)
+        engine, remembered = self.fresh()
+        self.same_snapshot(folder, Place(0, 0), engine, remembered)
         for record in folder.records():
             answers = engine.do_all(record.calls)
             if crc32c(bytes(array([word for answer in answers for word in answer]))) != record.answers:

@@ -8,7 +8,7 @@ import subprocess
 import time
 
 from clients import Client, connect, drain, finish, talk, turn
-from desk import command
+from desk import command, settings_line
 from drillsite import Site
 from judge import Loss
 from reader import HEAD, crc32c
@@ -36,8 +36,10 @@ class Crowd:
         """The usual clients talk on until `done`; all of them must get answers."""
         start = time.monotonic()
         before = [client.told for client in self.usual]
-        while not done():
+        served = False
+        while not (done() and served):
             talk(self.usual + [client for client in self.odd if client.open], 0.02)
+            served = True
             if time.monotonic() - start > most:
                 raise Loss(f"{what}: not done in {most} seconds")
         finish(self.usual)
@@ -201,7 +203,7 @@ def other_site(setting, site):
 def wrong_usage(setting, site):
     for words in (("serve",), ("serve", setting.work / "none"), ("serve", site.folder, "--tcp", "0.0.0.0:0"), ("dance", site.folder),
                   ("serve", site.folder, "--every", "x"), ("replay", site.folder), ("replay", site.folder, "--to", 1 << 60), ("init", site.folder)):
-        code, _, why = command(setting, *words, given=hexed(site.judge.settings))
+        code, _, why = command(setting, *words, given=settings_line(site.judge.settings))
         if code != 2 or not why.startswith("desk: "):
             raise Loss(f"desk {words} ended with {code}: {why}")
 

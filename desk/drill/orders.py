@@ -5,6 +5,7 @@ other words (28), over kills and ends, so over replays and snapshots. The judge 
 import random
 
 from clients import Client, drain, finish
+from desk import book_at
 from drillsite import Site
 from judge import REMEMBERED, Loss
 from traffic import hexed
@@ -60,4 +61,7 @@ def run(setting):
     if setting.long:
         while sum(len(own.past) for own in orders) < REMEMBERED + 20000:
             lines += part(site, orders, 20 * PART, chance.random() < 0.5)
-    return f"{lines} lines, {sum(len(own.past) for own in orders)} orders over {setting.rounds} starts"
+    # A site that is made from the book remembers what the ring has.
+    site = Site(setting, "imported", setting.seed, words=book_at(setting, site.folder, len(site.judge.calls)))
+    lines += part(site, orders, PART, False)
+    return f"{lines} lines, {sum(len(own.past) for own in orders)} orders over {setting.rounds} starts, and from an imported book"

@@ -8,10 +8,10 @@ import shutil
 import faults
 from calls import session
 from clients import drain, finish
-from desk import command
+from desk import command, settings_line
 from drillsite import Site
 from judge import Loss
-from traffic import SMALL, Line, hexed
+from traffic import SMALL, Line
 
 SECTOR = 512
 CUTS_OF_A_SESSION = 16
@@ -187,7 +187,7 @@ def cut_init(setting, chance):
     there. Gives the number of cuts."""
     folder, trace = setting.work / "init", setting.work / "trace"
     trace.unlink(missing_ok=True)
-    made, _, why = command(setting, "init", folder, given=hexed(SMALL) + "\n", env=faults.variables(folder, trace))
+    made, _, why = command(setting, "init", folder, given=settings_line(SMALL), env=faults.variables(folder, trace))
     if made:
         raise Loss(f"desk init ends with {made}: {why}")
     shutil.rmtree(folder)
@@ -197,7 +197,7 @@ def cut_init(setting, chance):
         disk.cut(folder, chance)
         code, _, why = command(setting, "check", folder)
         if code == 2 and point < len(events):
-            code, _, why = command(setting, "init", folder, given=hexed(SMALL) + "\n")
+            code, _, why = command(setting, "init", folder, given=settings_line(SMALL))
         if code:
             raise Loss(f"power cut at event {point} of {len(events)} of desk init, and then {code}: {why}")
         if point < len(events):
