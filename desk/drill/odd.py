@@ -11,8 +11,8 @@ from clients import Client, connect, drain, finish, talk, turn
 from desk import command, settings_line
 from drillsite import Site
 from judge import Loss
-from reader import HEAD, crc32c
-from traffic import NO_FRAME, hexed
+from reader import HEAD, ORDER, crc32c
+from traffic import FRAME, NO_FRAME, Line, hexed
 
 ROOM, PATIENCE = 12, 2
 LONG_LINE = 50_000_000
@@ -62,6 +62,8 @@ def strange_lines(crowd):
     texts += ["p" + "00000000" + "000000000000000000000000" * guests for guests in (0, 63, 64, 65, 66, 67)]
     texts += [frame + "\r", frame.upper(), " " + frame, frame + " ", "s ", "S", "\0", "\xff" * 56, "x" * 1569, "x" * 1570]
     texts += ["".join(map(chr, chance.choices([n for n in range(256) if n != 10], k=chance.randrange(200)))) for _ in range(200)]
+    # Orders are kept, and these would be nobody's.
+    texts = [text for text in texts if Line(text).sort != FRAME or Line(text).call.call != ORDER]
     chance.shuffle(texts)
     for client in (crowd.newcomer(), crowd.newcomer(crowd.port)):
         client.send(*texts)
