@@ -3,6 +3,7 @@ use crate::call::Calls;
 use crate::sum::{sum, Sum};
 use crate::words::{bytes_of, u32_at, u64_at, words_of};
 use crate::Outcome;
+use std::time::Duration;
 
 /// Where the list of kept calls stands: how many were kept before, and the sum of the last record before.
 #[derive(Clone, Copy, Debug, Default, PartialEq, Eq)]
@@ -18,6 +19,11 @@ pub trait Journal {
 
     /// A snapshot of this place is about to be taken.
     fn begin_segment(&mut self, place: Place) -> Outcome<()>;
+
+    /// How much of the time of all records went into waiting for the disk, where that is known.
+    fn syncing(&self) -> Duration {
+        Duration::ZERO
+    }
 }
 
 pub const RECORD_HEAD: usize = 28;

@@ -24,8 +24,7 @@ pub struct FileJournal {
     /// Where the next record goes, and how far zeros stand behind it.
     end: u64,
     reserved: u64,
-    pub writing: Duration,
-    pub syncing: Duration,
+    syncing: Duration,
 }
 
 impl FileJournal {
@@ -41,9 +40,8 @@ impl FileJournal {
                 (system("beginning the journal", begin(folder, &number, place))?, head::LENGTH as u64, mark)
             }
         };
-        let (writing, syncing) = (Duration::ZERO, Duration::ZERO);
-        let mut journal =
-            FileJournal { folder: folder.clone(), site: number, segment, mark, end, reserved: end, writing, syncing };
+        let (folder, syncing) = (folder.clone(), Duration::ZERO);
+        let mut journal = FileJournal { folder, site: number, segment, mark, end, reserved: end, syncing };
         system("reserving space for the journal", journal.reserve(1).and_then(|()| journal.segment.sync_all()))?;
         Ok(journal)
     }
@@ -77,7 +75,6 @@ fn begin(folder: &Folder, site: &SiteNumber, place: Place) -> std::io::Result<Fi
 
 impl Journal for FileJournal {
     fn append(&mut self, record: &Written) -> Outcome<()> {
-        let start = Instant::now();
         let length = record.bytes.len() as u64;
         let write = self.reserve(length).and_then(|()| self.segment.write_all_at(&record.bytes, self.end));
         system("writing the journal", write)?;
@@ -86,8 +83,11 @@ impl Journal for FileJournal {
         self.syncing += written.elapsed();
         self.end += length;
         system("writing the mark", self.mark.write(record.after))?;
-        self.writing += written - start;
         Ok(())
+    }
+
+    fn syncing(&self) -> Duration {
+        self.syncing
     }
 
     fn begin_segment(&mut self, place: Place) -> Outcome<()> {

@@ -12,6 +12,7 @@ use std::io::{Read, Write};
 use std::os::unix::fs::DirBuilderExt;
 
 /// What a snapshot holds, copied out of a site that goes on.
+#[derive(Default)]
 pub struct Snapshot {
     number: SiteNumber,
     pub place: Place,
@@ -24,7 +25,17 @@ const UNFINISHED: &str = "snap.tmp";
 
 impl Snapshot {
     pub fn of(site: &Site) -> Snapshot {
-        Snapshot { number: site.number, place: site.place, book: site.book.clone(), orders: site.orders.words() }
+        let mut snapshot = Snapshot::default();
+        snapshot.take(site);
+        snapshot
+    }
+
+    /// Copies a site into the memory that a snapshot has already: fresh memory for a large book takes longer than the copy.
+    pub fn take(&mut self, site: &Site) {
+        self.number = site.number;
+        self.place = site.place;
+        self.book.clone_from(&site.book);
+        self.orders = site.orders.words();
     }
 
     fn head(&self) -> Head {

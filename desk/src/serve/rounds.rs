@@ -40,6 +40,7 @@ pub struct Desk<'a> {
 
 impl<'a> Desk<'a> {
     pub fn new(folder: Folder, site: Site, journal: Box<dyn Journal>, snapped: u64, options: &'a Options) -> Desk<'a> {
+        let snapshots = Snapshots::new(folder, &site, snapped);
         Desk {
             site,
             journal,
@@ -47,7 +48,7 @@ impl<'a> Desk<'a> {
             clients: Vec::new(),
             lines: Vec::new(),
             batch: Batch::default(),
-            snapshots: Snapshots::new(folder, snapped),
+            snapshots,
             figures: Figures::default(),
             answered: 0,
             took: Duration::ZERO,
@@ -221,7 +222,7 @@ impl<'a> Desk<'a> {
             self.clients.iter_mut().for_each(Client::flush);
         }
         if self.options.figures {
-            self.figures.say();
+            self.figures.say(self.journal.syncing());
         }
     }
 }

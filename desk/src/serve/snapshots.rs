@@ -9,14 +9,17 @@ use std::time::{Duration, Instant};
 
 pub struct Snapshots {
     folder: Folder,
-    writer: Option<JoinHandle<Outcome<Duration>>>,
+    /// Writes one, and gives it back with what came of it.
+    writer: Option<JoinHandle<(Snapshot, Outcome<Duration>)>>,
+    /// The last one, whose memory the next one takes.
+    spare: Snapshot,
     /// How many calls the last one has.
     last: u64,
 }
 
 impl Snapshots {
-    pub fn new(folder: Folder, last: u64) -> Snapshots {
-        Snapshots { folder, writer: None, last }
+    pub fn new(folder: Folder, site: &Site, last: u64) -> Snapshots {
+        Snapshots { folder, writer: None, spare: Snapshot::of(site), last }
     }
 
     /// Calls kept since the last one.
@@ -36,14 +39,14 @@ impl Snapshots {
         }
         let start = Instant::now();
         journal.begin_segment(site.place)?;
-        let (snapshot, folder) = (Snapshot::of(site), self.folder.clone());
+        let (mut snapshot, folder) = (std::mem::take(&mut self.spare), self.folder.clone());
+        snapshot.take(site);
         self.last = site.place.seq;
         say(&format!("snapshot {:016x}: answers waited {:.1} ms", self.last, start.elapsed().as_secs_f64() * 1e3));
         self.writer = Some(std::thread::spawn(move || {
             let start = Instant::now();
-            snapshot.write(&folder)?;
-            prune(&folder);
-            Ok(start.elapsed())
+            let written = snapshot.write(&folder).map(|()| prune(&folder));
+            (snapshot, written.map(|()| start.elapsed()))
         }));
         Ok(())
     }
@@ -51,13 +54,14 @@ impl Snapshots {
     /// Looks whether the one being written is finished, or waits for it.
     pub fn finish(&mut self, wait: bool) {
         let Some(writer) = self.writer.take_if(|writer| wait || writer.is_finished()) else { return };
-        match writer.join() {
-            Ok(Ok(time)) => {
-                say(&format!("snapshot {:016x}: on disk after {:.1} ms", self.last, time.as_secs_f64() * 1e3));
-            }
+        let Ok((snapshot, written)) = writer.join() else {
+            return say("no snapshot: its thread has failed");
+        };
+        self.spare = snapshot;
+        match written {
+            Ok(time) => say(&format!("snapshot {:016x}: on disk after {:.1} ms", self.last, time.as_secs_f64() * 1e3)),
             // The journal has everything: a snapshot only makes the next start shorter.
-            Ok(Err(stop)) => say(&format!("no snapshot: {}", stop.why)),
-            Err(_) => say("no snapshot: its thread has failed"),
+            Err(stop) => say(&format!("no snapshot: {}", stop.why)),
         }
     }
 }
