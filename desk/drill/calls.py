@@ -8,8 +8,10 @@ import signal
 
 import faults
 from clients import drain, finish
+from desk import command, settings_line
 from judge import Loss
 from drillsite import Site, take_snapshot
+from traffic import SMALL
 
 HOWS = ("before", "half", "after", errno.EIO, errno.ENOSPC)
 # What a failed call does, by its letter and the beginning of the file's name: the journal and its mark stop the desk.
@@ -93,9 +95,27 @@ def whole(first):
     return len(faults.read_trace(trace))
 
 
+def broken_init(setting):
+    """A site is made, and each call of this breaks in each way: behind it there is a site, or one can be made."""
+    at, broken = 1, True
+    while broken:
+        for how in HOWS:
+            folder = setting.work / f"init{at}{how}"
+            broken, _, why = command(setting, "init", folder, given=settings_line(SMALL), env=faults.variables(folder, at=at, how=how))
+            if broken not in (0, 5 if isinstance(how, int) else -signal.SIGKILL):
+                raise Loss(f"call {at} of desk init was to break ({how}), and it ended with {broken}: {why}")
+            code, _, why = command(setting, "check", folder)
+            if code == 2 and broken:
+                code, _, why = command(setting, "init", folder, given=settings_line(SMALL))
+            if code:
+                raise Loss(f"behind call {at} of desk init ({how}) there is no site: {code}, {why}")
+        at += 1
+    return at - 2
+
+
 def run(setting):
     chance, seen = random.Random(setting.seed), collections.Counter()
-    sites = 0
+    sites, made = 0, broken_init(setting)
     while sum(seen.values()) < setting.rounds:
         first = base(setting, sites)
         cases = [(at, how) for at in range(1, whole(first) + 1) for how in HOWS]
@@ -106,4 +126,4 @@ def run(setting):
             except Loss as loss:
                 raise Loss(f"call {at}, {how}: {loss}") from None
         sites += 1
-    return f"{sum(seen.values())} calls broken in {sites} sessions: " + ", ".join(f"{count} {what}" for what, count in sorted(seen.items()))
+    return f"{sum(seen.values())} calls broken in {sites} sessions, and all {made} of making a site: " + ", ".join(f"{count} {what}" for what, count in sorted(seen.items()))

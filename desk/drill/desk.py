@@ -36,8 +36,8 @@ class Desk:
 
     running = []
 
-    def __init__(self, setting, folder, *options, env=None):
-        self.folder, self.said = Path(folder), setting.work / "desk.out"
+    def __init__(self, setting, folder, *options, env=None, said="desk.out"):
+        self.folder, self.said = Path(folder), setting.work / said
         with open(self.said, "wb") as out:
             command = [setting.desk, "serve", folder, *map(str, options)]
             self.process = subprocess.Popen(command, stdout=out, stderr=out, stdin=subprocess.DEVNULL,
@@ -97,8 +97,11 @@ def end_all():
 
 def command(setting, *words, given=b"", env=None):
     """Runs a command of the desk: its exit code, what it wrote, and its messages."""
-    done = subprocess.run([setting.desk, *map(str, words)], input=given, capture_output=True, timeout=120, check=False,
-                          env={**os.environ, **(env or {})})
+    try:
+        done = subprocess.run([setting.desk, *map(str, words)], input=given, capture_output=True, timeout=PATIENCE, check=False,
+                              env={**os.environ, **(env or {})})
+    except subprocess.TimeoutExpired:
+        raise Loss(f"desk {words[0]} does not end in {PATIENCE} seconds") from None
     return done.returncode, done.stdout, done.stderr.decode(errors="replace")
 
 

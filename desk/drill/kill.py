@@ -15,16 +15,24 @@ from reader import Folder
 ROUNDS_OF_A_SITE = 25
 
 
+def meanwhile(desk, chance, seconds):
+    """Now and then a snapshot is asked for, and now and then the desk stands still, so that a large batch gathers."""
+    at, then = sorted((chance.uniform(0, seconds), chance.uniform(0, seconds)))
+    snapshot = [(at, lambda: desk.signal(signal.SIGUSR1))]
+    still = [(at, lambda: desk.signal(signal.SIGSTOP)), (then, lambda: desk.signal(signal.SIGCONT))]
+    return chance.choice((snapshot, still, [], []))
+
+
 def one_round(site, chance, seconds):
     """Serves, kills or ends, judges; what the clients sent."""
     desk = site.serve("--every", 50, "--patience", 10).started()
     clients = site.clients()
     gently = chance.random() < 0.2
     blow = threading.Timer(seconds, desk.signal, [signal.SIGTERM if gently else signal.SIGKILL])
-    events = [(chance.uniform(0, seconds), lambda: desk.signal(signal.SIGUSR1))] if chance.random() < 0.3 else []
     blow.start()
-    talk(clients, seconds, events)
+    talk(clients, seconds, meanwhile(desk, chance, seconds))
     blow.join()
+    desk.signal(signal.SIGCONT)
     drain(clients)
     code = desk.code()
     if code != (0 if gently else -signal.SIGKILL):

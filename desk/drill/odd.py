@@ -8,7 +8,7 @@ import subprocess
 import time
 
 from clients import Client, connect, drain, finish, talk, turn
-from desk import command, settings_line
+from desk import Desk, command, settings_line
 from drillsite import Site
 from judge import Loss
 from reader import HEAD, ORDER, crc32c
@@ -94,6 +94,19 @@ def half_lines(crowd):
             sock.sendall(text)
     start = time.monotonic()
     crowd.meanwhile(lambda: time.monotonic() - start > 0.1, "half lines")
+
+
+def ends_early(crowd):
+    """A client that sends no more still gets all its answers, also of lines that are for later batches; then the connection ends."""
+    client = crowd.newcomer()
+    client.send(*("s" for _ in range(100)), "junk", *("a" + hexed(crowd.site.traffic[2].request()) for _ in range(100)))
+    while client.out:
+        client.write()
+    client.sock.shutdown(socket.SHUT_WR)
+    crowd.meanwhile(lambda: not client.open, "a client that sends no more")
+    if client.waiting():
+        raise Loss(f"a client that sends no more lacks {client.waiting()} answers")
+    client.close()
 
 
 def no_newline(crowd):
@@ -182,9 +195,9 @@ def read_meanwhile(crowd):
 
 
 def second_desk(crowd):
-    code, _, why = command(crowd.site.setting, "serve", crowd.site.folder)
-    if code != 4:
-        raise Loss(f"a second desk ended with {code}: {why}")
+    second = Desk(crowd.site.setting, crowd.site.folder, said="second.out")
+    if second.listens() or second.code() != 4:
+        raise Loss(f"a second desk serves the site, or ends with {second.kill()}: {second.text().strip()}")
 
 
 def other_site(setting, site):
@@ -212,7 +225,7 @@ def wrong_usage(setting, site):
 
 def run(setting):
     chance, answers = random.Random(setting.seed), 0
-    parts = (strange_lines, long_line, half_lines, no_newline, thousands, reads_nothing, too_many, second_desk, read_meanwhile)
+    parts = (strange_lines, long_line, half_lines, ends_early, no_newline, thousands, reads_nothing, too_many, second_desk, read_meanwhile)
     for number in range(setting.rounds):
         crowd = Crowd(setting, chance)
         for part in parts:
