@@ -35,23 +35,22 @@ def targets(folder):
         yield "behind the journal", last.name, last.end, last.end + LAST
     yield "newest segment", max(path.name for path in folder.glob("log-*")), 0, LAST
     yield "mark", "mark", 0, 16
-    for seq in sorted(found.snapshots)[-2:]:
-        length = HEAD + 4 * len(found.snapshots[seq].book)
-        yield "newest snapshot" if seq == max(found.snapshots) else "older snapshot", f"snap-{seq:016x}", 0, length
+    for which, path in zip(("newest snapshot", "older snapshot"), sorted(folder.glob("snap-*"), reverse=True)):
+        yield which, path.name, 0, path.stat().st_size
 
 
 def damaged(path, first, last, chance):
     """Damages a file between two bytes; says how."""
     data = bytearray(path.read_bytes())
     at = chance.randrange(first, max(first + 1, min(last, len(data))))
-    how = chance.choice(("flip", "flip", "zero", "sector", "cut"))
+    how = chance.choice(("flip", "flip", "zeros", "zero sector", "cut"))
     if how == "cut":
         del data[at:]
     elif how == "flip":
         data[at] ^= 1 << chance.randrange(8)
     else:
-        at = at // 512 * 512 if how == "sector" else at
-        data[at:at + (512 if how == "sector" else 9)] = bytes(len(data[at:at + (512 if how == "sector" else 9)]))
+        at, length = (at, 9) if how == "zeros" else (at // 512 * 512, 512)
+        data[at:at + length] = bytes(len(data[at:at + length]))
     path.write_bytes(data)
     return f"{how} at byte {at} of {path.name}"
 

@@ -116,22 +116,13 @@ def answers_before(events, count):
     return {client: sum(not line.startswith(b"!") for line in data.split(b"\n")[:-1]) for client, data in sent.items()}
 
 
-def known(clients, sent):
-    """The clients' lines, with the answers that were sent before the cut."""
-    lines = []
-    for number, client in enumerate(clients, 1):
-        known_lines = [Line(line.text) for line in client.lines]
-        for line, told in zip(known_lines[:sent.get(number, 0)], client.lines):
-            line.told = told.told
-        lines.append(known_lines)
-    return lines
-
-
 class Known:
-    """A client of the session as it looks at the cut."""
+    """What is known of a client at the cut: its lines, and so many answers."""
 
-    def __init__(self, lines):
-        self.lines = lines
+    def __init__(self, client, answers):
+        self.lines = [Line(line.text) for line in client.lines]
+        for line, sent in zip(self.lines[:answers], client.lines):
+            line.told = sent.told
 
 
 def chooser(chance):
@@ -174,7 +165,8 @@ def one_session(site, chance, cuts):
         disk.cut(after.folder, chance)
         after.traffic = [traffic.copy() for traffic in site.traffic]
         try:
-            after.judged([Known(lines) for lines in known(clients, answers_before(events, point))], thorough=False)
+            answers = answers_before(events, point)
+            after.judged([Known(client, answers.get(number, 0)) for number, client in enumerate(clients, 1)], thorough=False)
             starts(after)
         except Loss as loss:
             last = events[point - 1][:3] if point else "the start"
