@@ -122,10 +122,3 @@ def drain(clients, seconds=PATIENCE):
         turn(clients, 0.1)
     for client in clients:
         client.close()
-
-
-def asked(client, *texts):
-    """What a client is told when it sends these lines and waits."""
-    client.send(*texts)
-    finish([client])
-    return [line.told for line in client.lines[-len(texts):]]

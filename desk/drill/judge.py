@@ -91,9 +91,6 @@ class Engine:
     def words(self):
         return tuple(self.book)
 
-    def count(self):
-        return self.book[len(self.book) - 1]
-
     def ask(self, request):
         told = library().caviar_ask(self.book, len(self.book), RequestWords(*request))
         return told.number, told.place, told.value, told.count

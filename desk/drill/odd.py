@@ -136,14 +136,13 @@ def reads_nothing(crowd):
     """A client that takes no answers is dropped when patience ends, and not before."""
     with connect(crowd.site.folder) as sock:
         sock.setblocking(False)
-        lines, start, stopped = b"s\n" * 1000, time.monotonic(), None
+        lines, start = b"s\n" * 1000, time.monotonic()
 
         def dropped():
-            nonlocal stopped
             try:
                 sock.send(lines)
             except BlockingIOError:
-                stopped = stopped or time.monotonic()
+                pass
             except OSError:
                 return True
             return False
