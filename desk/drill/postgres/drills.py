@@ -321,10 +321,9 @@ def refusals(setting):
     spoiled(stand, "CREATE TABLE desk_journal(site bytea, first bigint, record bytea NOT NULL, PRIMARY KEY (site, first))",
             "ALTER TABLE desk_journal OWNER TO desk", 5, "give the role SELECT and INSERT")
     stand.finished(stand.desk(0).started())
-    last = f"WHERE first = (SELECT max(first) FROM desk_journal)"
+    last = "WHERE first = (SELECT max(first) FROM desk_journal)"
     keep = "CREATE TABLE kept AS SELECT * FROM desk_journal"
     mend = "TRUNCATE desk_journal; INSERT INTO desk_journal SELECT * FROM kept; DROP TABLE kept"
-    (stand.folders[0] / "lock").unlink()
     for spoil, words in ((f"DELETE FROM desk_journal {last}", "is not on the journal"),
                          (f"UPDATE desk_journal SET record = set_byte(record, 40, 255 - get_byte(record, 40)) {last}", "is damaged"),
                          ("TRUNCATE desk_journal", "is not on the journal")):
@@ -334,7 +333,7 @@ def refusals(setting):
     server.stop()
     server.start(fsync="off")
     refuses(stand, 2, "fsync=off")
-    return "10 refused"
+    return "11 refused"
 
 
 def from_first(stand, keep, mend):
