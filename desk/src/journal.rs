@@ -24,6 +24,11 @@ pub trait Journal {
     fn syncing(&self) -> Duration {
         Duration::ZERO
     }
+
+    /// Nothing is to be stored now. Is the journal still this desk's alone? If not, what it answers is of an old book.
+    fn affirm(&mut self) -> Outcome<()> {
+        Ok(())
+    }
 }
 
 pub const RECORD_HEAD: usize = 28;

@@ -78,7 +78,7 @@ def session(setting):
             other.started()
             waits.append(time.monotonic() - start)
         if way == "idle":
-            resume(clients, stand)
+            asked_in_vain(clients)
         elif way == "frozen":
             talk(clients, 0.05)
             leads.signal(signal.SIGCONT)
@@ -100,9 +100,14 @@ def pause(clients):
     finish(clients)
 
 
-def resume(clients, stand):
-    for client, traffic in zip(clients, stand.traffic):
-        client.traffic = traffic
+def asked_in_vain(clients):
+    """A question changes nothing and is not stored. But who is asked no longer leads: what it told would be of an old book."""
+    told = [client.told for client in clients]
+    for client in clients:
+        client.send("s")
+    talk(clients, 0.1)
+    if told != [client.told for client in clients]:
+        raise Loss("a desk without its session told what stands in its book")
 
 
 def crash(setting):

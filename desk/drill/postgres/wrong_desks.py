@@ -15,10 +15,26 @@ from judge import Loss, Trouble
 ROOT = Path(__file__).resolve().parent.parent.parent.parent
 SOURCE = "src/postgres/mod.rs"
 INSERTED = 'self.session.run(Statement::Prepared(c"insert"), &values, |_| Ok(()))?;'
+AFFIRMED = 'self.session.run(Statement::Prepared(c"affirm"), &[], |_| Ok(()))?;'
 OPENED = "let session = Session::open(connection)?;"
 # Where an edit needs a second session, it finds the connection here.
 KNOWN = (OPENED, OPENED + ' std::env::set_var("WRONG_DESK", connection);')
 CONNECTION = 'std::env::var("WRONG_DESK").unwrap()'
+
+
+def again(run):
+    """A statement that is run once more, in a new session, where it fails."""
+    once = run.rstrip("?;")
+    return f"""match {once} {{
+            Ok(count) => count,
+            Err(_) => {{
+                let table = Table::open(&{CONNECTION}, self.site)?;
+                table.session.prepare(c"insert", INSERT)?;
+                table.session.prepare(c"affirm", AFFIRM)?;
+                self.session = table.session;
+                {once}?
+            }}
+        }};"""
 
 
 class Wrong(NamedTuple):
@@ -28,21 +44,14 @@ class Wrong(NamedTuple):
 
 
 WRONG = (
-    Wrong("goes on over a new session", drills.session, (KNOWN, (INSERTED, f"""match
-        self.session.run(Statement::Prepared(c"insert"), &values, |_| Ok(())) {{
-            Ok(count) => count,
-            Err(_) => {{
-                self.session = Table::open(&{CONNECTION}, self.site)?.session;
-                self.session.prepare(c"insert", INSERT)?;
-                {INSERTED.rstrip(";")}
-            }}
-        }};"""))),
+    Wrong("goes on over a new session", drills.session, (KNOWN, (INSERTED, again(INSERTED)), (AFFIRMED, again(AFFIRMED)))),
     Wrong("has the lock in another session", drills.session, (KNOWN, (
         "Ok(self.session.value(TRY_LOCK, &[&lock_key(&self.site)])?.as_deref() == Some(TRUE))", f"""
         let keeper = Session::open(&{CONNECTION})?;
         let has = keeper.value(TRY_LOCK, &[&lock_key(&self.site)])?.as_deref() == Some(TRUE);
         if has {{ std::mem::forget(keeper); }}
         Ok(has)"""))),
+    Wrong("answers questions without its session", drills.session, ((AFFIRMED, ""),)),
     Wrong("asks for no lock", drills.leader, (("let leads = table.try_lock()?;", "let leads = table.try_lock()? || true;"),)),
     Wrong("leads on a standby", drills.standby, (("CASE WHEN pg_is_in_recovery() THEN false", "CASE WHEN false THEN false"),)),
     Wrong("ignores notices", drills.cancelled, (("if notices.is_empty() {", "if notices.is_empty() || true {"),)),

@@ -42,6 +42,9 @@ const ROW_BEFORE: &CStr = c"SELECT record FROM desk_journal
 const ROWS: &CStr = c"SELECT record FROM desk_journal WHERE site = $1::bytea AND first >= $2::bigint ORDER BY first";
 const INSERT: &CStr = c"INSERT INTO desk_journal(site, first, record) VALUES ($1::bytea, $2::bigint, $3::bytea)";
 
+/// The session answers, so the lock is still its own.
+const AFFIRM: &CStr = c"SELECT 1";
+
 /// A commit without rows, that waits for the standby as every other does.
 const BARRIER: &CStr = c"SELECT pg_logical_emit_message(true, 'desk', 'leads')";
 
@@ -148,7 +151,8 @@ impl Table {
             return stop(DAMAGED, format!("the snapshot of {} calls {why} (there: {} calls)", place.seq, end.seq));
         }
         self.session.prepare(c"rows", ROWS)?;
-        self.session.prepare(c"insert", INSERT)
+        self.session.prepare(c"insert", INSERT)?;
+        self.session.prepare(c"affirm", AFFIRM)
     }
 
     /// Does the calls of the rows that are there and not yet in the book.
@@ -208,6 +212,11 @@ impl Journal for Table {
 
     /// The table has no segments.
     fn begin_segment(&mut self, _: Place) -> Outcome<()> {
+        Ok(())
+    }
+
+    fn affirm(&mut self) -> Outcome<()> {
+        self.session.run(Statement::Prepared(c"affirm"), &[], |_| Ok(()))?;
         Ok(())
     }
 }

@@ -73,7 +73,9 @@ impl<'a> Desk<'a> {
         self.hear(at_clients, room);
         self.linger(at_clients, room, woken);
         self.figures.reading += woken.elapsed();
-        if !self.lines.is_empty() {
+        if self.lines.is_empty() {
+            self.journal.affirm()?;
+        } else {
             self.answer()?;
         }
         for (door, fd) in doors.iter().zip(at_doors) {
@@ -157,6 +159,8 @@ impl<'a> Desk<'a> {
             self.journal.append(&record)?;
             self.site.place = record.after;
             self.figures.stored += 1;
+        } else {
+            self.journal.affirm()?;
         }
         let stored = Instant::now();
         for ((index, _), reply) in self.lines.iter().zip(&self.batch.replies) {
