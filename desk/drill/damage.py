@@ -37,6 +37,10 @@ def targets(folder):
     yield "mark", "mark", 0, 16
     for which, path in zip(("newest snapshot", "older snapshot"), sorted(folder.glob("snap-*"), reverse=True)):
         yield which, path.name, 0, path.stat().st_size
+    # Every change count is lawful: only the sum tells.
+    newest = max(found.snapshots)
+    count = HEAD + 4 * len(found.snapshots[newest].book)
+    yield "newest snapshot's change count", f"snap-{newest:016x}", count - 4, count
 
 
 def damaged(path, first, last, chance):
@@ -115,7 +119,7 @@ def still_there(folder, name, data):
 
 def one_damage(site, chance):
     choices = list(targets(site.folder))
-    snapshots = [choice for choice in choices if "snapshot" in choice[0]]
+    snapshots = [choice for choice in choices if choice[0].endswith("snapshot")]
     several = snapshots if chance.random() < 0.1 else [chance.choice(choices)]
     what = ", ".join(f"{what}: {damaged(site.folder / name, first, last, chance)}" for what, name, first, last in several)
     before, expects = contents(site.folder), Folder(site.folder).start(lawful)

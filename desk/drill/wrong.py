@@ -61,7 +61,7 @@ def build(edit, place):
         shutil.copytree(ROOT / name, place / name, ignore=shutil.ignore_patterns("drill", "target"), copy_function=copied)
     apply(edit, place / "desk")
     env = {**os.environ, "CARGO_TARGET_DIR": str(place / "target"), "CAVIAR_LIB_DIR": str(ROOT / "target" / "staticlib"),
-           "CARGO_NET_OFFLINE": "true"}
+           "CARGO_NET_OFFLINE": "true", "PATH": f"{os.environ.get('PATH', os.defpath)}:{Path.home()}/.cargo/bin"}
     command = ["cargo", "build", "--quiet", "--locked", "--bin", "desk", "--manifest-path", place / "desk" / "Cargo.toml"]
     done = subprocess.run(command, env=env, capture_output=True, text=True, check=False)
     if done.returncode:
