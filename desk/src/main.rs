@@ -136,17 +136,15 @@ fn import(folder: &Folder) -> Outcome<()> {
 
 fn check(folder: &Folder) -> Outcome<()> {
     let found = load(folder, Want::default())?;
-    for note in &found.notes {
-        println!("note: {note}");
-    }
-    println!(
-        "good: {} calls kept, {} of them done again behind the snapshot in {:.3} s, {} words",
+    let mut said: String = found.notes.iter().map(|note| format!("note: {note}\n")).collect();
+    said += &format!(
+        "good: {} calls kept, {} of them done again behind the snapshot in {:.3} s, {} words\n",
         found.site.place.seq,
         found.replayed,
         found.seconds,
         found.site.book.len()
     );
-    Ok(())
+    write(said.as_bytes())
 }
 
 fn write(bytes: &[u8]) -> Outcome<()> {
@@ -157,7 +155,7 @@ fn write(bytes: &[u8]) -> Outcome<()> {
 /// The book as it is now, for people.
 fn page(folder: &Folder, page: impl Fn(&[u32]) -> Result<String, String>) -> Outcome<()> {
     let found = load(folder, Want::default())?;
-    found.notes.iter().for_each(|note| eprintln!("desk: note: {note}"));
+    found.notes.iter().for_each(|note| complain(&format!("note: {note}")));
     match page(&found.site.book) {
         Ok(page) => write(page.as_bytes()),
         Err(why) => stop(USAGE, why),
@@ -205,10 +203,15 @@ fn run(args: &[String]) -> Outcome<()> {
     }
 }
 
+/// On standard error; where that is full or closed, the status says it alone.
+fn complain(why: &str) {
+    let _ = writeln!(std::io::stderr(), "desk: {why}");
+}
+
 fn main() {
     let args: Vec<String> = std::env::args().skip(1).collect();
     if let Err(stop) = run(&args) {
-        eprintln!("desk: {}", stop.why);
+        complain(&stop.why);
         std::process::exit(stop.code);
     }
 }
