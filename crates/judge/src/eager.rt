@@ -20,7 +20,7 @@ use model::Request;
 use model::Session;
 use model::Time;
 use queries::bookings::bookings;
-use queries::dates::first_without_session;
+use queries::entries::member_between;
 use questions::cells::first_not_member;
 use questions::cells::first_row_with;
 use questions::cells::first_row_without;
@@ -32,15 +32,17 @@ use questions::slots::first_time_off_leave;
 use questions::slots::not_held;
 use units::after;
 use units::date_of_session;
+use units::sessions_on;
 ghost use mathlib.Core.Path.{_≡_};
 ghost use Prim.Native.Nat.{_≤_, _<_};
 ghost use Rattle.model.specs.Machine.{step};
+ghost use Rattle.model.specs.Questions.{standsOn};
 ghost use Rattle.model.specs.Reading.{stateOf};
 ghost use Rattle.model.specs.Site.{allSessions};
 ghost use Rattle.book.specs.Good.{Good};
 ghost use Rattle.book.specs.Grids.{Sited};
 ghost use Rattle.book.specs.Lent.{reading};
-ghost use Rattle.questions.specs.Asked.{NoBookings, NotHeld, slotsFail};
+ghost use Rattle.questions.specs.Asked.{NoBookings, NotHeld, StandsThatDate, slotsFail};
 ghost use Rattle.judge.specs.Chains.{asked, lunchAdds};
 
 // Two questions with their numbers and what was found: the first no, or done.
@@ -95,7 +97,10 @@ pub fn end_leave(book: &[u32], site: Site, r: Request) -> Answer
     if no != 0 {
         return refused(no, 0);
     }
-    settled(18, first_booked(book, site, r.b, Date(r.first), Date(r.last)))
+    settled(
+        18,
+        first_booked(book, site, r.b, Date(r.first), Date(r.last)),
+    )
 }
 
 // Kind 4: a visitor gets a hotel room.
@@ -200,6 +205,36 @@ pub fn add_attend(book: &[u32], site: Site, r: Request) -> Answer
     first_of_four(9, away, 10, ended, 11, there, 13, elsewhere)
 }
 
+// Does the meeting stand in a session of the date?
+fn stands_on(book: &[u32], site: Site, meeting: u32, date: Date) -> bool
+    requires { ⌜ Good (site .settings) (reading (now book)) ⌝ }
+    requires { ⌜ Sited site ⌝ }
+    requires { ⌜ meeting < site .settings .meetings ⌝ }
+    requires { ⌜ date .0 < site .settings .dates ⌝ }
+    ensures { λ r. ⌜ r ≡ standsOn (stateOf (reading (now (book .entry)))) (date .0) meeting ⌝ }
+{
+    let run = sessions_on(site.settings, date, date);
+    member_between(book, site.grids.standing, meeting, run.from.0, run.to.0)
+}
+
+// Question 10 of kind 14: the lowest date of first..last on which the meeting stands in no session.
+fn first_not_standing(book: &[u32], site: Site, meeting: u32, first: Date, last: Date) -> Found
+    requires { ⌜ Good (site .settings) (reading (now book)) ⌝ }
+    requires { ⌜ Sited site ⌝ }
+    requires { ⌜ last .0 < site .settings .dates ⌝ }
+    requires { ⌜ meeting < site .settings .meetings ⌝ }
+    ensures { λ r. ⌜ r ≡ slotsFail (site .settings) (reading (now (book .entry))) StandsThatDate meeting 0 (first .0) (last .0) ⌝ }
+{
+    let mut date = first;
+    while date.0 <= last.0 {
+        if !stands_on(book, site, meeting, date) {
+            return Found::At(date.0);
+        }
+        date = after(date);
+    }
+    Found::Nothing
+}
+
 // Kind 14 from question 10 on.
 fn lunch_fits(book: &[u32], site: Site, a: u32, b: u32, n: u32, first: Date, last: Date) -> Answer
     requires { ⌜ Good (site .settings) (reading (now book)) ⌝ }
@@ -208,10 +243,9 @@ fn lunch_fits(book: &[u32], site: Site, a: u32, b: u32, n: u32, first: Date, las
     requires { ⌜ a < site .settings .dining ⌝ }
     requires { ⌜ b < site .settings .meetings ⌝ }
     requires { ⌜ n ≤ 1000 ⌝ }
-    requires { ⌜ first .0 ≤ last .0 ⌝ }
     ensures { λ r. ⌜ r ≡ lunchAdds (site .settings) (reading (now (book .entry))) (site .grids .lunch) a b n (first .0) (last .0) ⌝ }
 {
-    let ended = first_without_session(book, site, b, first, last);
+    let ended = first_not_standing(book, site, b, first, last);
     let there = first_with(book, site.grids.lunch, b, a + 1, first.0, last.0);
     let elsewhere = first_without(book, site.grids.lunch, b, 0, first.0, last.0);
     let over = first_over(book, site, a, n, first, last);

@@ -32,16 +32,16 @@ returns c =
     let f = c .before in
     let s = f .before .before .before .before in
     c .refused .ensures
-    ∙ refused-by (s .pre .0) (s .args .r) addAttend (ap kindOf (s .pre .1 .1)) (f .before .before .attend-row .ensures) (f .before .first-no .ensures)
-    (f .if1 .taken)
+    ∙ refused-by (s .pre .0) (s .args .r) addAttend (ap kindOf (s .pre .1 .1)) (f .before .before .attend-row .ensures)
+    (f .before .first-no .ensures) (f .if1 .taken)
 
 first-session-off-leave-requires : tie.Need-first-session-off-leave-requires
 unfolding kindOf
 first-session-off-leave-requires c κs =
     let f = c in
     let s = f .before .before .before .before in
-    let h = ready (s .pre .0) (s .args .r) addAttend (ap kindOf (s .pre .1 .1)) (f .before .before .attend-row .ensures) (f .before .first-no .ensures)
-    (f .if1 .left) in
+    let h = ready (s .pre .0) (s .args .r) addAttend (ap kindOf (s .pre .1 .1)) (f .before .before .attend-row .ensures)
+    (f .before .first-no .ensures) (f .if1 .left) in
     (s .pre .0, ((ap (λ (g : Grids). g .leave) (s .pre .1 .0)), (h .slot, h .b)))
 
 first-not-member-requires : tie.Need-first-not-member-requires
@@ -49,8 +49,8 @@ unfolding kindOf
 first-not-member-requires c κs =
     let f = c .before in
     let s = f .before .before .before .before in
-    let h = ready (s .pre .0) (s .args .r) addAttend (ap kindOf (s .pre .1 .1)) (f .before .before .attend-row .ensures) (f .before .first-no .ensures)
-    (f .if1 .left) in
+    let h = ready (s .pre .0) (s .args .r) addAttend (ap kindOf (s .pre .1 .1)) (f .before .before .attend-row .ensures)
+    (f .before .first-no .ensures) (f .if1 .left) in
     ground (s .pre .0) standings (ap (λ (g : Grids). g .standing) (s .pre .1 .0)) (h .slot)
     (group-lt (s .args .site .settings .meetings) (s .args .r .a) (h .a))
 
@@ -59,8 +59,8 @@ unfolding kindOf
 add-first-with c =
     let f = c .before .before .before in
     let s = f .before .before .before .before in
-    let h = ready (s .pre .0) (s .args .r) addAttend (ap kindOf (s .pre .1 .1)) (f .before .before .attend-row .ensures) (f .before .first-no .ensures)
-    (f .if1 .left) in
+    let h = ready (s .pre .0) (s .args .r) addAttend (ap kindOf (s .pre .1 .1)) (f .before .before .attend-row .ensures)
+    (f .before .first-no .ensures) (f .if1 .left) in
     omega (arith, good-laid (s .pre .0) .ranges .meetings, h .a)
 
 first-with-requires : tie.Need-first-with-requires
@@ -68,8 +68,8 @@ unfolding kindOf
 first-with-requires c κs =
     let f = c .before .before .before in
     let s = f .before .before .before .before in
-    let h = ready (s .pre .0) (s .args .r) addAttend (ap kindOf (s .pre .1 .1)) (f .before .before .attend-row .ensures) (f .before .first-no .ensures)
-    (f .if1 .left) in
+    let h = ready (s .pre .0) (s .args .r) addAttend (ap kindOf (s .pre .1 .1)) (f .before .before .attend-row .ensures)
+    (f .before .first-no .ensures) (f .if1 .left) in
     ground (s .pre .0) attendCells (ap (λ (g : Grids). g .attend) (s .pre .1 .0)) (h .slot) (h .b)
 
 first-without-requires : tie.Need-first-without-requires
@@ -77,8 +77,8 @@ unfolding kindOf
 first-without-requires c κs =
     let f = c .before .before .before .before in
     let s = f .before .before .before .before in
-    let h = ready (s .pre .0) (s .args .r) addAttend (ap kindOf (s .pre .1 .1)) (f .before .before .attend-row .ensures) (f .before .first-no .ensures)
-    (f .if1 .left) in
+    let h = ready (s .pre .0) (s .args .r) addAttend (ap kindOf (s .pre .1 .1)) (f .before .before .attend-row .ensures)
+    (f .before .first-no .ensures) (f .if1 .left) in
     ground (s .pre .0) attendCells (ap (λ (g : Grids). g .attend) (s .pre .1 .0)) (h .slot) (h .b)
 
 first-of-four-requires : tie.Need-first-of-four-requires
@@ -89,8 +89,8 @@ unfolding kindOf inWords attendAdds
 returns-2 c =
     let f = c .before .before .before .before .before .before in
     let s = f .before .before .before .before in
-    let h = ready (s .pre .0) (s .args .r) addAttend (ap kindOf (s .pre .1 .1)) (f .before .before .attend-row .ensures) (f .before .first-no .ensures)
-    (f .if1 .left) in
+    let h = ready (s .pre .0) (s .args .r) addAttend (ap kindOf (s .pre .1 .1)) (f .before .before .attend-row .ensures)
+    (f .before .first-no .ensures) (f .if1 .left) in
     c .first-of-four .ensures
     ∙ four 9 10 11 13 (c .before .before .before .before .before .first-session-off-leave .ensures)
     (c .before .before .before .before .first-not-member .ensures

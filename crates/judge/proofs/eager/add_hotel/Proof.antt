@@ -32,16 +32,16 @@ returns c =
     let f = c .before in
     let s = f .before .before .before .before in
     c .refused .ensures
-    ∙ refused-by (s .pre .0) (s .args .r) addHotel (ap kindOf (s .pre .1 .1)) (f .before .before .hotel-row .ensures) (f .before .first-no .ensures)
-    (f .if1 .taken)
+    ∙ refused-by (s .pre .0) (s .args .r) addHotel (ap kindOf (s .pre .1 .1)) (f .before .before .hotel-row .ensures)
+    (f .before .first-no .ensures) (f .if1 .taken)
 
 first-not-member-requires : tie.Need-first-not-member-requires
 unfolding kindOf
 first-not-member-requires c κs =
     let f = c in
     let s = f .before .before .before .before in
-    let h = ready (s .pre .0) (s .args .r) addHotel (ap kindOf (s .pre .1 .1)) (f .before .before .hotel-row .ensures) (f .before .first-no .ensures)
-    (f .if1 .left) in
+    let h = ready (s .pre .0) (s .args .r) addHotel (ap kindOf (s .pre .1 .1)) (f .before .before .hotel-row .ensures)
+    (f .before .first-no .ensures) (f .if1 .left) in
     ground (s .pre .0) leaves (ap (λ (g : Grids). g .leave) (s .pre .1 .0)) (h .slot)
     (group-lt (s .args .site .settings .visitors) (s .args .r .b) (h .b))
 
@@ -50,8 +50,8 @@ unfolding kindOf
 add-first-with c =
     let f = c .before .before in
     let s = f .before .before .before .before in
-    let h = ready (s .pre .0) (s .args .r) addHotel (ap kindOf (s .pre .1 .1)) (f .before .before .hotel-row .ensures) (f .before .first-no .ensures)
-    (f .if1 .left) in
+    let h = ready (s .pre .0) (s .args .r) addHotel (ap kindOf (s .pre .1 .1)) (f .before .before .hotel-row .ensures)
+    (f .before .first-no .ensures) (f .if1 .left) in
     omega (arith, good-laid (s .pre .0) .ranges .visitors, h .b)
 
 first-with-requires : tie.Need-first-with-requires
@@ -59,8 +59,8 @@ unfolding kindOf
 first-with-requires c κs =
     let f = c .before .before in
     let s = f .before .before .before .before in
-    let h = ready (s .pre .0) (s .args .r) addHotel (ap kindOf (s .pre .1 .1)) (f .before .before .hotel-row .ensures) (f .before .first-no .ensures)
-    (f .if1 .left) in
+    let h = ready (s .pre .0) (s .args .r) addHotel (ap kindOf (s .pre .1 .1)) (f .before .before .hotel-row .ensures)
+    (f .before .first-no .ensures) (f .if1 .left) in
     ground (s .pre .0) hotelCells (ap (λ (g : Grids). g .hotel) (s .pre .1 .0)) (h .slot) (h .a)
 
 first-without-requires : tie.Need-first-without-requires
@@ -68,8 +68,8 @@ unfolding kindOf
 first-without-requires c κs =
     let f = c .before .before .before in
     let s = f .before .before .before .before in
-    let h = ready (s .pre .0) (s .args .r) addHotel (ap kindOf (s .pre .1 .1)) (f .before .before .hotel-row .ensures) (f .before .first-no .ensures)
-    (f .if1 .left) in
+    let h = ready (s .pre .0) (s .args .r) addHotel (ap kindOf (s .pre .1 .1)) (f .before .before .hotel-row .ensures)
+    (f .before .first-no .ensures) (f .if1 .left) in
     ground (s .pre .0) hotelCells (ap (λ (g : Grids). g .hotel) (s .pre .1 .0)) (h .slot) (h .a)
 
 add-first-row-with : tie.Need-add-first-row-with
@@ -77,8 +77,8 @@ unfolding kindOf
 add-first-row-with c =
     let f = c .before .before .before .before .before in
     let s = f .before .before .before .before in
-    let h = ready (s .pre .0) (s .args .r) addHotel (ap kindOf (s .pre .1 .1)) (f .before .before .hotel-row .ensures) (f .before .first-no .ensures)
-    (f .if1 .left) in
+    let h = ready (s .pre .0) (s .args .r) addHotel (ap kindOf (s .pre .1 .1)) (f .before .before .hotel-row .ensures)
+    (f .before .first-no .ensures) (f .if1 .left) in
     omega (arith, good-laid (s .pre .0) .ranges .visitors, h .b)
 
 first-row-with-requires : tie.Need-first-row-with-requires
@@ -86,8 +86,8 @@ unfolding kindOf
 first-row-with-requires c κs =
     let f = c .before .before .before .before .before in
     let s = f .before .before .before .before in
-    let h = ready (s .pre .0) (s .args .r) addHotel (ap kindOf (s .pre .1 .1)) (f .before .before .hotel-row .ensures) (f .before .first-no .ensures)
-    (f .if1 .left) in
+    let h = ready (s .pre .0) (s .args .r) addHotel (ap kindOf (s .pre .1 .1)) (f .before .before .hotel-row .ensures)
+    (f .before .first-no .ensures) (f .if1 .left) in
     row-ground (s .pre .0) hotelCells (ap (λ (g : Grids). g .hotel) (s .pre .1 .0)) (h .slot)
 
 first-of-four-requires : tie.Need-first-of-four-requires
@@ -98,8 +98,8 @@ unfolding kindOf inWords addStay
 returns-2 c =
     let f = c .before .before .before .before .before .before .before in
     let s = f .before .before .before .before in
-    let h = ready (s .pre .0) (s .args .r) addHotel (ap kindOf (s .pre .1 .1)) (f .before .before .hotel-row .ensures) (f .before .first-no .ensures)
-    (f .if1 .left) in
+    let h = ready (s .pre .0) (s .args .r) addHotel (ap kindOf (s .pre .1 .1)) (f .before .before .hotel-row .ensures)
+    (f .before .first-no .ensures) (f .if1 .left) in
     c .first-of-four .ensures
     ∙ four 9 11 12 13 (c .before .before .before .before .before .before .first-not-member .ensures
     ∙ leave-fail (s .pre .0) (s .pre .1 .0) (s .args .r .first) (s .args .r .last) (s .args .r .b) (h .b) (h .slot))

@@ -28,8 +28,8 @@ returns c =
     let f = c .before in
     let s = f .before .before .before .before in
     c .refused .ensures
-    ∙ refused-by (s .pre .0) (s .args .r) addLunch (ap kindOf (s .pre .1 .1)) (f .before .before .add-lunch-row .ensures) (f .before .first-no .ensures)
-    (f .if1 .taken)
+    ∙ refused-by (s .pre .0) (s .args .r) addLunch (ap kindOf (s .pre .1 .1)) (f .before .before .add-lunch-row .ensures)
+    (f .before .first-no .ensures) (f .if1 .taken)
 
 refused-requires-2 : tie.Need-refused-requires-2
 refused-requires-2 c κs = search needs
@@ -40,7 +40,8 @@ returns-2 c =
     let f = c .before .before .before in
     let s = f .before .before .before .before in
     c .refused2 .ensures
-    ∙ no-seats (s .args .site .settings) _ (s .args .site .grids .lunch) (s .args .r .a) (s .args .r .b) (s .args .r .n) (s .args .r .first) (s .args .r .last) (c .before .if2 .taken)
+    ∙ no-seats (s .args .site .settings) _ (s .args .site .grids .lunch) (s .args .r .a) (s .args .r .b) (s .args .r .n)
+    (s .args .r .first) (s .args .r .last) (c .before .if2 .taken)
     ∙ answered-by (s .pre .0) (s .pre .1 .0) (s .args .r) addLunch (ap kindOf (s .pre .1 .1)) (f .before .before .add-lunch-row .ensures)
     (f .before .first-no .ensures) (f .if1 .left)
 
@@ -49,8 +50,8 @@ unfolding kindOf
 capacity-requires c κs =
     let f = c .before .before in
     let s = f .before .before .before .before in
-    let h = ready (s .pre .0) (s .args .r) addLunch (ap kindOf (s .pre .1 .1)) (f .before .before .add-lunch-row .ensures) (f .before .first-no .ensures)
-    (f .if1 .left) in
+    let h = ready (s .pre .0) (s .args .r) addLunch (ap kindOf (s .pre .1 .1)) (f .before .before .add-lunch-row .ensures)
+    (f .before .first-no .ensures) (f .if1 .left) in
     (good-laid (s .pre .0) .ranges, h .a)
 
 refused-requires-3 : tie.Need-refused-requires-3
@@ -62,7 +63,9 @@ returns-3 c =
     let f = c .before .before .before .before .before .before in
     let s = f .before .before .before .before in
     c .refused3 .ensures
-    ∙ too-many-seats (s .args .site .settings) _ (s .args .site .grids .lunch) (s .args .r .a) (s .args .r .b) (s .args .r .n) (s .args .r .first) (s .args .r .last) (c .before .before .before .before .if2 .left) (c .before .before .before .capacity .ensures) (c .before .if3 .taken)
+    ∙ too-many-seats (s .args .site .settings) _ (s .args .site .grids .lunch) (s .args .r .a) (s .args .r .b) (s .args .r .n)
+    (s .args .r .first) (s .args .r .last) (c .before .before .before .before .if2 .left) (c .before .before .before .capacity .ensures)
+    (c .before .if3 .taken)
     ∙ answered-by (s .pre .0) (s .pre .1 .0) (s .args .r) addLunch (ap kindOf (s .pre .1 .1)) (f .before .before .add-lunch-row .ensures)
     (f .before .first-no .ensures) (f .if1 .left)
 
@@ -71,10 +74,10 @@ unfolding kindOf
 lunch-fits-requires c κs =
     let f = c .before .before .before .before .before in
     let s = f .before .before .before .before in
-    let h = ready (s .pre .0) (s .args .r) addLunch (ap kindOf (s .pre .1 .1)) (f .before .before .add-lunch-row .ensures) (f .before .first-no .ensures)
-    (f .if1 .left) in
+    let h = ready (s .pre .0) (s .args .r) addLunch (ap kindOf (s .pre .1 .1)) (f .before .before .add-lunch-row .ensures)
+    (f .before .first-no .ensures) (f .if1 .left) in
     let most = capacity-le (s .pre .0) (s .args .r .a) (h .a) in
-    (s .pre .0, (s .pre .1 .0, (h .slot, (h .a, (h .b, (omega (arith, c .if3 .left, c .before .before .capacity .ensures, most), h .order))))))
+    (s .pre .0, (s .pre .1 .0, (h .slot, (h .a, (h .b, omega (arith, c .if3 .left, c .before .before .capacity .ensures, most))))))
 
 returns-4 : tie.Need-returns-4
 unfolding kindOf inWords
@@ -82,7 +85,9 @@ returns-4 c =
     let f = c .before .before .before .before .before .before in
     let s = f .before .before .before .before in
     c .lunch-fits .ensures
-    ∙ seats-fit (s .args .site .settings) _ (s .args .site .grids .lunch) (s .args .r .a) (s .args .r .b) (s .args .r .n) (s .args .r .first) (s .args .r .last) (c .before .before .before .before .if2 .left) (c .before .before .before .capacity .ensures) (c .before .if3 .left)
+    ∙ seats-fit (s .args .site .settings) _ (s .args .site .grids .lunch) (s .args .r .a) (s .args .r .b) (s .args .r .n)
+    (s .args .r .first) (s .args .r .last) (c .before .before .before .before .if2 .left) (c .before .before .before .capacity .ensures)
+    (c .before .if3 .left)
     ∙ answered-by (s .pre .0) (s .pre .1 .0) (s .args .r) addLunch (ap kindOf (s .pre .1 .1)) (f .before .before .add-lunch-row .ensures)
     (f .before .first-no .ensures) (f .if1 .left)
 

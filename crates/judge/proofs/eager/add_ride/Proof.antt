@@ -30,16 +30,16 @@ returns c =
     let f = c .before in
     let s = f .before .before .before .before in
     c .refused .ensures
-    ∙ refused-by (s .pre .0) (s .args .r) addRide (ap kindOf (s .pre .1 .1)) (f .before .before .ride-row .ensures) (f .before .first-no .ensures)
-    (f .if1 .taken)
+    ∙ refused-by (s .pre .0) (s .args .r) addRide (ap kindOf (s .pre .1 .1)) (f .before .before .ride-row .ensures)
+    (f .before .first-no .ensures) (f .if1 .taken)
 
 first-time-off-leave-requires : tie.Need-first-time-off-leave-requires
 unfolding kindOf
 first-time-off-leave-requires c κs =
     let f = c in
     let s = f .before .before .before .before in
-    let h = ready (s .pre .0) (s .args .r) addRide (ap kindOf (s .pre .1 .1)) (f .before .before .ride-row .ensures) (f .before .first-no .ensures)
-    (f .if1 .left) in
+    let h = ready (s .pre .0) (s .args .r) addRide (ap kindOf (s .pre .1 .1)) (f .before .before .ride-row .ensures)
+    (f .before .first-no .ensures) (f .if1 .left) in
     (s .pre .0, ((ap (λ (g : Grids). g .leave) (s .pre .1 .0)), (h .slot, h .b)))
 
 add-first-with : tie.Need-add-first-with
@@ -47,8 +47,8 @@ unfolding kindOf
 add-first-with c =
     let f = c .before .before in
     let s = f .before .before .before .before in
-    let h = ready (s .pre .0) (s .args .r) addRide (ap kindOf (s .pre .1 .1)) (f .before .before .ride-row .ensures) (f .before .first-no .ensures)
-    (f .if1 .left) in
+    let h = ready (s .pre .0) (s .args .r) addRide (ap kindOf (s .pre .1 .1)) (f .before .before .ride-row .ensures)
+    (f .before .first-no .ensures) (f .if1 .left) in
     omega (arith, good-laid (s .pre .0) .ranges .visitors, h .b)
 
 first-with-requires : tie.Need-first-with-requires
@@ -56,8 +56,8 @@ unfolding kindOf
 first-with-requires c κs =
     let f = c .before .before in
     let s = f .before .before .before .before in
-    let h = ready (s .pre .0) (s .args .r) addRide (ap kindOf (s .pre .1 .1)) (f .before .before .ride-row .ensures) (f .before .first-no .ensures)
-    (f .if1 .left) in
+    let h = ready (s .pre .0) (s .args .r) addRide (ap kindOf (s .pre .1 .1)) (f .before .before .ride-row .ensures)
+    (f .before .first-no .ensures) (f .if1 .left) in
     ground (s .pre .0) rideCells (ap (λ (g : Grids). g .ride) (s .pre .1 .0)) (h .slot) (h .a)
 
 first-without-requires : tie.Need-first-without-requires
@@ -65,8 +65,8 @@ unfolding kindOf
 first-without-requires c κs =
     let f = c .before .before .before in
     let s = f .before .before .before .before in
-    let h = ready (s .pre .0) (s .args .r) addRide (ap kindOf (s .pre .1 .1)) (f .before .before .ride-row .ensures) (f .before .first-no .ensures)
-    (f .if1 .left) in
+    let h = ready (s .pre .0) (s .args .r) addRide (ap kindOf (s .pre .1 .1)) (f .before .before .ride-row .ensures)
+    (f .before .first-no .ensures) (f .if1 .left) in
     ground (s .pre .0) rideCells (ap (λ (g : Grids). g .ride) (s .pre .1 .0)) (h .slot) (h .a)
 
 add-first-row-with : tie.Need-add-first-row-with
@@ -74,8 +74,8 @@ unfolding kindOf
 add-first-row-with c =
     let f = c .before .before .before .before .before in
     let s = f .before .before .before .before in
-    let h = ready (s .pre .0) (s .args .r) addRide (ap kindOf (s .pre .1 .1)) (f .before .before .ride-row .ensures) (f .before .first-no .ensures)
-    (f .if1 .left) in
+    let h = ready (s .pre .0) (s .args .r) addRide (ap kindOf (s .pre .1 .1)) (f .before .before .ride-row .ensures)
+    (f .before .first-no .ensures) (f .if1 .left) in
     omega (arith, good-laid (s .pre .0) .ranges .visitors, h .b)
 
 first-row-with-requires : tie.Need-first-row-with-requires
@@ -83,8 +83,8 @@ unfolding kindOf
 first-row-with-requires c κs =
     let f = c .before .before .before .before .before in
     let s = f .before .before .before .before in
-    let h = ready (s .pre .0) (s .args .r) addRide (ap kindOf (s .pre .1 .1)) (f .before .before .ride-row .ensures) (f .before .first-no .ensures)
-    (f .if1 .left) in
+    let h = ready (s .pre .0) (s .args .r) addRide (ap kindOf (s .pre .1 .1)) (f .before .before .ride-row .ensures)
+    (f .before .first-no .ensures) (f .if1 .left) in
     row-ground (s .pre .0) rideCells (ap (λ (g : Grids). g .ride) (s .pre .1 .0)) (h .slot)
 
 first-of-four-requires : tie.Need-first-of-four-requires
@@ -95,8 +95,8 @@ unfolding kindOf inWords addStay
 returns-2 c =
     let f = c .before .before .before .before .before .before .before in
     let s = f .before .before .before .before in
-    let h = ready (s .pre .0) (s .args .r) addRide (ap kindOf (s .pre .1 .1)) (f .before .before .ride-row .ensures) (f .before .first-no .ensures)
-    (f .if1 .left) in
+    let h = ready (s .pre .0) (s .args .r) addRide (ap kindOf (s .pre .1 .1)) (f .before .before .ride-row .ensures)
+    (f .before .first-no .ensures) (f .if1 .left) in
     c .first-of-four .ensures
     ∙ four 9 11 12 13 (c .before .before .before .before .before .before .first-time-off-leave .ensures)
     (c .before .before .before .before .first-with .ensures)

@@ -25,16 +25,16 @@ returns c =
     let f = c .before in
     let s = f .before .before .before .before in
     c .refused .ensures
-    ∙ refused-by (s .pre .0) (s .args .r) endLeave (ap kindOf (s .pre .1 .1)) (f .before .before .visitor-row .ensures) (f .before .first-no .ensures)
-    (f .if1 .taken)
+    ∙ refused-by (s .pre .0) (s .args .r) endLeave (ap kindOf (s .pre .1 .1)) (f .before .before .visitor-row .ensures)
+    (f .before .first-no .ensures) (f .if1 .taken)
 
 first-booked-requires : tie.Need-first-booked-requires
 unfolding kindOf
 first-booked-requires c κs =
     let f = c in
     let s = f .before .before .before .before in
-    let h = ready (s .pre .0) (s .args .r) endLeave (ap kindOf (s .pre .1 .1)) (f .before .before .visitor-row .ensures) (f .before .first-no .ensures)
-    (f .if1 .left) in
+    let h = ready (s .pre .0) (s .args .r) endLeave (ap kindOf (s .pre .1 .1)) (f .before .before .visitor-row .ensures)
+    (f .before .first-no .ensures) (f .if1 .left) in
     (s .pre .0, (s .pre .1 .0, (h .slot, h .b)))
 
 settled-requires : tie.Need-settled-requires
@@ -45,8 +45,8 @@ unfolding kindOf inWords
 returns-2 c =
     let f = c .before .before in
     let s = f .before .before .before .before in
-    let h = ready (s .pre .0) (s .args .r) endLeave (ap kindOf (s .pre .1 .1)) (f .before .before .visitor-row .ensures) (f .before .first-no .ensures)
-    (f .if1 .left) in
+    let h = ready (s .pre .0) (s .args .r) endLeave (ap kindOf (s .pre .1 .1)) (f .before .before .visitor-row .ensures)
+    (f .before .first-no .ensures) (f .if1 .left) in
     c .settled .ensures
     ∙ ap (λ o. asked 18 o (Done 0)) (c .before .first-booked .ensures)
     ∙ answered-by (s .pre .0) (s .pre .1 .0) (s .args .r) endLeave (ap kindOf (s .pre .1 .1)) (f .before .before .visitor-row .ensures)

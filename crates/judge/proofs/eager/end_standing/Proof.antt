@@ -31,16 +31,16 @@ returns c =
     let f = c .before in
     let s = f .before .before .before .before in
     c .refused .ensures
-    ∙ refused-by (s .pre .0) (s .args .r) endStanding (ap kindOf (s .pre .1 .1)) (f .before .before .standing-row .ensures) (f .before .first-no .ensures)
-    (f .if1 .taken)
+    ∙ refused-by (s .pre .0) (s .args .r) endStanding (ap kindOf (s .pre .1 .1)) (f .before .before .standing-row .ensures)
+    (f .before .first-no .ensures) (f .if1 .taken)
 
 first-held-requires : tie.Need-first-held-requires
 unfolding kindOf
 first-held-requires c κs =
     let f = c in
     let s = f .before .before .before .before in
-    let h = ready (s .pre .0) (s .args .r) endStanding (ap kindOf (s .pre .1 .1)) (f .before .before .standing-row .ensures) (f .before .first-no .ensures)
-    (f .if1 .left) in
+    let h = ready (s .pre .0) (s .args .r) endStanding (ap kindOf (s .pre .1 .1)) (f .before .before .standing-row .ensures)
+    (f .before .first-no .ensures) (f .if1 .left) in
     (s .pre .0, (s .pre .1 .0, (h .slot, h .a)))
 
 first-not-member-requires : tie.Need-first-not-member-requires
@@ -48,8 +48,8 @@ unfolding kindOf
 first-not-member-requires c κs =
     let f = c .before in
     let s = f .before .before .before .before in
-    let h = ready (s .pre .0) (s .args .r) endStanding (ap kindOf (s .pre .1 .1)) (f .before .before .standing-row .ensures) (f .before .first-no .ensures)
-    (f .if1 .left) in
+    let h = ready (s .pre .0) (s .args .r) endStanding (ap kindOf (s .pre .1 .1)) (f .before .before .standing-row .ensures)
+    (f .before .first-no .ensures) (f .if1 .left) in
     ground (s .pre .0) standings (ap (λ (g : Grids). g .standing) (s .pre .1 .0)) (h .slot)
     (group-lt (s .args .site .settings .meetings) (s .args .r .a) (h .a))
 
@@ -61,8 +61,8 @@ unfolding kindOf inWords standingEnds
 returns-2 c =
     let f = c .before .before .before in
     let s = f .before .before .before .before in
-    let h = ready (s .pre .0) (s .args .r) endStanding (ap kindOf (s .pre .1 .1)) (f .before .before .standing-row .ensures) (f .before .first-no .ensures)
-    (f .if1 .left) in
+    let h = ready (s .pre .0) (s .args .r) endStanding (ap kindOf (s .pre .1 .1)) (f .before .before .standing-row .ensures)
+    (f .before .first-no .ensures) (f .if1 .left) in
     c .first-of-two .ensures
     ∙ two 19 20 (c .before .before .first-held .ensures)
     (c .before .first-not-member .ensures

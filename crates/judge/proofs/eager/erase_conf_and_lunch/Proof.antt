@@ -37,8 +37,8 @@ returns c =
     let f = c .before in
     let s = f .before .before .before .before in
     c .refused .ensures
-    ∙ refused-by (s .pre .0) (s .args .r) eraseConfAndLunch (ap kindOf (s .pre .1 .1)) (f .before .before .meeting-row .ensures) (f .before .first-no .ensures)
-    (f .if1 .taken)
+    ∙ refused-by (s .pre .0) (s .args .r) eraseConfAndLunch (ap kindOf (s .pre .1 .1)) (f .before .before .meeting-row .ensures)
+    (f .before .first-no .ensures) (f .if1 .taken)
 
 date-of-session-requires : tie.Need-date-of-session-requires
 date-of-session-requires c κs =
@@ -57,8 +57,8 @@ unfolding kindOf
 add-first-row-without c =
     let f = c .before .before .before in
     let s = f .before .before .before .before in
-    let h = ready (s .pre .0) (s .args .r) eraseConfAndLunch (ap kindOf (s .pre .1 .1)) (f .before .before .meeting-row .ensures) (f .before .first-no .ensures)
-    (f .if1 .left) in
+    let h = ready (s .pre .0) (s .args .r) eraseConfAndLunch (ap kindOf (s .pre .1 .1)) (f .before .before .meeting-row .ensures)
+    (f .before .first-no .ensures) (f .if1 .left) in
     omega (arith, good-laid (s .pre .0) .ranges .meetings, h .b)
 
 first-row-without-requires : tie.Need-first-row-without-requires
@@ -66,8 +66,8 @@ unfolding kindOf
 first-row-without-requires c κs =
     let f = c .before .before .before in
     let s = f .before .before .before .before in
-    let h = ready (s .pre .0) (s .args .r) eraseConfAndLunch (ap kindOf (s .pre .1 .1)) (f .before .before .meeting-row .ensures) (f .before .first-no .ensures)
-    (f .if1 .left) in
+    let h = ready (s .pre .0) (s .args .r) eraseConfAndLunch (ap kindOf (s .pre .1 .1)) (f .before .before .meeting-row .ensures)
+    (f .before .first-no .ensures) (f .if1 .left) in
     row-ground (s .pre .0) confPairs (ap (λ (g : Grids). g .conf) (s .pre .1 .0)) (h .slot)
 
 first-with-requires : tie.Need-first-with-requires
@@ -75,8 +75,8 @@ unfolding kindOf
 first-with-requires c κs =
     let f = c .before .before .before .before in
     let s = f .before .before .before .before in
-    let h = ready (s .pre .0) (s .args .r) eraseConfAndLunch (ap kindOf (s .pre .1 .1)) (f .before .before .meeting-row .ensures) (f .before .first-no .ensures)
-    (f .if1 .left) in
+    let h = ready (s .pre .0) (s .args .r) eraseConfAndLunch (ap kindOf (s .pre .1 .1)) (f .before .before .meeting-row .ensures)
+    (f .before .first-no .ensures) (f .if1 .left) in
     let to = c .before .before .date-of-session2 in
     let d : to .result .0 < s .args .site .settings .dates =
     rw (to .ensures) (date-lt (s .args .site .settings) (good-laid (s .pre .0) .ranges) sessions (s .args .r .last) (h .slot)) in
@@ -90,8 +90,8 @@ unfolding kindOf inWords eraseAll
 returns-2 c =
     let f = c .before .before .before .before .before .before in
     let s = f .before .before .before .before in
-    let h = ready (s .pre .0) (s .args .r) eraseConfAndLunch (ap kindOf (s .pre .1 .1)) (f .before .before .meeting-row .ensures) (f .before .first-no .ensures)
-    (f .if1 .left) in
+    let h = ready (s .pre .0) (s .args .r) eraseConfAndLunch (ap kindOf (s .pre .1 .1)) (f .before .before .meeting-row .ensures)
+    (f .before .first-no .ensures) (f .if1 .left) in
     let to = c .before .before .before .before .date-of-session2 in
     let d : to .result .0 < s .args .site .settings .dates =
     rw (to .ensures) (date-lt (s .args .site .settings) (good-laid (s .pre .0) .ranges) sessions (s .args .r .last) (h .slot)) in

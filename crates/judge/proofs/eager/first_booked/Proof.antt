@@ -35,7 +35,8 @@ bookings-requires c κs =
 returns : tie.Need-returns Inv-loop μ-loop
 unfolding holdsIn
 returns c =
-    passed-at (c .before .before .before .before .before .loop .inv) (c .before .before .if1 .taken) (counted (c .before .bookings .ensures)) (ap not (ne-eqb _ _ (c .if2 .taken)))
+    passed-at (c .before .before .before .before .before .loop .inv) (c .before .before .if1 .taken)
+    (counted (c .before .bookings .ensures)) (ap not (ne-eqb _ _ (c .if2 .taken)))
 
 after-requires : tie.Need-after-requires Inv-loop μ-loop
 after-requires c κs =
@@ -49,7 +50,8 @@ loop-again : tie.Need-loop-again Inv-loop μ-loop
 unfolding holdsIn
 loop-again c =
     let e = c .after .ensures in
-    rw e (passed-next (c .before .before .before .before .before .before .loop .inv) (counted (c .before .before .bookings .ensures)) (ap not (eq-eqb _ _ (c .before .if2 .left))))
+    rw e (passed-next (c .before .before .before .before .before .before .loop .inv)
+    (counted (c .before .before .bookings .ensures)) (ap not (eq-eqb _ _ (c .before .if2 .left))))
 
 returns-2 : tie.Need-returns-2 Inv-loop μ-loop
 returns-2 c = passed-all (c .before .before .before .loop .inv) (c .if1 .left)

@@ -13,10 +13,10 @@ use Rattle.questions.specs.Asked.{holdsIn}
 use Rattle.judge.proofs.eager.lunch_fits.Statement.{statement}
 use Rattle.judge.proofs.eager.lunch_fits.Tie as tie
 
-first-without-session-requires : tie.Need-first-without-session-requires
-first-without-session-requires c κs =
+first-not-standing-requires : tie.Need-first-not-standing-requires
+first-not-standing-requires c κs =
     let p = c .before .pre in
-    (p .0, (p .1 .0, (p .1 .1 .1 .1 .0, (p .1 .1 .1 .1 .1 .1, p .1 .1 .0))))
+    (p .0, (p .1 .0, (p .1 .1 .0, p .1 .1 .1 .1 .0)))
 
 add-first-with : tie.Need-add-first-with
 add-first-with c =
@@ -36,7 +36,7 @@ first-without-requires c κs =
 first-over-requires : tie.Need-first-over-requires
 first-over-requires c κs =
     let p = c .before .before .before .before .pre in
-    (p .0, (p .1 .0, (p .1 .1 .0, (p .1 .1 .1 .0, p .1 .1 .1 .1 .1 .0))))
+    (p .0, (p .1 .0, (p .1 .1 .0, (p .1 .1 .1 .0, p .1 .1 .1 .1 .1))))
 
 first-of-four-requires : tie.Need-first-of-four-requires
 first-of-four-requires c κs = search needs
@@ -45,14 +45,14 @@ returns : tie.Need-returns
 unfolding lunchAdds holdsIn
 returns c =
     c .first-of-four .ensures
-    ∙ four 10 11 13 14 (c .before .before .before .before .first-without-session .ensures)
+    ∙ four 10 11 13 14 (c .before .before .before .before .first-not-standing .ensures)
     (c .before .before .before .first-with .ensures) (c .before .before .first-without .ensures) (c .before .first-over .ensures)
 
 pub lunch-fits-spec : {M : Type 1} → statement M
 lunch-fits-spec =
     tie.close
     (tie.spec
-    first-without-session-requires
+    first-not-standing-requires
     add-first-with
     first-with-requires
     first-without-requires
