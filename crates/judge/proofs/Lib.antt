@@ -1,2 +1,3 @@
 pub mod Meanings
+pub mod Together
 pub mod Whole

@@ -17,7 +17,7 @@ pub fn add_attend(diary: &mut [u32], s: Settings, r: Request) -> Answer
     ensures { λ a. ⌜ answered a (reading (now (diary .exit))) ≡ inWords (step (stateOf (reading (now (diary .entry)))) r) ⌝ }
 {
     let site = site_of(s);
-    let answer = judge::meetings::add_attend(diary, site, r);
+    let answer = judge::eager::add_attend(diary, site, r);
     if let Answer::Refused { number, place } = answer {
         return Answer::Refused { number, place };
     }

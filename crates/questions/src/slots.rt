@@ -128,7 +128,7 @@ pub fn first_booked(book: &[u32], site: Site, visitor: u32, first: Date, last: D
 }
 
 // Question 19 in one session: what costs less is asked first.
-fn not_held(book: &[u32], site: Site, session: Session, meeting: u32) -> bool
+pub fn not_held(book: &[u32], site: Site, session: Session, meeting: u32) -> bool
     requires { ⌜ Good (site .settings) (reading (now book)) ⌝ }
     requires { ⌜ Sited site ⌝ }
     requires { ⌜ session .0 < allSessions (site .settings) ⌝ }

@@ -5,6 +5,8 @@ pub mod meetings;
 pub mod visitors;
 
 use book::found::Found;
+use header::settings::diary_len;
+use header::settings::settings;
 use judge::judge;
 use model::Answer;
 use model::Request;
@@ -22,7 +24,7 @@ ghost use Rattle.model.specs.Machine;
 ghost use Rattle.model.specs.Machine.{mostChanges, countedStep, ordered};
 ghost use Rattle.model.specs.Bounded.{within};
 ghost use Rattle.model.specs.Words.{diaryLength};
-ghost use Rattle.model.specs.Reading.{stateOf};
+ghost use Rattle.model.specs.Reading.{settingsOf, stateOf};
 ghost use Rattle.model.specs.Ledger.{ledgerOf};
 ghost use Rattle.model.specs.Calls.{called};
 ghost use Rattle.book.specs.Good.{Good, GoodBook, answered, inWords};
@@ -96,6 +98,37 @@ pub fn foresee(book: &[u32], s: Settings, diary: usize, r: Request) -> Answer
     answer
 }
 
+// The same of the book and the numbers alone, where a change would be one too many. A struct that a call hands over is laid out in memory
+// for it: here this is done for such a request, in `counted_step` it would be done for every one.
+fn foretell(
+    book: &[u32],
+    kind: u32,
+    a: u32,
+    b: u32,
+    first: u32,
+    last: u32,
+    n: u32,
+    info: u32,
+) -> Answer
+    requires { ⌜ GoodBook (settingsOf (now book)) (now book) ⌝ }
+    ensures { λ r. ⌜
+        r ≡ countedStep (ledgerOf (now (book .entry)) .diary) (ledgerOf (now (book .entry)) .changes)
+        (record { kind = kind; a = a; b = b; first = first; last = last; n = n; info = info }) .answer
+        ⌝ }
+{
+    let s = settings(book);
+    let r = Request {
+        kind,
+        a,
+        b,
+        first,
+        last,
+        n,
+        info,
+    };
+    foresee(book, s, diary_len(s), r)
+}
+
 // A request without an order on a whole book. A change that is done raises the count; where it cannot rise nothing is written, and the
 // answer is had by reading.
 fn counted_step(book: &mut [u32], s: Settings, diary: usize, r: Request) -> Answer
@@ -105,7 +138,7 @@ fn counted_step(book: &mut [u32], s: Settings, diary: usize, r: Request) -> Answ
 {
     let changes = count(book);
     if is_full(changes, r.kind) {
-        return foresee(book, s, diary, r);
+        return foretell(book, r.kind, r.a, r.b, r.first, r.last, r.n, r.info);
     }
     let answer = step(&mut book[..diary], s, r);
     if let Answer::Refused { number, place } = answer {

@@ -1,12 +1,12 @@
 -- The slots of a run of dates are those between two cuts.
 -- Assumes nothing.
-use Prim.Native.Nat.{ℕ, _+_, _*_, _/_, _≤_, _<_}
+use Prim.Native.Nat.{ℕ, _+_, _*_, _≤_, _<_}
 use mathlib.Core.Path.{_≡_, refl}
 use mathlib.Core.Bool.{Bool, true, false, _&&_}
 use native.Mathlib.Omega.{arith}
 use lib.Dec.{leb, ltb}
 use borrow.Author.Tests.{leb-true, ltb-true, leb-false, ltb-false}
-use native.Mathlib.Nat.{div-le-of-le-mul, mul-le-mul-right}
+use native.Mathlib.Nat.{mul-le-mul-right}
 use Rattle.units.specs.Units.{Cut, OnDates}
 use Rattle.model.specs.declared.Settings.{Settings}
 use Rattle.model.specs.Bounded.{within}
@@ -46,6 +46,6 @@ on-dates {S} {u} {first} {last} {next} {from} {to} a e b =
     let c : Cut S u (last + 1) to = rw e at b in
     record { begins = a; ends = c; exactly = between-cuts S u first last from to a c }
 
--- a part of n slots is not behind them
-pub share-le : (n d k : ℕ) → d ≤ k → d * n / k ≤ n
-share-le n d k h = div-le-of-le-mul k (mul-le-mul-right n h)
+-- d of k parts of n slots are not behind them
+pub share-le : (r : ℕ) {d k m n : ℕ} → d ≤ k → k * r ≡ m → n ≡ m → d * r ≤ n
+share-le r h e q = omega (arith, mul-le-mul-right r h, e, q)

@@ -4,7 +4,7 @@ use model::Session;
 use model::Settings;
 use model::Time;
 ghost use mathlib.Core.Path.{_≡_};
-ghost use Prim.Native.Nat.{_+_, _≤_, _<_};
+ghost use Prim.Native.Nat.{_+_, _*_, _-_, _≤_, _<_};
 ghost use Rattle.model.specs.Site.{dateOfSession, dateOfTime};
 ghost use Rattle.model.specs.Kinds.{sessions, times, slotsOf, dateOf};
 ghost use Rattle.units.specs.Ranges.{Ranges};
@@ -17,15 +17,22 @@ pub fn date_of_session(s: Settings, i: Session) -> Date
     Date(i.0 / s.sessions)
 }
 
+// By how much a time is behind the early times of date 0, and 0 for those.
+fn behind(i: u32, early: u32) -> u32
+    ensures { λ r. ⌜ r ≡ i - early ⌝ }
+{
+    if i < early {
+        return 0;
+    }
+    i - early
+}
+
 // The early times of a date belong to the date before it, and those of date 0 to date 0.
 pub fn date_of_time(s: Settings, i: Time) -> Date
     requires { ⌜ Ranges s ⌝ }
     ensures { λ r. ⌜ r .0 ≡ dateOfTime s (i .0) ⌝ }
 {
-    if i.0 < s.early {
-        return Date(0);
-    }
-    Date((i.0 - s.early) / s.times)
+    Date(behind(i.0, s.early) / s.times)
 }
 
 // The date after a date.
@@ -127,6 +134,16 @@ fn reach(s: Settings, u: Division, from: u32, n: u32, d: Date) -> u32
     n
 }
 
+// How many slots a date has but for the early times.
+fn each(s: Settings, u: Division) -> u32
+    ensures { λ r. ⌜ s .dates * r ≡ slotsOf s (unitOf u) ⌝ }
+{
+    match u {
+        Division::Sessions => s.sessions,
+        Division::Times => s.times,
+    }
+}
+
 // By how many slots every date but the first begins later than with dates of one length.
 fn late(s: Settings, u: Division) -> u32 {
     match u {
@@ -145,7 +162,7 @@ fn guess(s: Settings, u: Division, n: u32, d: Date) -> u32
     if d.0 == 0 {
         return 0;
     }
-    let even = d.0 * n / s.dates;
+    let even = d.0 * each(s, u);
     let by = late(s, u);
     if n - even < by { n } else { even + by }
 }

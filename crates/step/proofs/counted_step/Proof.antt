@@ -1,11 +1,12 @@
 -- `counted_step`: where the count cannot rise the answer is foreseen; else a step on the diary, and the count raised where a change is done.
 -- Assumes nothing.
-use mathlib.Core.Path.{sym, _∙_, ap}
+use mathlib.Core.Path.{sym, subst, _∙_, ap}
 use native.Mathlib.Omega.{arith}
 use lib.Seq.{length-take-le}
+use Rattle.model.specs.declared.Settings.{Settings}
 use Rattle.model.proofs.Ledger.{diary-fits, last-word}
 use Rattle.book.specs.Lent.{reading}
-use Rattle.book.specs.Good.{answered}
+use Rattle.book.specs.Good.{GoodBook, answered}
 use Rattle.step.proofs.Kept.{part-good, count-is, foreseen-full, change-open, part-same, part-refused, part-raised, whole-long}
 use borrow.Author.Needs.{needs}
 use Rattle.step.proofs.counted_step.Statement.{statement}
@@ -17,8 +18,10 @@ count-requires c κs = last-word _ (c .before .before .pre .0 .laid)
 is-full-requires : tie.Need-is-full-requires
 is-full-requires c κs = search needs
 
-foresee-requires : tie.Need-foresee-requires
-foresee-requires c κs = search needs
+foretell-requires : tie.Need-foretell-requires
+foretell-requires c κs =
+    let s = c .before .before .before .before .before .before in
+    subst (λ (S : Settings). GoodBook S (s .args .book .now)) (s .pre .0 .read) (s .pre .0)
 
 same-length : tie.Need-same-length
 same-length c = search needs
@@ -26,7 +29,7 @@ same-length c = search needs
 returns : tie.Need-returns
 returns c =
     let s = c .before .before .before .before .before .before .before in
-    foreseen-full (s .pre .0) (s .args .r) (c .before .before .before .before .count .ensures ∙ count-is (s .pre .0)) (sym (c .before .before .before .is-full .ensures) ∙ c .before .before .if1 .taken) (c .foresee .ensures)
+    foreseen-full (s .pre .0) (s .args .r) (c .before .before .before .before .count .ensures ∙ count-is (s .pre .0)) (sym (c .before .before .before .is-full .ensures) ∙ c .before .before .if1 .taken) (c .foretell .ensures)
 
 slice-relend-prefix-step : tie.Need-slice-relend-prefix-step
 slice-relend-prefix-step c = diary-fits _ (c .before .before .before .before .before .pre .0 .laid) (c .before .before .before .before .before .pre .0 .read) (c .before .before .before .before .before .pre .1)
@@ -89,7 +92,7 @@ counted-step-spec =
     (tie.spec
     count-requires
     is-full-requires
-    foresee-requires
+    foretell-requires
     same-length
     returns
     slice-relend-prefix-step

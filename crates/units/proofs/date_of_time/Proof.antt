@@ -1,20 +1,19 @@
--- The early times of date 0 are on date 0.
+-- What a time is behind the early times, divided.
 -- Assumes nothing.
-use mathlib.Core.Path.{sym}
-use native.Mathlib.Omega.{arith}
+use Prim.Native.Nat.{ℕ, _/_}
+use mathlib.Core.Path.{ap}
 use borrow.Author.Needs.{needs}
-use Rattle.model.proofs.Times.{on-first}
 use Rattle.units.proofs.date_of_time.Statement.{statement}
 use Rattle.units.proofs.date_of_time.Tie as tie
 
+behind-requires : tie.Need-behind-requires
+behind-requires c κs = search needs
+
+div-t4 : tie.Need-div-t4
+div-t4 c = search needs
+
 returns : tie.Need-returns
-returns c = let a = c .before .before .before .args in sym (on-first (a .s) (a .i .0) (omega arith))
-
-div-t5 : tie.Need-div-t5
-div-t5 c = search needs
-
-returns-2 : tie.Need-returns-2
-returns-2 c = search needs
+returns c = ap (λ (n : ℕ). n / c .before .before .args .s .times) (c .before .behind .ensures)
 
 pub date-of-time-spec : {M : Type 1} → statement M
-date-of-time-spec = tie.close (tie.spec returns div-t5 returns-2)
+date-of-time-spec = tie.close (tie.spec behind-requires div-t4 returns)
