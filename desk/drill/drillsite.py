@@ -13,6 +13,16 @@ from reader import ORDER
 from traffic import CLIENTS, SMALL, Traffic, owner
 
 
+def to_send_again(client, before):
+    """The orders that a client did not come to send again, those without an answer, and those that were new and answered: each
+    of these once."""
+    before = set(before)
+    orders = [line for line in client.lines if line.call and line.call.call == ORDER]
+    lost = [line.text for line in orders if line.told is None]
+    new = dict.fromkeys(line.text for line in orders if line.told is not None and line.text not in before)
+    return [*client.first, *lost, *new]
+
+
 class Site:
     def __init__(self, setting, name, seed, settings=SMALL, words=None):
         self.setting, self.folder = setting, new_site(setting, name, settings, words)
@@ -56,14 +66,11 @@ class Site:
         return self.judged(clients)
 
     def judged(self, clients, thorough=True):
-        """Judges the site behind a round; orders without an answer, and some with one, are then sent again."""
+        """Judges the site behind a round; all its orders are then sent again."""
         lines = [client.lines for client in clients] or [[] for _ in self.traffic]
         found = judged(self.setting, self.folder, self.judge, lines, thorough)
-        for index, sent in enumerate(lines[:len(self.again)]):
-            orders = [line for line in sent if line.call and line.call.call == ORDER]
-            done = [line.text for line in orders if line.told is not None]
-            lost = [line.text for line in orders if line.told is None]
-            self.again[index] = lost + self.random.sample(done, min(len(done), 5)) if sent else self.again[index]
+        for index, client in enumerate(clients[:len(self.again)]):
+            self.again[index] = to_send_again(client, self.again[index])
         return found
 
 

@@ -1,6 +1,6 @@
 """Kill: clients send lines of every sort, the desk is killed at a random moment (now and then ended by SIGTERM), and starts
-again on the same folder. Behind each round the files and all answers are judged; then every order without an answer, and
-some with one, are sent again."""
+again on the same folder. Behind each round the files and all answers are judged; then all its orders, answered or not, are
+sent again."""
 
 import random
 import signal
