@@ -80,12 +80,19 @@ impl Folder {
         self.path(ELSEWHERE).exists()
     }
 
+    /// A site that has its journal in files keeps it there.
+    pub fn has_no_journal(&self) -> Outcome<()> {
+        match self.segments()?.len() {
+            0 => Ok(()),
+            _ => stop(
+                USAGE,
+                "this site keeps its journal in files: `desk replay` and `desk import` make a site from its book that has none yet",
+            ),
+        }
+    }
+
     /// Says so in the folder, before the first record goes there: a desk over files alone would serve an old book.
     pub fn set_elsewhere(&self) -> Outcome<()> {
-        if !self.segments()?.is_empty() {
-            let why = "this site keeps its journal in files: `desk replay` and `desk import` make a site from its book that has none yet";
-            return stop(USAGE, why);
-        }
         if self.is_elsewhere() {
             return Ok(());
         }

@@ -67,9 +67,11 @@ pub fn serve(options: &Options) -> Outcome<()> {
 
 fn open(folder: &Folder, options: &Options) -> Outcome<(Found, Box<dyn Journal>)> {
     if let Some(connection) = &options.pg {
-        folder.set_elsewhere()?;
+        folder.has_no_journal()?;
         let found = load(folder, Want { without_journal: true, ..Want::default() })?;
-        return elsewhere(connection, found);
+        let opened = elsewhere(connection, found)?;
+        folder.set_elsewhere()?;
+        return Ok(opened);
     }
     if folder.is_elsewhere() {
         return crate::stop(crate::USAGE, "this site keeps its journal in PostgreSQL: `--pg CONNECTION` is wanted");
