@@ -9,7 +9,6 @@ import time
 from clients import Client, drain, finish
 from desk import Desk, judged, new_site
 from judge import Judge
-from reader import ORDER
 from traffic import CLIENTS, SMALL, Traffic, owner
 
 
@@ -17,7 +16,7 @@ def to_send_again(client, before):
     """The orders that a client did not come to send again, those without an answer, and those that were new and answered: each
     of these once."""
     before = set(before)
-    orders = [line for line in client.lines if line.call and line.call.call == ORDER]
+    orders = [line for line in client.lines if line.is_order()]
     lost = [line.text for line in orders if line.told is None]
     new = dict.fromkeys(line.text for line in orders if line.told is not None and line.text not in before)
     return [*client.first, *lost, *new]

@@ -175,7 +175,8 @@ class Trail:
         self.answered = sum(line.told is not None for line in lines)
 
     def passed(self, judge):
-        """Lays lines that are not kept at the present place, as many as can be there."""
+        """Lays lines that are not kept at the present place, as many as can be there. An order that is laid here as sent again may also
+        be a new one further on, behind 65,536 others, if it got the same answer there: both ways are followed."""
         fresh = sorted(self.at)
         for at in fresh:
             if at == len(self.lines):
@@ -184,7 +185,7 @@ class Trail:
             told = None if line.was_kept() else judge.unkept(line)
             if told is None or line.told not in (None, told):
                 continue
-            if line.told is not None:
+            if line.told is not None and not line.is_order():
                 self.at.discard(at)
             if at + 1 not in self.at:
                 self.at.add(at + 1)

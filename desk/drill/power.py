@@ -120,7 +120,7 @@ class Known:
     """What is known of a client at the cut: its lines, and so many answers."""
 
     def __init__(self, client, answers):
-        self.lines = [Line(line.text) for line in client.lines]
+        self.first, self.lines = client.first, [Line(line.text) for line in client.lines]
         for line, sent in zip(self.lines[:answers], client.lines):
             line.told = sent.told
 

@@ -62,6 +62,9 @@ class Line:
         self.text, self.told = text, None
         self.sort, self.call = meaning(text)
 
+    def is_order(self):
+        return self.sort == FRAME and self.call.call == ORDER
+
     def was_kept(self):
         """Whether the answer says that the call was kept; of orders it does not say it."""
         return (self.told is not None and self.sort == FRAME and self.call.call != ORDER
