@@ -99,8 +99,9 @@ class Server:
         self.sql(f"CREATE DATABASE {DATABASE} OWNER {ROLE}", database="postgres")
 
     def start(self, **settings):
+        # Shared memory as files of its data folder: a server that is killed for good leaves none in /dev/shm.
         settings = {"unix_socket_directories": self.folder, "listen_addresses": "", "max_connections": 40, "shared_buffers": "32MB",
-                    **QUICK_RECOVERY, **settings}
+                    "dynamic_shared_memory_type": "mmap", **QUICK_RECOVERY, **settings}
         options = [part for name, value in settings.items() for part in ("-c", f"{name}={value}")]
         with open(self.log, "ab") as log:
             self.process = subprocess.Popen([programs() / "postgres", "-D", self.data, *options], user=self.user, cwd=self.folder,
