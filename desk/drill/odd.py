@@ -11,7 +11,7 @@ from clients import Client, connect, drain, finish, talk, turn
 from desk import Desk, command, settings_line
 from drillsite import Site
 from judge import Loss
-from reader import HEAD, ORDER, crc32c
+from reader import HEAD, ORDER, Folder, crc32c, read_mark
 from traffic import FRAME, NO_FRAME, Line, hexed
 
 ROOM, PATIENCE = 12, 2
@@ -26,7 +26,7 @@ class Crowd:
         options = ("--clients", ROOM, "--patience", PATIENCE, "--every", 60, "--tcp", "127.0.0.1:0")
         self.desk = self.site.serve(*options).started()
         self.port = int(self.desk.text().split("tcp 127.0.0.1:")[1].split()[0])
-        self.usual, self.odd = self.site.clients((1, 4, 30)), []
+        self.usual, self.odd, self.copied = self.site.clients((1, 4, 30)), [], []
 
     def newcomer(self, where=None):
         self.odd.append(Client(where or self.site.folder))
@@ -50,6 +50,8 @@ class Crowd:
         self.desk.end()
         drain(self.usual + self.odd)
         self.site.judged(self.usual + self.odd)
+        if self.copied != self.site.judge.calls[:len(self.copied)]:
+            raise Loss("a backup has other calls than the site")
         return sum(client.told for client in self.usual + self.odd)
 
 
@@ -193,6 +195,26 @@ def read_meanwhile(crowd):
             raise Loss(f"desk {words[0]} of a site that is served ends with {reading.returncode}: {why}")
 
 
+def backup(crowd):
+    """The site is copied while it is served, as the README says: the copy is good, has all that was answered before, and, which is
+    judged in the end, nothing that the site has not. A copy that falls into a write is refused, and made again."""
+    setting, folder = crowd.site.setting, crowd.site.folder
+    copy, least, code, why = setting.work / "backup", read_mark(folder / "mark").seq, 3, ""
+    copies = "; ".join(f"cp {folder}/{name} {copy}" for name in ("mark", "snap-*", "log-*"))
+    for _ in range(5):
+        shutil.rmtree(copy, ignore_errors=True)
+        copy.mkdir()
+        copying = subprocess.Popen(["sh", "-c", copies], stderr=subprocess.DEVNULL)
+        crowd.meanwhile(lambda: copying.poll() is not None, "a backup")
+        code, _, why = command(setting, "check", copy)
+        if code != 3:
+            break
+    crowd.copied = Folder(copy).calls() if code == 0 else []
+    if code or len(crowd.copied) < least:
+        raise Loss(f"a backup with {len(crowd.copied)} calls, {least} were answered before: desk check ends with {code}: {why}")
+    shutil.rmtree(copy)
+
+
 def second_desk(crowd):
     second = Desk(crowd.site.setting, crowd.site.folder, said="second.out")
     if second.listens() or second.code() != 4:
@@ -224,7 +246,7 @@ def wrong_usage(setting, site):
 
 def run(setting):
     chance, answers = random.Random(setting.seed), 0
-    parts = (strange_lines, long_line, half_lines, ends_early, no_newline, thousands, reads_nothing, too_many, second_desk, read_meanwhile)
+    parts = (strange_lines, long_line, half_lines, ends_early, no_newline, thousands, reads_nothing, too_many, second_desk, read_meanwhile, backup)
     for number in range(setting.rounds):
         crowd = Crowd(setting, chance)
         for part in parts:
