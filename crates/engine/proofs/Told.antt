@@ -22,32 +22,18 @@ use Rattle.model.proofs.Tail.{kept-place}
 use Rattle.model.proofs.Ledger.{LedgerSound, ledger-sound}
 use Rattle.book.specs.Good.{GoodBook, answered}
 use Rattle.engine.specs.Lists.{All}
-use Rattle.step.proofs.Kept.{good-calls}
-
-abbrev answerIn : Reply → Answer
-answerIn (told a) = a
-answerIn (asked a n) = a
-
--- the answer to an order can be told: the one of its request, the one that is kept, or 28
-order-tellable : (l : Ledger) → LedgerSound l → (n : ℕ) (r : Request) (o : Option ℕ) → keptAt (l .tail) n ≡ o
-    → Tellable (answerIn (answerOrder l n r o .reply))
-order-tellable l s n r none e = counted-tellable (l .diary) (l .changes) r
-order-tellable l s n r (some i) e = go (sameRequest (entryAt (l .tail) i .request) r)
-  where
-    go : (t : Bool) → Tellable (cond t (entryAt (l .tail) i .answer) (Refused 28 0))
-    go true = s .tail .entry i (kept-place (l .tail) n e) .answer
-    go false = refused-tellable 28 0 (omega arith)
+use Rattle.step.proofs.Kept.{toldAnswer, order-tellable, good-calls}
 
 -- it is all that the order gives back
-order-told : (l : Ledger) (n : ℕ) (r : Request) (o : Option ℕ) → answerOrder l n r o .reply ≡ told (answerIn (answerOrder l n r o .reply))
+order-told : (l : Ledger) (n : ℕ) (r : Request) (o : Option ℕ) → answerOrder l n r o .reply ≡ told (toldAnswer (answerOrder l n r o .reply))
 order-told l n r none = refl
 order-told l n r (some i) = refl
 
-reply-back : (p : Reply) → p ≡ told (answerIn p) → Tellable (answerIn p) → (l : List ℕ) → read ((replyWords p ++ []) ++ l) ≡ answerIn p
+reply-back : (p : Reply) → p ≡ told (toldAnswer p) → Tellable (toldAnswer p) → (l : List ℕ) → read ((replyWords p ++ []) ++ l) ≡ toldAnswer p
 reply-back p e h l =
     ap (λ (q : Reply). read ((replyWords q ++ []) ++ l)) e
-    ∙ ap (λ (w : List ℕ). read (w ++ l)) (append-nil (answerWords (answerIn p)))
-    ∙ told-back (answerIn p) h l
+    ∙ ap (λ (w : List ℕ). read (w ++ l)) (append-nil (answerWords (toldAnswer p)))
+    ∙ told-back (toldAnswer p) h l
 
 -- a list of one request on a good book is one step
 pub one-told : {S : Settings} {b : List ℕ} → GoodBook S b → (n : ℕ) (r : Request) {a b′ a′ : List ℕ}
@@ -57,8 +43,8 @@ unfolding calls callsOf repliesWords
 one-told {S} {b} good n r {a} {b′} {a′} all =
     let e = good-calls good (ordered n r) [] in
     let p : Reply = perform (ledgerOf b) (ordered n r) .reply in
-    let t : Tellable (answerIn p) = order-tellable (ledgerOf b) (ledger-sound b (good .laid) (good .lawful)) n r (keptAt (ledgerOf b .tail) n) refl in
-    let only : p ≡ told (answerIn p) = order-told (ledgerOf b) n r (keptAt (ledgerOf b .tail) n) in
+    let t : Tellable (toldAnswer p) = order-tellable (ledgerOf b) (ledger-sound b (good .laid) (good .lawful)) n r (keptAt (ledgerOf b .tail) n) refl in
+    let only : p ≡ told (toldAnswer p) = order-told (ledgerOf b) n r (keptAt (ledgerOf b .tail) n) in
     ap₂ answered (ap read (all .answers ∙ ap (λ (c : Calls). repliesWords (c .replies) ++ drop 3 a) e) ∙ reply-back p only t (drop 3 a))
     (all .book ∙ ap (λ (c : Calls). c .book) e)
     ∙ ap (λ (q : Reply). record { reply = q; book = called (perform (ledgerOf b) (ordered n r)) .book }) (sym only)

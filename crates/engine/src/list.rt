@@ -7,7 +7,7 @@ use model::Answer;
 use model::Request;
 use model::Settings;
 use ring::answer_of;
-use step::book_step;
+use step::told_step;
 ghost use mathlib.Core.Path.{_≡_};
 ghost use mathlib.Core.List.{[], _∷_};
 ghost use Prim.Native.Nat.{_+_, _*_, _/_, _≤_, min};
@@ -65,16 +65,6 @@ fn put_words(answers: &mut [u32], i: usize, number: u32, place: u32, value: u32)
     answers[at + 2] = value;
 }
 
-fn put_answer(answers: &mut [u32], i: usize, a: Answer)
-    requires { ⌜ i * 3 + 3 ≤ length (now answers) ⌝ }
-    ensures { λ _. ⌜ now (answers .exit) ≡ spliced (now (answers .entry)) (i * 3) (answerWords a) ⌝ }
-{
-    match a {
-        Answer::Done(value) => put_words(answers, i, 0, 0, value),
-        Answer::Refused { number, place } => put_words(answers, i, number, place, 0),
-    }
-}
-
 // Request i of the list, and its answer.
 fn answer_at(
     book: &mut [u32],
@@ -95,8 +85,8 @@ fn answer_at(
     let at = i * width;
     let order = order_at(list, at, width);
     let r = request_at(list, at);
-    let a = book_step(book, s, diary, order, r);
-    put_answer(answers, i, a);
+    let told = told_step(book, s, diary, order, r);
+    put_words(answers, i, told.number, told.place, told.value);
 }
 
 // The first n requests of the list, and their answers.
@@ -123,7 +113,7 @@ fn answer_all(
 }
 
 // One request on a good book, as a list of one: whatever judges and writes goes through the loop above, which has the only call of
-// `book_step`, so that the compiler puts the step into it.
+// `told_step`, so that the compiler puts the step into it.
 pub fn answer_one(book: &mut [u32], s: Settings, order: u32, r: Request) -> Answer
     requires { ⌜ GoodBook s (now book) ⌝ }
     ensures { λ a. ⌜ answered a (now (book .exit)) ≡ called (Machine.perform (ledgerOf (now (book .entry))) (ordered order r)) ⌝ }

@@ -9,7 +9,7 @@ use native.Mathlib.Omega.{arith}
 use lib.Dec.{eqb}
 use lib.ListN.{length, getD, drop, set}
 use lib.Seq.{getD-drop, drop-drop, sets, length-sets}
-use borrow.Author.Tests.{eq-eqb, ne-eqb}
+use borrow.Author.Tests.{eq-eqb, ne-eqb, eqb-true}
 use Rattle.model.specs.declared.Request.{Request}
 use Rattle.model.specs.declared.Answer.{Answer}
 use Rattle.model.specs.declared.Answer.the-variants.{Done, Refused}
@@ -112,19 +112,26 @@ put-long w at n r number place value =
 
 -- an order is kept with an answer that is done, and with one that is refused
 module _ (w : List ℕ) (l : length w ≡ tailLength) (k : tailKept w ≡ true) (n : ℕ) (h : n ≡ 0 → ⊥) (r : Request) where
-  pub done-kept : (v : ℕ) → entryKeptAt w n r 0 0 v ≡ tailWords (noted (tailOf w) n r (Done v))
+  done-kept : (v : ℕ) → entryKeptAt w n r 0 0 v ≡ tailWords (noted (tailOf w) n r (Done v))
   unfolding entryKeptAt
   done-kept v =
       ap (λ (u : List ℕ). set u ringLength (placeAfter (getD w ringLength 0))) (put-sets w (getD w ringLength 0 * entryLength) n r 0 0 v)
       ∙ keep-words w l k (record { order = n; request = r; answer = Done v })
       ∙ ap tailWords (noted-is (tailOf w) n h r (Done v))
 
-  pub refused-kept : (m p : ℕ) → entryKeptAt w n r m p 0 ≡ tailWords (noted (tailOf w) n r (Refused m p))
+  refused-kept : (m p : ℕ) → entryKeptAt w n r m p 0 ≡ tailWords (noted (tailOf w) n r (Refused m p))
   unfolding entryKeptAt
   refused-kept m p =
       ap (λ (u : List ℕ). set u ringLength (placeAfter (getD w ringLength 0))) (put-sets w (getD w ringLength 0 * entryLength) n r m p 0)
       ∙ keep-words w l k (record { order = n; request = r; answer = Refused m p })
       ∙ ap tailWords (noted-is (tailOf w) n h r (Refused m p))
+
+  -- with the answer that three words tell
+  pub told-kept : (m p v : ℕ) → cond (eqb m 0) (eqb p 0) (eqb v 0) ≡ true → entryKeptAt w n r m p v ≡ tailWords (noted (tailOf w) n r (toldBy m p v))
+  told-kept zero p v e = ap (λ (p : ℕ). entryKeptAt w n r 0 p v) (eqb-true p 0 e) ∙ done-kept v
+  told-kept (suc m) p v e =
+      let f : eqb (suc m) 0 ≡ false = ne-eqb (suc m) 0 (λ q. omega (arith, q)) in
+      ap (λ (v : ℕ). entryKeptAt w n r (suc m) p v) (eqb-true v 0 (sym (ap (λ (b : Bool). cond b (eqb p 0) (eqb v 0)) f) ∙ e)) ∙ refused-kept (suc m) p
 
 -- the next place of words that keep the law, and words without an order to keep
 module _ (w : List ℕ) (l : length w ≡ tailLength) (k : tailKept w ≡ true) where

@@ -17,6 +17,7 @@ ghost use Rattle.model.specs.Messages.{toldBy, requestOf, sameRequest};
 ghost use Rattle.model.specs.Tail.{tailLength, tailOf, tailKept, tailWords, wordOf, ringLength, ringPlaces, entryAt, keptAt, placeAfter, noted};
 ghost use Rattle.model.specs.Machine.{keptAnswer};
 ghost use Rattle.book.specs.Founds.{foundOf};
+ghost use Rattle.ring.specs.Telling.{toldOf, answerBy, isAnswer};
 ghost use Rattle.ring.specs.Stores.{entryPut, entryKeptAt};
 
 // The words of an entry: the number of the order, seven words of its request, three of its answer.
@@ -27,6 +28,14 @@ pub const PLACES: u32 = 64;
 
 // Where the next place stands: behind the entries.
 pub const NEXT: usize = 704;
+
+// An answer as the three words in which it is kept and written: a number, 0 where it is done, a place and a value. From a step on answers
+// are handed on like this: words are merged in registers where the kinds come together, an enum is not.
+pub struct Told {
+    pub number: u32,
+    pub place: u32,
+    pub value: u32,
+}
 
 // The lowest of the first entries that has the number.
 pub fn numbered(tail: &[u32], order: u32, entries: u32) -> Found
@@ -65,18 +74,49 @@ pub fn answer_of(number: u32, place: u32, value: u32) -> Answer
     Answer::Refused { number, place }
 }
 
-// Whether the seven words from a place on are those of the request.
+// The three words of an answer.
+pub fn words_of(a: Answer) -> Told
+    ensures { λ r. ⌜ r ≡ toldOf a ⌝ }
+{
+    match a {
+        Answer::Done(value) => Told {
+            number: 0,
+            place: 0,
+            value,
+        },
+        Answer::Refused { number, place } => Told {
+            number,
+            place,
+            value: 0,
+        },
+    }
+}
+
+// Whether the seven words from a place on are those of the request. They are compared one by one: compared together, they would be loaded
+// together, and the choice by kind would wait for it.
 fn is_request(tail: &[u32], at: usize, r: Request) -> bool
     requires { ⌜ at + 7 ≤ length (now tail) ⌝ }
     ensures { λ b. ⌜ b ≡ sameRequest (requestOf (drop at (now (tail .entry)))) r ⌝ }
 {
-    (tail[at] == r.kind)
-        & (tail[at + 1] == r.a)
-        & (tail[at + 2] == r.b)
-        & (tail[at + 3] == r.first)
-        & (tail[at + 4] == r.last)
-        & (tail[at + 5] == r.n)
-        & (tail[at + 6] == r.info)
+    if tail[at] != r.kind {
+        return false;
+    }
+    if tail[at + 1] != r.a {
+        return false;
+    }
+    if tail[at + 2] != r.b {
+        return false;
+    }
+    if tail[at + 3] != r.first {
+        return false;
+    }
+    if tail[at + 4] != r.last {
+        return false;
+    }
+    if tail[at + 5] != r.n {
+        return false;
+    }
+    tail[at + 6] == r.info
 }
 
 // The answer to an order that is kept: the one that is kept with it, or 28 if it comes with other words.
@@ -152,16 +192,14 @@ fn keep(tail: &mut [u32], order: u32, r: Request, number: u32, place: u32, value
 }
 
 // Keeps an order that the ring does not have, with its request and the answer; without an order nothing is written.
-pub fn note(tail: &mut [u32], order: u32, r: Request, a: Answer)
+pub fn note(tail: &mut [u32], order: u32, r: Request, t: Told)
     requires { ⌜ length (now tail) ≡ tailLength ⌝ }
     requires { ⌜ tailKept (now tail) ≡ true ⌝ }
-    ensures { λ _. ⌜ now (tail .exit) ≡ tailWords (noted (tailOf (now (tail .entry))) order r a) ⌝ }
+    requires { ⌜ isAnswer t ≡ true ⌝ }
+    ensures { λ _. ⌜ now (tail .exit) ≡ tailWords (noted (tailOf (now (tail .entry))) order r (answerBy t)) ⌝ }
 {
     if order == 0 {
         return;
     }
-    match a {
-        Answer::Done(value) => keep(tail, order, r, 0, 0, value),
-        Answer::Refused { number, place } => keep(tail, order, r, number, place, 0),
-    }
+    keep(tail, order, r, t.number, t.place, t.value);
 }

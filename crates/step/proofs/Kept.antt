@@ -2,7 +2,7 @@
 -- Assumes nothing.
 use Prim.Native.Nat.{ℕ, suc, _+_, _-_, _≤_}
 use mathlib.Core.Path.{_≡_, refl, sym, _∙_, ap, ap₂, subst}
-use mathlib.Core.Bool.{Bool, true, false, _&&_}
+use mathlib.Core.Bool.{Bool, true, false, cond, _&&_}
 use mathlib.Core.Option.{Option, none, some}
 use mathlib.Core.List.{List, [], _∷_, _++_}
 use native.Mathlib.Omega.{arith}
@@ -23,11 +23,13 @@ use Rattle.model.specs.Tail.{Tail, entryAt, keptAt, noted, tailLength, tailWord
 use Rattle.model.specs.Ledger.{Ledger, emptyLedger, behindWords, bookWords, behindOf, ledgerOf}
 use Rattle.model.specs.Calls.{Called, called, callOn, calls, freshBook}
 use Rattle.model.specs.Site.{validSettings}
+use Rattle.model.specs.Messages.{sameRequest}
 use Rattle.model.proofs.Shown.{words-stateOf}
-use Rattle.model.proofs.Tail.{tail-long as tail-words-long, tail-kept, tail-back}
+use Rattle.model.proofs.Told.{Tellable, refused-tellable, step-tellable}
+use Rattle.model.proofs.Tail.{tail-long as tail-words-long, tail-kept, tail-back, kept-place}
 use Rattle.model.proofs.Ledger.{LedgerSound, first-part, part-behind, behind-long, behind-shown, tail-in-long, lent-tail, lawful-tail, words-ledgerOf}
 use Rattle.model.proofs.Ledger.{ledger-sound, count-lent, diary-words, recounted}
-use Rattle.model.proofs.Counting.{counted-state, counted-refused, counted-full, uncounted, full-stays}
+use Rattle.model.proofs.Counting.{counted-state, counted-tellable, counted-refused, counted-full, uncounted, full-stays}
 use Rattle.model.proofs.Search.{and-left, and-right}
 use Rattle.model.proofs.Done.{refused-keeps}
 use borrow.Author.Tests.{eqb-true}
@@ -38,6 +40,9 @@ use Rattle.book.specs.declared.found.Found.the-variants.{At, Nothing}
 use Rattle.book.specs.Founds.{foundOf}
 use Rattle.book.specs.Good.{Good, GoodBook, answered, inWords}
 use Rattle.book.proofs.Goods.{good-state, good-part, book-words}
+use Rattle.ring.specs.declared.Told.{Told}
+use Rattle.ring.specs.Telling.{answerBy, Telling}
+use Rattle.ring.proofs.Telling.{told-answer}
 
 -- a good diary is the words of the state that it shows
 pub good-diary : {S : Settings} {b : List ℕ} → Good S b → words (stateOf b) ≡ b
@@ -57,9 +62,19 @@ nothing-is : (o : Option ℕ) → foundOf o ≡ Nothing → o ≡ none
 nothing-is none e = refl
 nothing-is (some j) e = absurd (let z : _≡_ {A = ℕ} 0 1 = cc in omega arith)
 
-abbrev toldAnswer : Reply → Answer
+abbrev pub toldAnswer : Reply → Answer
 toldAnswer (told a) = a
 toldAnswer (asked a n) = a
+
+-- the answer to an order can be told: the one of its request, the one that is kept, or 28
+pub order-tellable : (l : Ledger) → LedgerSound l → (n : ℕ) (r : Request) (o : Option ℕ) → keptAt (l .tail) n ≡ o
+    → Tellable (toldAnswer (answerOrder l n r o .reply))
+order-tellable l s n r none e = counted-tellable (l .diary) (l .changes) r
+order-tellable l s n r (some i) e = go (sameRequest (entryAt (l .tail) i .request) r)
+  where
+    go : (t : Bool) → Tellable (cond t (entryAt (l .tail) i .answer) (Refused 28 0))
+    go true = s .tail .entry i (kept-place (l .tail) n e) .answer
+    go false = refused-tellable 28 0 (omega arith)
 
 -- a change that is done raises a count that is not the greatest
 counted-open : (x : State) (n : ℕ) (r : Request) (v : ℕ) → isChange r ≡ true → eqb n mostChanges ≡ false → step x r .answer ≡ Done v
@@ -157,6 +172,9 @@ module _ {S : Settings} {b : List ℕ} (good : GoodBook S b) where
     pub part-answer : a ≡ step (ledgerOf b .diary) r .answer
     part-answer = ap (λ (v : Called). toldAnswer (v .reply)) part-step
 
+    pub part-tellable : Tellable a
+    part-tellable = subst Tellable (sym part-answer) (step-tellable (ledgerOf b .diary) r)
+
     -- the book with that diary, the tail and the count as before
     stepped-words : c ++ drop k b ≡ bookWords (record { diary = step (ledgerOf b .diary) r .state; tail = ledgerOf b .tail; changes = ledgerOf b .changes })
     unfolding bookWords
@@ -178,8 +196,8 @@ module _ {S : Settings} {b : List ℕ} (good : GoodBook S b) where
     pub part-same : isChange r ≡ false → answered a (c ++ drop k b) ≡ called (perform (ledgerOf b) (ordered 0 r))
     part-same f = kept-count (uncounted (ledgerOf b .diary) (ledgerOf b .changes) r f)
 
-    pub part-refused : {m p : ℕ} → a ≡ Refused m p → answered (Refused m p) (c ++ drop k b) ≡ called (perform (ledgerOf b) (ordered 0 r))
-    part-refused {m} {p} q = ap (λ (x : Answer). answered x (c ++ drop k b)) (sym q) ∙ go (isChange r) refl
+    pub part-refused : {m p : ℕ} → a ≡ Refused m p → answered a (c ++ drop k b) ≡ called (perform (ledgerOf b) (ordered 0 r))
+    part-refused {m} {p} q = go (isChange r) refl
       where
         no : step (ledgerOf b .diary) r .answer ≡ Refused m p
         no = sym part-answer ∙ q
@@ -252,11 +270,17 @@ module _ {S : Settings} {b : List ℕ} (good : GoodBook S b) where
     pub again-is : tailOf (take (length b - 1 - k) (drop k c)) ≡ ledgerOf b .tail
     again-is = ap tailOf lent-again ∙ tail-back (ledgerOf b .tail) (ledger-sound b (good .laid) (good .lawful) .tail)
 
+    -- its answer
+    answer-is : a ≡ countedStep (ledgerOf b .diary) (ledgerOf b .changes) r .answer
+    answer-is = ap (λ (v : Called). toldAnswer (v .reply)) h
+
+    pub again-tellable : Tellable a
+    again-tellable = subst Tellable (sym answer-is) (counted-tellable (ledgerOf b .diary) (ledgerOf b .changes) r)
+
     pub order-noted : (n : ℕ) {w : List ℕ} → keptAt (ledgerOf b .tail) n ≡ none → w ≡ tailWords (noted (ledgerOf b .tail) n r a)
         → answered a (putMid k (length b - 1 - k) c w) ≡ called (perform (ledgerOf b) (ordered n r))
     unfolding bookWords behindWords after
     order-noted n {w} o t =
-        let is : a ≡ countedStep (ledgerOf b .diary) (ledgerOf b .changes) r .answer = ap (λ (v : Called). toldAnswer (v .reply)) h in
         let front : take k c ≡ words (after .diary)
         = ap (take k) after-words ∙ take-at (words (after .diary)) (behindWords (after .tail) (after .changes)) k diary-there in
         let rest : drop (length b - 1 - k) (drop k c) ≡ after .changes ∷ []
@@ -264,8 +288,17 @@ module _ {S : Settings} {b : List ℕ} (good : GoodBook S b) where
         let put : take k c ++ (w ++ drop (length b - 1 - k) (drop k c))
         ≡ words (after .diary) ++ (tailWords (noted (ledgerOf b .tail) n r (countedStep (ledgerOf b .diary) (ledgerOf b .changes) r .answer)) ++ (after .changes ∷ []))
         = ap₂ (λ (u v : List ℕ). u ++ v) front
-        (ap₂ (λ (u v : List ℕ). u ++ v) (t ∙ ap (λ (a : Answer). tailWords (noted (ledgerOf b .tail) n r a)) is) rest) in
-        ap₂ answered is put ∙ ap (λ (o : Option ℕ). called (answerOrder (ledgerOf b) n r o)) (sym o)
+        (ap₂ (λ (u v : List ℕ). u ++ v) (t ∙ ap (λ (a : Answer). tailWords (noted (ledgerOf b .tail) n r a)) answer-is) rest) in
+        ap₂ answered answer-is put ∙ ap (λ (o : Option ℕ). called (answerOrder (ledgerOf b) n r o)) (sym o)
+
+  -- the answer that three words tell
+  pub answer-told : (n : ℕ) (r : Request) {t : Told} {c : List ℕ} → Telling t c (called (perform (ledgerOf b) (ordered n r)))
+      → answered (answerBy t) c ≡ called (perform (ledgerOf b) (ordered n r))
+  answer-told n r {t} {c} e =
+      let is : e .answer ≡ toldAnswer (perform (ledgerOf b) (ordered n r) .reply) = ap (λ (v : Called). toldAnswer (v .reply)) (e .is) in
+      let h : Tellable (e .answer)
+      = subst Tellable (sym is) (order-tellable (ledgerOf b) (ledger-sound b (good .laid) (good .lawful)) n r (keptAt (ledgerOf b .tail) n) refl) in
+      ap (λ (a : Answer). answered a c) (told-answer (e .answer) (e .told) h) ∙ e .is
 
   pub good-step : (n : ℕ) (r : Request) → GoodBook S (bookWords (perform (ledgerOf b) (ordered n r) .ledger))
   good-step n r =

@@ -7,7 +7,8 @@ use Rattle.model.specs.declared.Settings.{Settings}
 use Rattle.model.proofs.Ledger.{diary-fits, last-word}
 use Rattle.book.specs.Lent.{reading}
 use Rattle.book.specs.Good.{GoodBook, answered}
-use Rattle.step.proofs.Kept.{part-good, count-is, foreseen-full, change-open, part-same, part-refused, part-raised, whole-long}
+use Rattle.ring.proofs.Telling.{told-no, told-yes}
+use Rattle.step.proofs.Kept.{part-good, count-is, foreseen-full, change-open, part-tellable, part-same, part-refused, part-raised, whole-long}
 use borrow.Author.Needs.{needs}
 use Rattle.step.proofs.counted_step.Statement.{statement}
 use Rattle.step.proofs.counted_step.Tie as tie
@@ -23,13 +24,21 @@ foretell-requires c κs =
     let s = c .before .before .before .before .before .before in
     subst (λ (S : Settings). GoodBook S (s .args .book .now)) (s .pre .0 .read) (s .pre .0)
 
+words-of-requires : tie.Need-words-of-requires
+words-of-requires c κs = search needs
+
 same-length : tie.Need-same-length
 same-length c = search needs
 
 returns : tie.Need-returns
 returns c =
-    let s = c .before .before .before .before .before .before .before in
-    foreseen-full (s .pre .0) (s .args .r) (c .before .before .before .before .count .ensures ∙ count-is (s .pre .0)) (sym (c .before .before .before .is-full .ensures) ∙ c .before .before .if1 .taken) (c .foretell .ensures)
+    let s = c .before .before .before .before .before .before .before .before in
+    record {
+      answer = c .before .foretell .result;
+      told = c .words-of .ensures;
+      is = foreseen-full (s .pre .0) (s .args .r) (c .before .before .before .before .before .count .ensures ∙ count-is (s .pre .0))
+          (sym (c .before .before .before .before .is-full .ensures) ∙ c .before .before .before .if1 .taken) (c .before .foretell .ensures);
+    }
 
 slice-relend-prefix-step : tie.Need-slice-relend-prefix-step
 slice-relend-prefix-step c = diary-fits _ (c .before .before .before .before .before .pre .0 .laid) (c .before .before .before .before .before .pre .0 .read) (c .before .before .before .before .before .pre .1)
@@ -41,29 +50,29 @@ step-requires : tie.Need-step-requires
 unfolding reading
 step-requires c κs = let p = c .before .before .before .before .before .before .pre in part-good (p .0) _ (p .1)
 
-enum-known-answer : tie.Need-enum-known-answer
-enum-known-answer c = search needs
-
 same-length-2 : tie.Need-same-length-2
 same-length-2 c = search needs
 
 returns-2 : tie.Need-returns-2
 unfolding reading
 returns-2 c =
-    let s = c .before .before .before .before .before .before .before .before .before .before .before .before in
-    part-refused (s .pre .0) (s .pre .1) (s .args .r) (c .before .before .before .before .before .step .ensures) (c .before .answer .given .1)
-
-enum-told : tie.Need-enum-told
-enum-told c = search needs
+    let s = c .before .before .before .before .before .before .before .before .before .before .before in
+    let e = c .before .before .before .before .step .ensures in
+    record {
+      answer = e .answer;
+      told = e .told;
+      is = part-refused (s .pre .0) (s .pre .1) (s .args .r) (e .is) (told-no (e .answer) (e .told) (c .if2 .taken));
+    }
 
 is-change-requires : tie.Need-is-change-requires
 is-change-requires c κs = search needs
 
 raise-requires : tie.Need-raise-requires
 raise-requires c κs =
-    let s = c .before .before .before .before .before .before .before .before .before .before .before .before .before .before in (
-      omega (arith, last-word _ (s .pre .0 .laid), whole-long (s .args .book .now) (c .before .before .before .before .before .before .before .step .last .0) (s .args .diary) (diary-fits _ (s .pre .0 .laid) (s .pre .0 .read) (s .pre .1)) (c .before .before .before .before .before .before .before .step .kept .0)),
-      change-open (s .args .r) (c .before .before .before .before .before .before .before .before .before .before .before .count .result) (sym (c .before .before .is-change .ensures) ∙ c .before .if2 .taken) (sym (c .before .before .before .before .before .before .before .before .before .before .is-full .ensures) ∙ c .before .before .before .before .before .before .before .before .before .if1 .left),
+    let s = c .before .before .before .before .before .before .before .before .before .before .before .before .before .before in
+    let l = c .before .before .before .before .before .before .before in (
+      omega (arith, last-word _ (s .pre .0 .laid), whole-long (s .args .book .now) (l .step .last .0) (s .args .diary) (diary-fits _ (s .pre .0 .laid) (s .pre .0 .read) (s .pre .1)) (l .step .kept .0)),
+      change-open (s .args .r) (c .before .before .before .before .before .before .before .before .before .before .before .count .result) (sym (c .before .before .is-change .ensures) ∙ c .before .if3 .taken) (sym (c .before .before .before .before .before .before .before .before .before .before .is-full .ensures) ∙ c .before .before .before .before .before .before .before .before .before .if1 .left),
     )
 
 same-length-3 : tie.Need-same-length-3
@@ -73,9 +82,16 @@ returns-3 : tie.Need-returns-3
 unfolding reading
 returns-3 c =
     let s = c .before .before .before .before .before .before .before .before .before .before .before .before .before .before .before .before .before in
-    ap (answered (c .before .before .before .before .before .before .before .before .before .before .step .result)) (c .before .before .raise .ensures)
-    ∙ part-raised (s .pre .0) (s .pre .1) (s .args .r) (c .before .before .before .before .before .before .before .before .before .before .step .ensures) (c .before .before .before .before .before .before .before .before .before .before .before .before .before .before .count .ensures ∙ count-is (s .pre .0)) (c .before .before .before .before .before .before .enum-told .given .1)
-    (sym (c .before .before .before .before .before .is-change .ensures) ∙ c .before .before .before .before .if2 .taken) (sym (c .before .before .before .before .before .before .before .before .before .before .before .before .before .is-full .ensures) ∙ c .before .before .before .before .before .before .before .before .before .before .before .before .if1 .left)
+    let e = c .before .before .before .before .before .before .before .before .before .before .step .ensures in
+    let n = c .before .before .before .before .before .before .before .before .before .before .before .before .before .before .count .ensures ∙ count-is (s .pre .0) in
+    let done = told-yes (e .answer) (e .told) (part-tellable (s .pre .0) (s .pre .1) (s .args .r) (e .is)) (c .before .before .before .before .before .before .if2 .left) in
+    record {
+      answer = e .answer;
+      told = e .told;
+      is = ap (answered (e .answer)) (c .before .before .raise .ensures)
+          ∙ part-raised (s .pre .0) (s .pre .1) (s .args .r) (e .is) n done
+          (sym (c .before .before .before .before .before .is-change .ensures) ∙ c .before .before .before .before .if3 .taken) (sym (c .before .before .before .before .before .before .before .before .before .before .before .before .before .is-full .ensures) ∙ c .before .before .before .before .before .before .before .before .before .before .before .before .if1 .left);
+    }
 
 same-length-4 : tie.Need-same-length-4
 same-length-4 c = search needs
@@ -84,7 +100,12 @@ returns-4 : tie.Need-returns-4
 unfolding reading
 returns-4 c =
     let s = c .before .before .before .before .before .before .before .before .before .before .before .before .before in
-    part-same (s .pre .0) (s .pre .1) (s .args .r) (c .before .before .before .before .before .before .step .ensures) (sym (c .before .is-change .ensures) ∙ c .if2 .left)
+    let e = c .before .before .before .before .before .before .step .ensures in
+    record {
+      answer = e .answer;
+      told = e .told;
+      is = part-same (s .pre .0) (s .pre .1) (s .args .r) (e .is) (sym (c .before .is-change .ensures) ∙ c .if3 .left);
+    }
 
 pub counted-step-spec : {M : Type 1} → statement M
 counted-step-spec =
@@ -93,15 +114,14 @@ counted-step-spec =
     count-requires
     is-full-requires
     foretell-requires
+    words-of-requires
     same-length
     returns
     slice-relend-prefix-step
     slice-aggregate-step
     step-requires
-    enum-known-answer
     same-length-2
     returns-2
-    enum-told
     is-change-requires
     raise-requires
     same-length-3

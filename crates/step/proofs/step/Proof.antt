@@ -1,73 +1,134 @@
--- `step`: the kind's own function in each arm, and question 3 where no kind has the number.
+-- `step`: the kind's own function in each arm and the words of its answer, and question 3 where no kind has the number.
 -- Assumes nothing.
-use mathlib.Core.Path.{sym}
-use borrow.Author.Needs.{needs}
+use mathlib.Core.Path.{refl, sym}
+use Rattle.model.specs.declared.Answer.the-variants.{Refused}
 use Rattle.book.specs.Lent.{reading}
 use Rattle.kinds.proofs.Numbers.{no-kind}
 use Rattle.judge.proofs.Whole.{step-none}
 use Rattle.step.proofs.Outcomes.{refused-book}
+use borrow.Author.Needs.{needs}
 use Rattle.step.proofs.step.Statement.{statement}
 use Rattle.step.proofs.step.Tie as tie
 
 add-leave-requires : tie.Need-add-leave-requires
 add-leave-requires c κs = search needs
 
+words-of-requires : tie.Need-words-of-requires
+words-of-requires c κs = search needs
+
 end-leave-requires : tie.Need-end-leave-requires
 end-leave-requires c κs = search needs
+
+words-of-requires-2 : tie.Need-words-of-requires-2
+words-of-requires-2 c κs = search needs
 
 remove-visitor-requires : tie.Need-remove-visitor-requires
 remove-visitor-requires c κs = search needs
 
+words-of-requires-3 : tie.Need-words-of-requires-3
+words-of-requires-3 c κs = search needs
+
 add-hotel-requires : tie.Need-add-hotel-requires
 add-hotel-requires c κs = search needs
+
+words-of-requires-4 : tie.Need-words-of-requires-4
+words-of-requires-4 c κs = search needs
 
 erase-hotel-requires : tie.Need-erase-hotel-requires
 erase-hotel-requires c κs = search needs
 
+words-of-requires-5 : tie.Need-words-of-requires-5
+words-of-requires-5 c κs = search needs
+
 add-ride-requires : tie.Need-add-ride-requires
 add-ride-requires c κs = search needs
+
+words-of-requires-6 : tie.Need-words-of-requires-6
+words-of-requires-6 c κs = search needs
 
 erase-ride-requires : tie.Need-erase-ride-requires
 erase-ride-requires c κs = search needs
 
+words-of-requires-7 : tie.Need-words-of-requires-7
+words-of-requires-7 c κs = search needs
+
 add-standing-requires : tie.Need-add-standing-requires
 add-standing-requires c κs = search needs
+
+words-of-requires-8 : tie.Need-words-of-requires-8
+words-of-requires-8 c κs = search needs
 
 end-standing-requires : tie.Need-end-standing-requires
 end-standing-requires c κs = search needs
 
+words-of-requires-9 : tie.Need-words-of-requires-9
+words-of-requires-9 c κs = search needs
+
 add-attend-requires : tie.Need-add-attend-requires
 add-attend-requires c κs = search needs
+
+words-of-requires-10 : tie.Need-words-of-requires-10
+words-of-requires-10 c κs = search needs
 
 erase-attend-requires : tie.Need-erase-attend-requires
 erase-attend-requires c κs = search needs
 
+words-of-requires-11 : tie.Need-words-of-requires-11
+words-of-requires-11 c κs = search needs
+
 add-conf-requires : tie.Need-add-conf-requires
 add-conf-requires c κs = search needs
+
+words-of-requires-12 : tie.Need-words-of-requires-12
+words-of-requires-12 c κs = search needs
 
 erase-conf-requires : tie.Need-erase-conf-requires
 erase-conf-requires c κs = search needs
 
+words-of-requires-13 : tie.Need-words-of-requires-13
+words-of-requires-13 c κs = search needs
+
 add-lunch-requires : tie.Need-add-lunch-requires
 add-lunch-requires c κs = search needs
+
+words-of-requires-14 : tie.Need-words-of-requires-14
+words-of-requires-14 c κs = search needs
 
 erase-lunch-requires : tie.Need-erase-lunch-requires
 erase-lunch-requires c κs = search needs
 
+words-of-requires-15 : tie.Need-words-of-requires-15
+words-of-requires-15 c κs = search needs
+
 erase-conf-and-lunch-requires : tie.Need-erase-conf-and-lunch-requires
 erase-conf-and-lunch-requires c κs = search needs
+
+words-of-requires-16 : tie.Need-words-of-requires-16
+words-of-requires-16 c κs = search needs
 
 which-meeting-requires : tie.Need-which-meeting-requires
 which-meeting-requires c κs = search needs
 
+words-of-requires-17 : tie.Need-words-of-requires-17
+words-of-requires-17 c κs = search needs
+
 count-leave-requires : tie.Need-count-leave-requires
 count-leave-requires c κs = search needs
+
+words-of-requires-18 : tie.Need-words-of-requires-18
+words-of-requires-18 c κs = search needs
 
 seats-left-requires : tie.Need-seats-left-requires
 seats-left-requires c κs = search needs
 
+words-of-requires-19 : tie.Need-words-of-requires-19
+words-of-requires-19 c κs = search needs
+
 free-room-requires : tie.Need-free-room-requires
 free-room-requires c κs = search needs
+
+words-of-requires-20 : tie.Need-words-of-requires-20
+words-of-requires-20 c κs = search needs
 
 same-length : tie.Need-same-length
 same-length c = search needs
@@ -192,33 +253,57 @@ returns-20 c = search needs
 returns-21 : tie.Need-returns-21
 returns-21 c =
     let s = c .before .before in
-    refused-book (s .pre) (s .args .r)
-    (sym (step-none (reading (s .args .book .now)) (s .args .r) (no-kind (s .args .r .kind) (c .match .rest))))
+    record {
+      answer = Refused 3 0;
+      told = refl;
+      is = refused-book (s .pre) (s .args .r)
+          (sym (step-none (reading (s .args .book .now)) (s .args .r) (no-kind (s .args .r .kind) (c .match .rest))));
+    }
 
 pub step-spec : {M : Type 1} → statement M
 step-spec =
     tie.close
     (tie.spec
     add-leave-requires
+    words-of-requires
     end-leave-requires
+    words-of-requires-2
     remove-visitor-requires
+    words-of-requires-3
     add-hotel-requires
+    words-of-requires-4
     erase-hotel-requires
+    words-of-requires-5
     add-ride-requires
+    words-of-requires-6
     erase-ride-requires
+    words-of-requires-7
     add-standing-requires
+    words-of-requires-8
     end-standing-requires
+    words-of-requires-9
     add-attend-requires
+    words-of-requires-10
     erase-attend-requires
+    words-of-requires-11
     add-conf-requires
+    words-of-requires-12
     erase-conf-requires
+    words-of-requires-13
     add-lunch-requires
+    words-of-requires-14
     erase-lunch-requires
+    words-of-requires-15
     erase-conf-and-lunch-requires
+    words-of-requires-16
     which-meeting-requires
+    words-of-requires-17
     count-leave-requires
+    words-of-requires-18
     seats-left-requires
+    words-of-requires-19
     free-room-requires
+    words-of-requires-20
     same-length
     returns
     same-length-2

@@ -7,6 +7,7 @@ use Rattle.model.specs.declared.Request.{Request}
 use Rattle.model.specs.Machine.{ordered, replyWords, perform}
 use Rattle.model.specs.Ledger.{ledgerOf}
 use Rattle.model.specs.Calls.{Called, called}
+use Rattle.ring.proofs.Telling.{told-list}
 use Rattle.engine.specs.Lists.{spliced}
 use Rattle.engine.proofs.Splices.{request-of}
 use borrow.Author.Needs.{needs}
@@ -22,11 +23,11 @@ order-at-requires c κs = search needs
 request-at-requires : tie.Need-request-at-requires
 request-at-requires c κs = search needs
 
-book-step-requires : tie.Need-book-step-requires
-book-step-requires c κs = search needs
+told-step-requires : tie.Need-told-step-requires
+told-step-requires c κs = search needs
 
-put-answer-requires : tie.Need-put-answer-requires
-put-answer-requires c κs = search needs
+put-words-requires : tie.Need-put-words-requires
+put-words-requires c κs = search needs
 
 same-length : tie.Need-same-length
 same-length c = search needs
@@ -35,15 +36,17 @@ same-length-2 : tie.Need-same-length-2
 same-length-2 c = search needs
 
 returns : tie.Need-returns
-returns c = let s = c .before .before .before .before .before .before .before .before .before .before .before .before .before in
+returns c =
+    let s = c .before .before .before .before .before .before .before .before .before .before .before .before .before in
     let a = s .args in
     let r = c .before .before .before .before .before .before .before .before in
+    let t = c .before .before .before .before .before .before .told-step .ensures in
     let q = r .request-at .ensures ∙ request-of (s .pre .1 .1 .0) (drop (a .i * a .width) (a .list .now)) in
-    let e = c .before .before .before .before .before .before .book-step .ensures
-    ∙ ap₂ (λ (n : ℕ) (r : Request). called (perform (ledgerOf (a .book .now)) (ordered n r))) (r .before .order-at .ensures) q in
+    let e = t .is ∙ ap₂ (λ (n : ℕ) (r : Request). called (perform (ledgerOf (a .book .now)) (ordered n r))) (r .before .order-at .ensures) q in
     record {
       book = ap (λ (c : Called). c .book) e;
-      answers = c .before .before .put-answer .ensures
+      answers = c .before .before .put-words .ensures
+          ∙ ap (spliced (a .answers .now) (a .i * 3)) (told-list (t .answer) (t .told))
           ∙ ap (λ (c : Called). spliced (a .answers .now) (a .i * 3) (replyWords (c .reply))) e;
     }
 
@@ -54,8 +57,8 @@ answer-at-spec =
     mul-at
     order-at-requires
     request-at-requires
-    book-step-requires
-    put-answer-requires
+    told-step-requires
+    put-words-requires
     same-length
     same-length-2
     returns)
