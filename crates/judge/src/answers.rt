@@ -4,7 +4,7 @@
 use book::found::Found;
 use book::grid::Grid;
 use book::grid::Site;
-use kinds::seats::capacity;
+use book::seats::capacity;
 use model::Answer;
 use model::Date;
 use model::Session;
@@ -184,7 +184,7 @@ pub fn lunch_fits(
     if n < 1 {
         return refused(8, 0);
     }
-    if capacity(site.settings, a) < n {
+    if capacity(book, site.settings, a) < n {
         return refused(8, 0);
     }
     add_lunch(book, site, a, b, n, first, last)
@@ -251,5 +251,5 @@ pub fn seats_left(book: &[u32], site: Site, date: Date, room: u32) -> u32
     requires { ⌜ room < site .settings .dining ⌝ }
     ensures { λ r. ⌜ r ≡ capacityOf (site .settings) room - reservedIn (stateOf (reading (now (book .entry)))) (date .0) room ⌝ }
 {
-    capacity(site.settings, room) - reserved(book, site, date, room)
+    capacity(book, site.settings, room) - reserved(book, site, date, room)
 }

@@ -5,8 +5,8 @@ use crate::answers::refused;
 use crate::answers::settled;
 use book::found::Found;
 use book::grid::Site;
+use book::seats::capacity;
 use kinds::fields::first_no;
-use kinds::seats::capacity;
 use kinds::table::add_lunch_row;
 use kinds::table::attend_row;
 use kinds::table::hotel_row;
@@ -266,7 +266,7 @@ pub fn add_lunch(book: &[u32], site: Site, r: Request) -> Answer
     if r.n < 1 {
         return refused(8, 0);
     }
-    if capacity(site.settings, r.a) < r.n {
+    if capacity(book, site.settings, r.a) < r.n {
         return refused(8, 0);
     }
     lunch_fits(book, site, r.a, r.b, r.n, Date(r.first), Date(r.last))

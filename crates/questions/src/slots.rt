@@ -3,7 +3,7 @@
 use book::found::Found;
 use book::grid::Grid;
 use book::grid::Site;
-use kinds::seats::capacity;
+use book::seats::capacity;
 use model::Date;
 use model::Session;
 use model::Settings;
@@ -87,7 +87,7 @@ fn room_left(book: &[u32], site: Site, date: Date, room: u32, n: u32) -> bool
     requires { ⌜ n ≤ 1000 ⌝ }
     ensures { λ r. ⌜ r ≡ roomLeft (site .settings) (stateOf (reading (now (book .entry)))) (date .0) room n ⌝ }
 {
-    reserved(book, site, date, room) + n <= capacity(site.settings, room)
+    reserved(book, site, date, room) + n <= capacity(book, site.settings, room)
 }
 
 // Question 14: the lowest date of first..last on which n seats more are too many for the dining room.

@@ -3,7 +3,6 @@
 use borrow.Author.Tests.{le-leb, lt-leb}
 use Rattle.judge.specs.Chains.{lunchFits}
 use Rattle.questions.proofs.Seats.{capacity-le}
-use Rattle.book.proofs.Goods.{good-laid}
 use native.Mathlib.Omega.{arith}
 use borrow.Author.Needs.{needs}
 use Rattle.judge.proofs.answers.lunch_fits.Statement.{statement}
@@ -17,7 +16,7 @@ unfolding lunchFits
 returns c = rw (lt-leb _ _ (c .before .if1 .taken)) (c .refused .ensures)
 
 capacity-requires : tie.Need-capacity-requires
-capacity-requires c κs = let p = c .before .before .pre in (good-laid (p .0) .ranges, p .1 .1 .1 .0)
+capacity-requires c κs = let p = c .before .before .pre in (p .0, p .1 .1 .1 .0)
 
 refused-requires-2 : tie.Need-refused-requires-2
 refused-requires-2 c κs = search needs

@@ -1,14 +1,13 @@
 -- Reserved is at most capacity.
 -- Assumes nothing.
 use native.Mathlib.Omega.{arith}
-use Rattle.book.proofs.Goods.{good-laid}
 use Rattle.questions.proofs.Seats.{reserved-le}
 use borrow.Author.Needs.{needs}
 use Rattle.judge.proofs.answers.seats_left.Statement.{statement}
 use Rattle.judge.proofs.answers.seats_left.Tie as tie
 
 capacity-requires : tie.Need-capacity-requires
-capacity-requires c κs = let p = c .before .pre in (good-laid (p .0) .ranges, p .1 .1 .1)
+capacity-requires c κs = let p = c .before .pre in (p .0, p .1 .1 .1)
 
 reserved-requires : tie.Need-reserved-requires
 reserved-requires c κs = search needs

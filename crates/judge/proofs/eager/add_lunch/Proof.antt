@@ -3,7 +3,6 @@
 use mathlib.Core.Path.{_∙_, ap}
 use native.Mathlib.Omega.{arith}
 use borrow.Author.Needs.{needs}
-use Rattle.book.proofs.Goods.{good-laid}
 use Rattle.judge.proofs.Meanings.{answered-by}
 use Rattle.judge.proofs.Together.{no-seats, too-many-seats, seats-fit}
 use Rattle.judge.proofs.Whole.{refused-by, ready}
@@ -52,7 +51,7 @@ capacity-requires c κs =
     let s = f .before .before .before .before in
     let h = ready (s .pre .0) (s .args .r) addLunch (ap kindOf (s .pre .1 .1)) (f .before .before .add-lunch-row .ensures)
     (f .before .first-no .ensures) (f .if1 .left) in
-    (good-laid (s .pre .0) .ranges, h .a)
+    (s .pre .0, h .a)
 
 refused-requires-3 : tie.Need-refused-requires-3
 refused-requires-3 c κs = search needs

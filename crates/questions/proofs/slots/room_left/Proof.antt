@@ -1,7 +1,6 @@
 -- Reserved and n are few enough to be added.
 -- Assumes nothing.
 use Rattle.questions.specs.Asked.{roomLeft}
-use Rattle.book.proofs.Goods.{good-laid}
 use Rattle.questions.proofs.Seats.{reserved-le, capacity-le}
 use native.Mathlib.Omega.{arith}
 use borrow.Author.Needs.{needs}
@@ -24,7 +23,7 @@ add-result c =
     )
 
 capacity-requires : tie.Need-capacity-requires
-capacity-requires c κs = let p = c .before .before .pre in (good-laid (p .0) .ranges, p .1 .1 .1 .0)
+capacity-requires c κs = let p = c .before .before .pre in (p .0, p .1 .1 .1 .0)
 
 returns : tie.Need-returns
 unfolding roomLeft
