@@ -1,25 +1,65 @@
--- The slots of a run of dates are those between two cuts.
+-- The dates of slots in order, and the slots of a run of dates as those between two cuts.
 -- Assumes nothing.
-use Prim.Native.Nat.{ℕ, _+_, _*_, _≤_, _<_}
-use mathlib.Core.Path.{_≡_, refl}
+use Prim.Native.Nat.{ℕ, _+_, _*_, _-_, _/_, _≤_, _<_}
+use mathlib.Core.Path.{_≡_, refl, ap}
 use mathlib.Core.Bool.{Bool, true, false, _&&_}
 use native.Mathlib.Omega.{arith}
+use native.Mathlib.Nat.{le-div-iff-mul-le, sub-zero}
 use lib.Dec.{leb, ltb}
-use borrow.Author.Tests.{leb-true, ltb-true, leb-false, ltb-false}
-use native.Mathlib.Nat.{mul-le-mul-right}
-use Rattle.units.specs.Units.{Cut, OnDates}
+use borrow.Author.Tests.{leb-true, ltb-true, leb-false, ltb-false, le-leb}
+use Rattle.units.specs.Units.{dayOf, CutOf, Cut, OnDates}
 use Rattle.model.specs.declared.Settings.{Settings}
 use Rattle.model.specs.Bounded.{within}
-use Rattle.model.specs.Kinds.{Unit, slotsOf, dateOf}
-use Rattle.model.proofs.Local.{date-mono}
+use Rattle.model.specs.Kinds.{Unit, sessions, times, slotsOf, dateOf}
+use Rattle.model.proofs.Local.{div-mono}
 use Rattle.model.proofs.Search.{bool-eq, and-true, and-left, and-right, within-true, true-within}
 
--- a turn of the bisection
-pub turn-low : (S : Settings) (u : Unit) (d m : ℕ) → dateOf S u m < d → (i : ℕ) → i < m + 1 → dateOf S u i < d
-turn-low S u d m e i h = omega (arith, e, date-mono S u i m (omega (arith, h)))
+-- that a slot is on date d or later is asked by a product
+pub asked-by-product : (each late i d : ℕ) → 1 ≤ each → leb d (dayOf each late i) ≡ leb (d * each) (i - late)
+unfolding dayOf
+asked-by-product each late i d h =
+    bool-eq _ _
+    (λ e. le-leb _ _ (le-div-iff-mul-le {k = each} h .0 (leb-true _ _ e)))
+    (λ e. le-leb _ _ (le-div-iff-mul-le {k = each} h .1 (leb-true _ _ e)))
 
-pub turn-high : (S : Settings) (u : Unit) (d m : ℕ) → d ≤ dateOf S u m → (i : ℕ) → m ≤ i → d ≤ dateOf S u i
-turn-high S u d m e i h = omega (arith, e, date-mono S u m i h)
+-- a later slot is on no earlier date
+day-mono : (each late i j : ℕ) → i ≤ j → dayOf each late i ≤ dayOf each late j
+unfolding dayOf
+day-mono each late i j h = div-mono (i - late) (j - late) each (omega arith)
+
+-- what one slot says of those before it, and of those from it on
+pub turn-low : (each late d m : ℕ) → leb d (dayOf each late m) ≡ false → (i : ℕ) → i < m + 1 → dayOf each late i < d
+turn-low each late d m e i h = omega (arith, leb-false d (dayOf each late m) e, day-mono each late i m (omega arith))
+
+pub turn-high : (each late d m : ℕ) → leb d (dayOf each late m) ≡ true → (i : ℕ) → m ≤ i → d ≤ dayOf each late i
+turn-high each late d m e i h = omega (arith, leb-true d (dayOf each late m) e, day-mono each late m i h)
+
+-- date d begins at a slot if the slot before it, where there is one, is before d, and the slot itself, where it is one, is not
+pub begins-at : (each late n d at : ℕ) → at ≤ n → (0 < at → leb d (dayOf each late (at - 1)) ≡ false)
+    → (at < n → leb d (dayOf each late at) ≡ true) → CutOf (dayOf each late) n d at
+begins-at each late n d at h low high =
+    record {
+      most = h;
+      before = λ i l. turn-low each late d (at - 1) (low (omega arith)) i (omega arith);
+      after = λ i l k. turn-high each late d at (high (omega arith)) i l;
+    }
+
+-- the cuts of the two units
+pub session-cut : (S : Settings) {d r : ℕ} → CutOf (dayOf (S .sessions) 0) (S .dates * S .sessions) d r → Cut S sessions d r
+unfolding dayOf
+session-cut S h =
+    record {
+      most = h .most;
+      before = λ i l. omega (arith, h .before i l, same i);
+      after = λ i l k. omega (arith, h .after i l k, same i);
+    }
+  where
+    same : (i : ℕ) → (i - 0) / S .sessions ≡ i / S .sessions
+    same i = ap (λ (n : ℕ). n / S .sessions) (sub-zero i)
+
+pub time-cut : (S : Settings) {d r : ℕ} → CutOf (dayOf (S .times) (S .early)) (S .dates * S .times) d r → Cut S times d r
+unfolding dayOf
+time-cut S h = h
 
 -- a slot is on a date of from..to exactly if it lies between the cuts
 pub between-cuts : (S : Settings) (u : Unit) (from to lo hi : ℕ) → Cut S u from lo → Cut S u (to + 1) hi
@@ -40,12 +80,5 @@ between-cuts S u from to lo hi a b i h =
     high true q w = q
     high false q w = absurd (omega (arith, b .after i (ltb-false i hi q) h, w))
 
-pub on-dates : {S : Settings} {u : Unit} {first last next from to : ℕ} → Cut S u first from → next ≡ last + 1 → Cut S u next to
-    → OnDates S u first last from to
-on-dates {S} {u} {first} {last} {next} {from} {to} a e b =
-    let c : Cut S u (last + 1) to = rw e at b in
-    record { begins = a; ends = c; exactly = between-cuts S u first last from to a c }
-
--- d of k parts of n slots are not behind them
-pub share-le : (r : ℕ) {d k m n : ℕ} → d ≤ k → k * r ≡ m → n ≡ m → d * r ≤ n
-share-le r h e q = omega (arith, mul-le-mul-right r h, e, q)
+pub on-dates : (S : Settings) (u : Unit) {first last from to : ℕ} → Cut S u first from → Cut S u (last + 1) to → OnDates S u first last from to
+on-dates S u {first} {last} {from} {to} a b = record { begins = a; ends = b; exactly = between-cuts S u first last from to a b }

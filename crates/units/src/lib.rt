@@ -4,11 +4,13 @@ use model::Session;
 use model::Settings;
 use model::Time;
 ghost use mathlib.Core.Path.{_≡_};
+ghost use mathlib.Core.Bool.{true};
 ghost use Prim.Native.Nat.{_+_, _*_, _-_, _≤_, _<_};
+ghost use lib.Dec.{leb};
 ghost use Rattle.model.specs.Site.{dateOfSession, dateOfTime};
-ghost use Rattle.model.specs.Kinds.{sessions, times, slotsOf, dateOf};
+ghost use Rattle.model.specs.Kinds.{sessions, times};
 ghost use Rattle.units.specs.Ranges.{Ranges};
-ghost use Rattle.units.specs.Units.{unitOf, Bracket, Passed, Reached, Cut, OnDates};
+ghost use Rattle.units.specs.Units.{dayOf, CutOf, Bracket, Passed, Reached, Cut, OnDates};
 
 pub fn date_of_session(s: Settings, i: Session) -> Date
     requires { ⌜ Ranges s ⌝ }
@@ -43,63 +45,49 @@ pub fn after(d: Date) -> Date
     Date(d.0 + 1)
 }
 
-// What divides a date. The search below is one for both, and the only place where a session or a time is a plain slot.
-enum Division {
-    Sessions,
-    Times,
-}
+// The search for a date's first slot is one for both units, and knows numbers alone: n slots, `each` to a date, but that every date but
+// the first begins `late` slots later (`dayOf`). A struct that a call hands over would be laid out in memory for it.
 
-fn date_of(s: Settings, u: Division, i: u32) -> Date
-    requires { ⌜ Ranges s ⌝ }
-    ensures { λ r. ⌜ r .0 ≡ dateOf s (unitOf u) i ⌝ }
+// Is slot i on date d or later? The question is put without a division: d dates of `each` slots are not behind it.
+fn is_on_or_after(each: u32, late: u32, i: u32, d: u32) -> bool
+    requires { ⌜ 1 ≤ each ⌝ }
+    requires { ⌜ d * each ≤ 100000 ⌝ }
+    ensures { λ r. ⌜ r ≡ leb d (dayOf each late i) ⌝ }
 {
-    match u {
-        Division::Sessions => date_of_session(s, Session(i)),
-        Division::Times => date_of_time(s, Time(i)),
-    }
+    d * each <= behind(i, late)
 }
 
-fn slots_of(s: Settings, u: Division) -> u32
-    requires { ⌜ Ranges s ⌝ }
-    ensures { λ r. ⌜ r ≡ slotsOf s (unitOf u) ⌝ }
-{
-    match u {
-        Division::Sessions => s.dates * s.sessions,
-        Division::Times => s.dates * s.times,
-    }
-}
-
-// The first slot of from..to on date d or later, and `to` if there is none, by bisection over the date-of function.
-fn bisect(s: Settings, u: Division, from: u32, to: u32, d: Date) -> u32
-    requires { ⌜ Ranges s ⌝ }
-    requires { ⌜ Bracket s (unitOf u) (d .0) from to ⌝ }
-    ensures { λ r. ⌜ Cut s (unitOf u) (d .0) r ⌝ }
+// The first slot of from..to on date d or later, and `to` if there is none, by bisection.
+fn bisect(n: u32, each: u32, late: u32, from: u32, to: u32, d: u32) -> u32
+    requires { ⌜ 1 ≤ each ⌝ }
+    requires { ⌜ d * each ≤ 100000 ⌝ }
+    requires { ⌜ Bracket (dayOf each late) n d from to ⌝ }
+    ensures { λ r. ⌜ CutOf (dayOf each late) n d r ⌝ }
 {
     let mut lo = from;
     let mut hi = to;
     while lo < hi {
         let mid = lo + (hi - lo) / 2;
-        let day = date_of(s, u, mid);
-        if day.0 < d.0 {
-            lo = mid + 1;
-        } else {
+        if is_on_or_after(each, late, mid, d) {
             hi = mid;
+        } else {
+            lo = mid + 1;
         }
     }
     lo
 }
 
 // A slot with only dates before d before it, in steps that double from a slot down.
-fn retreat(s: Settings, u: Division, from: u32, d: Date) -> u32
-    requires { ⌜ Ranges s ⌝ }
-    requires { ⌜ from ≤ slotsOf s (unitOf u) ⌝ }
-    ensures { λ r. ⌜ Passed s (unitOf u) (d .0) r from ⌝ }
+fn retreat(each: u32, late: u32, from: u32, d: u32) -> u32
+    requires { ⌜ 1 ≤ each ⌝ }
+    requires { ⌜ d * each ≤ 100000 ⌝ }
+    requires { ⌜ from ≤ 100000 ⌝ }
+    ensures { λ r. ⌜ Passed (dayOf each late) d r from ⌝ }
 {
     let mut lo = from;
     let mut by: u32 = 1;
     while 0 < lo {
-        let last = date_of(s, u, lo - 1);
-        if last.0 < d.0 {
+        if !is_on_or_after(each, late, lo - 1, d) {
             return lo;
         }
         if lo <= by {
@@ -112,17 +100,16 @@ fn retreat(s: Settings, u: Division, from: u32, d: Date) -> u32
 }
 
 // A slot on date d or later, or the end, in steps that double from a slot up.
-fn reach(s: Settings, u: Division, from: u32, n: u32, d: Date) -> u32
-    requires { ⌜ Ranges s ⌝ }
-    requires { ⌜ n ≡ slotsOf s (unitOf u) ⌝ }
-    requires { ⌜ from ≤ n ⌝ }
-    ensures { λ r. ⌜ Reached s (unitOf u) (d .0) from r ⌝ }
+fn reach(n: u32, each: u32, late: u32, from: u32, d: u32) -> u32
+    requires { ⌜ 1 ≤ each ⌝ }
+    requires { ⌜ d * each ≤ 100000 ⌝ }
+    requires { ⌜ (from ≤ n) × (n ≤ 100000) ⌝ }
+    ensures { λ r. ⌜ Reached (dayOf each late) n d from r ⌝ }
 {
     let mut hi = from;
     let mut by: u32 = 1;
     while hi < n {
-        let day = date_of(s, u, hi);
-        if d.0 <= day.0 {
+        if is_on_or_after(each, late, hi, d) {
             return hi;
         }
         if n - hi <= by {
@@ -134,51 +121,77 @@ fn reach(s: Settings, u: Division, from: u32, n: u32, d: Date) -> u32
     n
 }
 
-// How many slots a date has but for the early times.
-fn each(s: Settings, u: Division) -> u32
-    ensures { λ r. ⌜ s .dates * r ≡ slotsOf s (unitOf u) ⌝ }
+// The first slot on date d or later, looked for around a slot.
+fn search(n: u32, each: u32, late: u32, from: u32, d: u32) -> u32
+    requires { ⌜ 1 ≤ each ⌝ }
+    requires { ⌜ d * each ≤ 100000 ⌝ }
+    requires { ⌜ (from ≤ n) × (n ≤ 100000) ⌝ }
+    ensures { λ r. ⌜ CutOf (dayOf each late) n d r ⌝ }
 {
-    match u {
-        Division::Sessions => s.sessions,
-        Division::Times => s.times,
-    }
+    let lo = retreat(each, late, from, d);
+    let hi = reach(n, each, late, lo, d);
+    bisect(n, each, late, lo, hi, d)
 }
 
-// By how many slots every date but the first begins later than with dates of one length.
-fn late(s: Settings, u: Division) -> u32 {
-    match u {
-        Division::Sessions => 0,
-        Division::Times => s.early,
+// Does date d begin at a slot? The slot before it and the slot itself are asked, where there are such.
+fn is_first(n: u32, each: u32, late: u32, at: u32, d: u32) -> bool
+    requires { ⌜ 1 ≤ each ⌝ }
+    requires { ⌜ d * each ≤ 100000 ⌝ }
+    requires { ⌜ at ≤ n ⌝ }
+    ensures { λ r. ⌜ (r ≡ true → CutOf (dayOf each late) n d at) ⌝ }
+{
+    if 0 < at {
+        if is_on_or_after(each, late, at - 1, d) {
+            return false;
+        }
     }
+    if at < n {
+        return is_on_or_after(each, late, at, d);
+    }
+    true
 }
 
-// Where date d begins if the early times are all that dates differ by.
-fn guess(s: Settings, u: Division, n: u32, d: Date) -> u32
-    requires { ⌜ Ranges s ⌝ }
-    requires { ⌜ n ≡ slotsOf s (unitOf u) ⌝ }
-    requires { ⌜ d .0 ≤ s .dates ⌝ }
+// Where a date begins if the early times are all that dates differ by; `even` is where it would begin without them.
+fn guess(n: u32, even: u32, late: u32) -> u32
+    requires { ⌜ even ≤ n ⌝ }
     ensures { λ r. ⌜ r ≤ n ⌝ }
 {
-    if d.0 == 0 {
+    if even == 0 {
         return 0;
     }
-    let even = d.0 * each(s, u);
-    let by = late(s, u);
-    if n - even < by { n } else { even + by }
+    if n - even < late { n } else { even + late }
 }
 
-// The first slot on date d or later. It is looked for around a guess: where that is right, two dates are asked for, of that slot and of the
-// one before it.
-fn first_on(s: Settings, u: Division, d: Date) -> u32
-    requires { ⌜ Ranges s ⌝ }
-    requires { ⌜ d .0 ≤ s .dates ⌝ }
-    ensures { λ r. ⌜ Cut s (unitOf u) (d .0) r ⌝ }
+// The first slot on date d or later: the guess, where it is right, and else what the search finds.
+fn first_slot(n: u32, each: u32, late: u32, d: u32) -> u32
+    requires { ⌜ 1 ≤ each ⌝ }
+    requires { ⌜ (d * each ≤ n) × (n ≤ 100000) ⌝ }
+    ensures { λ r. ⌜ CutOf (dayOf each late) n d r ⌝ }
 {
-    let n = slots_of(s, u);
-    let from = guess(s, u, n, d);
-    let lo = retreat(s, u, from, d);
-    let hi = reach(s, u, lo, n, d);
-    bisect(s, u, lo, hi, d)
+    let at = guess(n, d * each, late);
+    if is_first(n, each, late, at, d) {
+        return at;
+    }
+    search(n, each, late, at, d)
+}
+
+// The slots from `from` to before `to`.
+struct Run {
+    from: u32,
+    to: u32,
+}
+
+// The slots on the dates first..last.
+fn slots_on(n: u32, each: u32, late: u32, first: u32, last: u32) -> Run
+    requires { ⌜ 1 ≤ each ⌝ }
+    requires { ⌜ first ≤ last ⌝ }
+    requires { ⌜ ((last + 1) * each ≤ n) × (n ≤ 100000) ⌝ }
+    ensures { λ r. ⌜ CutOf (dayOf each late) n first (r .from) ⌝ }
+    ensures { λ r. ⌜ CutOf (dayOf each late) n (last + 1) (r .to) ⌝ }
+{
+    let from = first_slot(n, each, late, first);
+    let to = first_slot(n, each, late, last + 1);
+    Run { from, to }
 }
 
 // The sessions from `from` to before `to`.
@@ -193,22 +206,20 @@ pub struct TimeRun {
     pub to: Time,
 }
 
-// The first session on date d or later; their number, if d is behind the last date.
+// The first session on date d or later; their number, if d is behind the last date. The guess is tried here and not by a call, so that the
+// compiler puts it where it is asked for.
 pub fn first_session(s: Settings, d: Date) -> Session
     requires { ⌜ Ranges s ⌝ }
     requires { ⌜ d .0 ≤ s .dates ⌝ }
     ensures { λ r. ⌜ Cut s sessions (d .0) (r .0) ⌝ }
 {
-    Session(first_on(s, Division::Sessions, d))
-}
-
-// The same of times.
-pub fn first_time(s: Settings, d: Date) -> Time
-    requires { ⌜ Ranges s ⌝ }
-    requires { ⌜ d .0 ≤ s .dates ⌝ }
-    ensures { λ r. ⌜ Cut s times (d .0) (r .0) ⌝ }
-{
-    Time(first_on(s, Division::Times, d))
+    let each = s.sessions;
+    let n = s.dates * each;
+    let at = d.0 * each;
+    if is_first(n, each, 0, at, d.0) {
+        return Session(at);
+    }
+    Session(search(n, each, 0, at, d.0))
 }
 
 // Exactly the sessions whose date is in first..last.
@@ -218,10 +229,11 @@ pub fn sessions_on(s: Settings, first: Date, last: Date) -> SessionRun
     requires { ⌜ last .0 < s .dates ⌝ }
     ensures { λ r. ⌜ OnDates s sessions (first .0) (last .0) (r .from .0) (r .to .0) ⌝ }
 {
-    let from = first_session(s, first);
-    let next = after(last);
-    let to = first_session(s, next);
-    SessionRun { from, to }
+    let run = slots_on(s.dates * s.sessions, s.sessions, 0, first.0, last.0);
+    SessionRun {
+        from: Session(run.from),
+        to: Session(run.to),
+    }
 }
 
 // Exactly the times whose date is in first..last.
@@ -231,8 +243,9 @@ pub fn times_on(s: Settings, first: Date, last: Date) -> TimeRun
     requires { ⌜ last .0 < s .dates ⌝ }
     ensures { λ r. ⌜ OnDates s times (first .0) (last .0) (r .from .0) (r .to .0) ⌝ }
 {
-    let from = first_time(s, first);
-    let next = after(last);
-    let to = first_time(s, next);
-    TimeRun { from, to }
+    let run = slots_on(s.dates * s.times, s.times, s.early, first.0, last.0);
+    TimeRun {
+        from: Time(run.from),
+        to: Time(run.to),
+    }
 }

@@ -1,55 +1,52 @@
 -- Every slot before the one returned is before date d, by the last of them; before slot 0 there is none.
 -- Assumes nothing.
 use Prim.Native.Nat.{ℕ, _-_, _≤_, _<_}
+use mathlib.Core.Path.{sym, _∙_}
 use native.Mathlib.Omega.{arith}
 use borrow.Author.Needs.{needs}
+use borrow.Author.Tests.{not-true}
+use Rattle.units.specs.Units.{Passed}
 use Rattle.units.proofs.Cuts.{turn-low}
-use Rattle.units.proofs.Slots.{unit-le}
-use Rattle.model.specs.declared.Settings.{Settings}
-use Rattle.model.specs.Kinds.{Unit}
-use Rattle.units.specs.Units.{unitOf, Passed}
 use Rattle.units.proofs.retreat.Statement.{statement}
 use Rattle.units.proofs.retreat.Tie as tie
 
-none : (S : Settings) (u : Unit) (d from : ℕ) → Passed S u d 0 from
-none S u d from = record { order = omega arith; before = λ i h. absurd (omega (arith, h)) }
+none : (f : ℕ → ℕ) (d from : ℕ) → Passed f d 0 from
+none f d from = record { order = omega arith; before = λ i h. absurd (omega (arith, h)) }
 
 abbrev Inv-loop : tie.InvT-loop
-Inv-loop s u from d lo₀ by₀ lo by = (lo ≤ from) × (0 < by)
+Inv-loop each late from d lo₀ by₀ lo by = (lo ≤ from) × (0 < by)
 
 abbrev μ-loop : tie.MeasureT-loop
-μ-loop s u from d lo₀ by₀ lo by = lo
+μ-loop each late from d lo₀ by₀ lo by = lo
 
 loop-holds : tie.Need-loop-holds Inv-loop μ-loop
 loop-holds c = (omega arith, omega arith)
 
-sub-date-of : tie.Need-sub-date-of Inv-loop μ-loop
-sub-date-of c = search needs
+sub-is-on-or-after : tie.Need-sub-is-on-or-after Inv-loop μ-loop
+sub-is-on-or-after c = search needs
 
-date-of-requires : tie.Need-date-of-requires Inv-loop μ-loop
-date-of-requires c κs = c .before .before .pre .0
+is-on-or-after-requires : tie.Need-is-on-or-after-requires Inv-loop μ-loop
+is-on-or-after-requires c κs = let s = c .before .before in (s .pre .0, s .pre .1 .0)
 
 returns : tie.Need-returns Inv-loop μ-loop
 returns c =
-    let s = c .before .before .before .before .before .before in
-    let l = c .before .before .before .before .before .loop in
-    let lo : 0 < l .lo = c .before .before .before .before .loop-test .taken in
+    let a = c .before .before .before .before .args in
+    let l = c .before .before .before .loop in
+    let some : 0 < l .lo = c .before .before .loop-test .taken in
     record {
       order = l .inv .0;
-      before = λ i h. turn-low (s .args .s) (unitOf (s .args .u)) (s .args .d .0) (l .lo - 1)
-          (rw (← (c .before .before .before .date-of .ensures)) (c .if1 .taken)) i (omega (arith, h, lo));
+      before = λ i h. turn-low (a .each) (a .late) (a .d) (l .lo - 1) (sym (c .before .is-on-or-after .ensures) ∙ not-true _ (c .if1 .taken)) i
+          (omega (arith, h, some));
     }
 
 returns-2 : tie.Need-returns-2 Inv-loop μ-loop
-returns-2 c = let s = c .before .before .before .before .before .before .before in
-    none (s .args .s) (unitOf (s .args .u)) (s .args .d .0) (s .args .from)
+returns-2 c = none _ _ _
 
 sub-lo : tie.Need-sub-lo Inv-loop μ-loop
 sub-lo c = omega arith
 
 add-by : tie.Need-add-by Inv-loop μ-loop
-add-by c = let s = c .before .before .before .before .before .before .before in
-    omega (arith, s .pre .1, unit-le (s .args .s) (s .pre .0) (unitOf (s .args .u)))
+add-by c = omega arith
 
 loop-less : tie.Need-loop-less Inv-loop μ-loop
 loop-less c = omega arith
@@ -58,8 +55,7 @@ loop-again : tie.Need-loop-again Inv-loop μ-loop
 loop-again c = (omega arith, omega arith)
 
 returns-3 : tie.Need-returns-3 Inv-loop μ-loop
-returns-3 c = let s = c .before .before in
-    none (s .args .s) (unitOf (s .args .u)) (s .args .d .0) (s .args .from)
+returns-3 c = none _ _ _
 
 pub retreat-spec : {M : Type 1} → statement M
 retreat-spec =
@@ -68,8 +64,8 @@ retreat-spec =
     Inv-loop
     μ-loop
     loop-holds
-    sub-date-of
-    date-of-requires
+    sub-is-on-or-after
+    is-on-or-after-requires
     returns
     returns-2
     sub-lo

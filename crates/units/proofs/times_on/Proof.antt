@@ -1,21 +1,29 @@
 -- From the cut of the first date to that of the date after the last.
 -- Assumes nothing.
-use borrow.Author.Needs.{needs}
-use Rattle.units.proofs.Cuts.{on-dates}
+use Prim.Native.Nat.{_+_, _≤_}
+use native.Mathlib.Nat.{mul-le-mul-right}
+use native.Mathlib.Omega.{arith}
+use Rattle.model.specs.Kinds.{times}
+use Rattle.units.proofs.Cuts.{time-cut, on-dates}
+use Rattle.units.proofs.Slots.{all-times}
 use Rattle.units.proofs.times_on.Statement.{statement}
 use Rattle.units.proofs.times_on.Tie as tie
 
-first-time-requires : tie.Need-first-time-requires
-first-time-requires c κs = search needs
+mul-slots-on : tie.Need-mul-slots-on
+mul-slots-on c = let s = c .before in
+    record { fits = omega (arith, all-times (s .args .s) (s .pre .0)) }
 
-after-requires : tie.Need-after-requires
-after-requires c κs = search needs
-
-first-time-requires-2 : tie.Need-first-time-requires-2
-first-time-requires-2 c κs = search needs
+slots-on-requires : tie.Need-slots-on-requires
+slots-on-requires c κs =
+    let s = c .before in
+    let h : s .args .last .0 + 1 ≤ s .args .s .dates = omega (arith, s .pre .1 .1) in
+    (s .pre .0 .times .0, (s .pre .1 .0, (mul-le-mul-right (s .args .s .times) h, omega (arith, all-times (s .args .s) (s .pre .0)))))
 
 returns : tie.Need-returns
-returns c = on-dates (c .before .before .first-time .ensures) (c .before .after .ensures) (c .first-time2 .ensures)
+returns c =
+    let S = c .before .before .args .s in
+    let cuts = c .slots-on .ensures in
+    on-dates S times (time-cut S (cuts .0)) (time-cut S (cuts .1))
 
 pub times-on-spec : {M : Type 1} → statement M
-times-on-spec = tie.close (tie.spec first-time-requires after-requires first-time-requires-2 returns)
+times-on-spec = tie.close (tie.spec mul-slots-on slots-on-requires returns)
