@@ -30,6 +30,7 @@ use Rattle.model.proofs.Tail.{tail-long as tail-words-long, tail-kept, tail-bac
 use Rattle.model.proofs.Ledger.{LedgerSound, first-part, part-behind, behind-long, behind-shown, tail-in-long, lent-tail, lawful-tail, words-ledgerOf}
 use Rattle.model.proofs.Ledger.{ledger-sound, count-lent, diary-words, recounted}
 use Rattle.model.proofs.Counting.{counted-state, counted-tellable, counted-refused, counted-full, uncounted, full-stays}
+use Rattle.model.proofs.Effect.{only-asked}
 use Rattle.model.proofs.Search.{and-left, and-right}
 use Rattle.model.proofs.Done.{refused-keeps}
 use borrow.Author.Tests.{eqb-true}
@@ -81,10 +82,6 @@ counted-open : (x : State) (n : ℕ) (r : Request) (v : ℕ) → isChange r ≡ 
     → countedStep x n r ≡ record { answer = Done v; state = step x r .state; changes = suc n }
 unfolding countedStep raise
 counted-open x n r v c f e = rw c (ap (raise x n (step x r)) e ∙ rw f)
-
--- a change at a count that is not full
-pub change-open : (r : Request) (n : ℕ) → isChange r ≡ true → (isChange r && eqb n mostChanges) ≡ false → eqb n mostChanges ≡ false
-change-open r n on less = sym (ap (λ (t : Bool). t && eqb n mostChanges) on) ∙ less
 
 -- a book whose first n words are written is as long as before
 pub whole-long : (b c : List ℕ) (n : ℕ) → n ≤ length b → length c ≡ length (take n b) → length (c ++ drop n b) ≡ length b
@@ -210,24 +207,33 @@ module _ {S : Settings} {b : List ℕ} (good : GoodBook S b) where
             ∙ (λ j. record { answer = sym no j; state = sym (refused-keeps (ledgerOf b .diary) r m p no) j; changes = ledgerOf b .changes }))
 
     -- a change that is done, and the count raised
-    pub part-raised : {n v : ℕ} → n ≡ ledgerOf b .changes → a ≡ Done v → isChange r ≡ true → (isChange r && eqb n mostChanges) ≡ false
+    pub part-raised : {n v : ℕ} → n ≡ ledgerOf b .changes → a ≡ Done v → isChange r ≡ true → eqb n mostChanges ≡ false
         → answered a (set (c ++ drop k b) (length (c ++ drop k b) - 1) (n + 1)) ≡ called (perform (ledgerOf b) (ordered 0 r))
     part-raised {n} {v} count q change less =
-        let below : eqb (ledgerOf b .changes) mostChanges ≡ false = ap (λ (m : ℕ). eqb m mostChanges) (sym count) ∙ change-open r n change less in
+        let below : eqb (ledgerOf b .changes) mostChanges ≡ false = ap (λ (m : ℕ). eqb m mostChanges) (sym count) ∙ less in
         let one : n + 1 ≡ suc (ledgerOf b .changes) = omega (arith, count) in
         ap₂ answered q
         (ap₂ (λ (w : List ℕ) (m : ℕ). set w (length w - 1) m) stepped-words one ∙ recounted _ stepped-sound (suc (ledgerOf b .changes)))
         ∙ ap (λ (o : Counted). called (stepped (ledgerOf b .tail) o))
         (sym (counted-open (ledgerOf b .diary) (ledgerOf b .changes) r v change below (sym part-answer ∙ q)))
 
-  -- where nothing is written: the answer that is foreseen, for a change at the greatest count
-  pub foreseen-full : (r : Request) {a : Answer} {n : ℕ} → n ≡ ledgerOf b .changes → (isChange r && eqb n mostChanges) ≡ true
+  -- at the greatest count nothing is written: the answer is the one that is foreseen
+  pub foreseen-full : (r : Request) {a : Answer} → ledgerOf b .changes ≡ mostChanges
       → a ≡ countedStep (ledgerOf b .diary) (ledgerOf b .changes) r .answer → answered a b ≡ called (perform (ledgerOf b) (ordered 0 r))
-  foreseen-full r {a} {n} count f q =
-      let change : isChange r ≡ true = and-left (isChange r) _ f in
-      let full : ledgerOf b .changes ≡ mostChanges = sym count ∙ eqb-true n mostChanges (and-right (isChange r) _ f) in
+  foreseen-full r {a} full q =
       ap₂ answered q (sym (words-ledgerOf b (good .laid) (good .lawful)))
-      ∙ ap (λ (o : Counted). called (stepped (ledgerOf b .tail) o)) (sym (full-stays (ledgerOf b .diary) (ledgerOf b .changes) r change full))
+      ∙ ap (λ (o : Counted). called (stepped (ledgerOf b .tail) o)) (sym (stays (isChange r) refl))
+    where
+      stays : (t : Bool) → isChange r ≡ t → countedStep (ledgerOf b .diary) (ledgerOf b .changes) r
+          ≡ record {
+            answer = countedStep (ledgerOf b .diary) (ledgerOf b .changes) r .answer;
+            state = ledgerOf b .diary;
+            changes = ledgerOf b .changes;
+          }
+      stays true f = full-stays (ledgerOf b .diary) (ledgerOf b .changes) r f full
+      stays false f =
+          let e = only-asked (ledgerOf b .diary) (ledgerOf b .changes) r f in
+          e ∙ (λ i. record { answer = sym (ap (λ (o : Counted). o .answer) e) i; state = ledgerOf b .diary; changes = ledgerOf b .changes })
 
   -- an order that is not kept: the request without an order, which leaves the book c, and behind its diary the tail in which the answer is
   -- kept

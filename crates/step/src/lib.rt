@@ -81,10 +81,7 @@ fn is_change(kind: u32) -> bool
 fn is_full(changes: u32, kind: u32) -> bool
     ensures { λ r. ⌜ r ≡ (within 1 16 kind && eqb changes mostChanges) ⌝ }
 {
-    if changes != MOST_CHANGES {
-        return false;
-    }
-    is_change(kind)
+    is_change(kind) & (changes == MOST_CHANGES)
 }
 
 // The answer that a request without an order would get on a whole book, by reading alone. Question 30 comes last: a change that all others
@@ -139,14 +136,14 @@ fn foretell(
 }
 
 // A request without an order on a whole book. A change that is done raises the count; where it cannot rise nothing is written, and the
-// answer is had by reading.
+// answer is had by reading, whatever the kind: the kind is not looked at before the choice by kind.
 fn counted_step(book: &mut [u32], s: Settings, diary: usize, r: Request) -> Told
     requires { ⌜ GoodBook s (now book) ⌝ }
     requires { ⌜ diary ≡ diaryLength s ⌝ }
     ensures { λ t. ⌜ Telling t (now (book .exit)) (called (Machine.perform (ledgerOf (now (book .entry))) (ordered 0 r))) ⌝ }
 {
     let changes = count(book);
-    if is_full(changes, r.kind) {
+    if changes == MOST_CHANGES {
         return words_of(foretell(book, r.kind, r.a, r.b, r.first, r.last, r.n, r.info));
     }
     let told = step(&mut book[..diary], s, r);
