@@ -40,13 +40,19 @@ pub fn children() -> f64 {
     (user + system) as f64 + (user_micro + system_micro) as f64 * 1e-6
 }
 
-/// The least seconds of each work; the works take turns.
+fn median(mut figures: Vec<f64>) -> f64 {
+    figures.sort_by(f64::total_cmp);
+    figures[figures.len() / 2]
+}
+
+/// The second of the works is the yardstick.
+const YARDSTICK: usize = 1;
+
+/// The seconds of each work; the works take turns. A machine's speed changes while it runs, but little within a turn: so
+/// each work counts with the median of its ratios to the yardstick in the same turn, times the median of the yardstick.
 pub fn turns<const SIDES: usize>(count: usize, mut works: [&mut dyn FnMut() -> f64; SIDES]) -> [f64; SIDES] {
-    let mut least = [f64::INFINITY; SIDES];
-    for _ in 0..count {
-        for (work, least) in works.iter_mut().zip(&mut least) {
-            *least = least.min(work());
-        }
-    }
-    least
+    let all: Vec<[f64; SIDES]> = (0..count).map(|_| works.each_mut().map(|work| work())).collect();
+    let yardstick = median(all.iter().map(|turn| turn[YARDSTICK]).collect());
+    let ratio = |side: usize| median(all.iter().map(|turn| turn[side] / turn[YARDSTICK]).collect());
+    std::array::from_fn(|side| yardstick * ratio(side))
 }

@@ -1,6 +1,6 @@
 //! Two tables: the proved engine beside the plain Rust engine, the limits of both, and SQLite in
-//! memory; and the steps of each kind alone. The sides take turns in one run, and each counts with
-//! its least processor time, so that a busy machine spoils little. `bench/run` builds what is needed
+//! memory; and the steps of each kind alone. The sides take turns in one run, and the median of their
+//! ratios in a turn counts, so that a machine whose speed changes spoils little. `bench/run` builds what is needed
 //! and runs this.
 
 mod checks;
@@ -25,7 +25,7 @@ fn kinds_named() -> Option<Vec<u32>> {
 fn main() {
     let named = kinds_named();
     let seed = sites::SEED;
-    println!("processor time, the least of several turns; seed {seed}\n");
+    println!("processor time, medians of several turns; seed {seed}\n");
     let mut rng = Rng::new(u64::from(seed));
     let largest = full_book(&mut rng, &sites::largest(), 50);
     let medium = full_book(&mut rng, &sites::medium(90), 50);
@@ -35,8 +35,8 @@ fn main() {
     }
     let kinds = named.filter(|kinds| !kinds.is_empty()).unwrap_or((1..=20).collect());
     table::head_of_kinds(&["medium site", "largest site"]);
-    let medium = steps::Site { book: &medium, requests: 5000, removals: 5000, turns: 40 };
-    let largest = steps::Site { book: &largest, requests: 100_000, removals: 5000, turns: 7 };
+    let medium = steps::Site { book: &medium, requests: 20_000, removals: 5000, turns: 41 };
+    let largest = steps::Site { book: &largest, requests: 100_000, removals: 5000, turns: 9 };
     steps::by_kinds(&[medium, largest], &kinds);
 }
 

@@ -36,7 +36,7 @@ impl Copy<'_> {
     }
 }
 
-/// The least times of a list on a copy of the book, the proved engine's first.
+/// The times of a list on a copy of the book, the proved engine's first.
 fn list_times(book: &[u32], list: &[u32], count: usize) -> [f64; 2] {
     let copy = Copy::of(book, list.len() / 7 * 3);
     copy.time(|words, answers| caviar::requests_words(words, list, answers));
@@ -51,20 +51,29 @@ fn list_times(book: &[u32], list: &[u32], count: usize) -> [f64; 2] {
     )
 }
 
-/// The least times of checking a copy of the book, as a list begins.
-fn check_times(book: &[u32]) -> [f64; 2] {
-    let copy = Copy::of(book, 0);
+/// The times of a list on a copy of the book without its check: in each turn a check is timed just before the list and taken
+/// off, so that both are of the same moment.
+fn step_times(book: &[u32], list: &[u32], count: usize) -> [f64; 2] {
+    let copy = Copy::of(book, list.len() / 7 * 3);
+    let without = |check: &dyn Fn(&[u32]), answer: &dyn Fn(&mut [u32], &mut [u32])| {
+        let checked = copy.time(|words, _| check(black_box(words)));
+        copy.time(|words, answers| answer(words, answers)) - checked
+    };
     turns(
-        40,
-        [&mut || copy.time(|words, _| assert_eq!(caviar::check(black_box(words)).number, 0)), &mut || {
-            copy.time(|words, _| assert_eq!(plain::check(black_box(words)).number, 0))
-        }],
+        count,
+        [
+            &mut || {
+                without(&|words| assert_eq!(caviar::check(words).number, 0), &|words, answers| {
+                    _ = black_box(caviar::requests_words(words, black_box(list), answers));
+                })
+            },
+            &mut || {
+                without(&|words| assert_eq!(plain::check(words).number, 0), &|words, answers| {
+                    _ = black_box(plain::requests(words, black_box(list), answers));
+                })
+            },
+        ],
     )
-}
-
-/// What is left of the times of lists without the check.
-fn steps(lists: [f64; 2], checks: [f64; 2]) -> [f64; 2] {
-    [lists[0] - checks[0], lists[1] - checks[1]]
 }
 
 /// The rows of one site.
@@ -76,7 +85,7 @@ pub fn measure(name: &str, book: &[u32], count: usize) {
     let each = |time: f64| format!("{:.1} ns", time / count as f64 * 1e9);
     let note = format!("each of {count} requests of all kinds");
     row(&format!("requests, {name}"), lists, each, &format!("{note}, one check"));
-    row(&format!("steps, {name}"), steps(lists, check_times(book)), each, &format!("{note}, without the check"));
+    row(&format!("steps, {name}"), step_times(book, &list, 31), each, &format!("{note}, without the check"));
     one_request(name, book, &requests);
 }
 
@@ -103,7 +112,7 @@ pub fn orders(name: &str, book: &[u32], count: usize) {
     }
 }
 
-/// The least times of a list of orders on a copy of the book.
+/// The times of a list of orders on a copy of the book.
 fn order_times(book: &[u32], list: &[u32], count: usize) -> [f64; 2] {
     let copy = Copy::of(book, list.len() / 8 * 3);
     copy.time(|words, answers| caviar::orders_words(words, list, answers));
@@ -175,7 +184,7 @@ pub fn ask_and_commit(name: &str, book: &[u32]) {
 /// A call with one request on a book; the number of its answer.
 type Single<'a> = &'a dyn Fn(&mut [u32], [u32; 7]) -> u32;
 
-/// The least times of two calls over the same requests, in turns.
+/// The times of two calls over the same requests, in turns.
 fn of_requests(copy: &Copy, requests: &[[u32; 7]], ours: Single, theirs: Single) -> [f64; 2] {
     let (mut our_turn, mut their_turn) = (0, 0);
     let turn = |at: &mut usize, call: Single| {
@@ -247,14 +256,14 @@ pub struct Site<'a> {
 
 /// The steps of each kind alone, on the same books.
 pub fn by_kinds(sites: &[Site], kinds: &[u32]) {
-    let checks: Vec<[f64; 2]> = sites.iter().map(|site| check_times(site.book)).collect();
     for kind in kinds {
         let mut line = Row::of(*kind);
-        for (site, checks) in sites.iter().zip(&checks) {
+        for site in sites {
             let settings = Settings::of_book(site.book).expect("a full book");
             let count = if *kind == 3 { site.removals } else { site.requests };
             let list = of_kind(&settings, *kind, count);
-            let times = steps(list_times(site.book, &list, site.turns), *checks);
+            list_times(site.book, &list, 1);
+            let times = step_times(site.book, &list, site.turns);
             line.add(times.map(|time| time / count as f64 * 1e9));
         }
         line.print();
@@ -268,7 +277,8 @@ pub fn by_dates() {
     let mut proved = Vec::new();
     for dates in [90, 360] {
         let book = full_book(&mut Rng::new(u64::from(SEED)), &medium(dates), 50);
-        let times = steps(list_times(&book, &list, 15), check_times(&book));
+        list_times(&book, &list, 1);
+        let times = step_times(&book, &list, 31);
         let each = |time: f64| format!("{:.1} ns", time / 20_000.0 * 1e9);
         let note = format!("book of {} words, same requests", book.len());
         row(&format!("steps, medium site, D {dates}"), times, each, &note);
