@@ -2,24 +2,19 @@
 -- Assumes nothing.
 use Prim.Native.Nat.{ℕ}
 use mathlib.Core.Path.{_≡_, refl, sym, _∙_, ap, ap₂}
-use mathlib.Core.Bool.{Bool, true, false, cond}
 use mathlib.Core.Option.{Option, none, some}
 use mathlib.Core.List.{List, [], _∷_, _++_, append-nil}
-use native.Mathlib.Omega.{arith}
 use lib.ListN.{drop}
 use Rattle.model.specs.declared.Settings.{Settings}
 use Rattle.model.specs.declared.Request.{Request}
 use Rattle.model.specs.declared.Answer.{Answer}
-use Rattle.model.specs.declared.Answer.the-variants.{Refused}
-use Rattle.model.specs.Messages.{orderLength, answerWords, sameRequest}
-use Rattle.model.specs.Tail.{entryAt, keptAt}
-use Rattle.model.specs.Machine.{ordered, Reply, told, asked, replyWords, answerOrder, perform}
+use Rattle.model.specs.Messages.{orderLength, answerWords}
+use Rattle.model.specs.Tail.{keptAt}
+use Rattle.model.specs.Machine.{ordered, Reply, told, replyWords, answerOrder, perform}
 use Rattle.model.specs.Ledger.{Ledger, ledgerOf}
 use Rattle.model.specs.Calls.{Calls, called, calls, callsOf, repliesWords}
-use Rattle.model.proofs.Told.{Tellable, refused-tellable, read, told-back}
-use Rattle.model.proofs.Counting.{counted-tellable}
-use Rattle.model.proofs.Tail.{kept-place}
-use Rattle.model.proofs.Ledger.{LedgerSound, ledger-sound}
+use Rattle.model.proofs.Told.{Tellable, read, told-back}
+use Rattle.model.proofs.Ledger.{ledger-sound}
 use Rattle.book.specs.Good.{GoodBook, answered}
 use Rattle.engine.specs.Lists.{All}
 use Rattle.step.proofs.Kept.{toldAnswer, order-tellable, good-calls}

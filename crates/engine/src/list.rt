@@ -13,7 +13,7 @@ ghost use mathlib.Core.List.{[], _∷_};
 ghost use Prim.Native.Nat.{_+_, _*_, _/_, _≤_, min};
 ghost use lib.ListN.{length, getD, take, drop};
 ghost use Rattle.model.specs.Machine;
-ghost use Rattle.model.specs.Messages.{requestLength, orderLength, requestOf, answerWords};
+ghost use Rattle.model.specs.Messages.{requestLength, orderLength, requestOf};
 ghost use Rattle.model.specs.Machine.{ordered};
 ghost use Rattle.model.specs.Words.{diaryLength};
 ghost use Rattle.model.specs.Ledger.{ledgerOf};

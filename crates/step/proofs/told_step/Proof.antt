@@ -1,10 +1,10 @@
 -- `told_step`: an order that is kept is answered from the ring; else the request without an order, and its answer kept in the ring.
 -- Assumes nothing.
-use mathlib.Core.Path.{sym, _∙_, ap, ap₂}
+use mathlib.Core.Path.{_∙_, ap, ap₂}
 use native.Mathlib.Omega.{arith}
 use lib.ListN.{length}
 use Rattle.model.specs.declared.Answer.{Answer}
-use Rattle.model.specs.Tail.{Tail, entryAt, noted, tailWords, tailOf, tailKept}
+use Rattle.model.specs.Tail.{Tail, entryAt, noted, tailWords}
 use Rattle.model.specs.Ledger.{ledgerOf}
 use Rattle.model.specs.Machine.{keptAnswer}
 use Rattle.model.proofs.Tail.{kept-place}
