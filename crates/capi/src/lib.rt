@@ -1,4 +1,6 @@
 // The engine for C and Rust. Every function takes any words: none has a `requires`.
+#![tactic(auto)]
+
 ghost use Rattle.std.specs.Prelude.{◌≡◌, cond, [], ◌∷◌};
 ghost use Rattle.model.specs.Messages.{answer_words, request_length, order_length};
 ghost use Rattle.model.specs.Machine.{asked, reply_words};

@@ -1,4 +1,6 @@
 // Checking a book: questions 1 and 2 in one pass over its words, date by date, and then the ring.
+#![tactic(auto)]
+
 mod dates;
 mod rows;
 

@@ -1,5 +1,7 @@
 // Requests on a book: a request on any words, with or without an order, what it would be answered, a request at a change count, a list of
 // requests, and a list from a freshly laid book.
+#![tactic(auto)]
+
 pub mod list;
 
 ghost use Rattle.std.specs.Prelude.{◌≡◌};

@@ -6,6 +6,8 @@
 // Trusted: libc's `read` and `write`, of which no contract says what they move. That is, that `read` leaves the next bytes of standard
 // input at the front of `chunk` and answers how many; that `write` takes the first bytes that it is handed and answers how many; and that
 // either answers -1 where it failed, and `read` 0 at the end of the input alone.
+#![tactic(auto)]
+
 ghost use Rattle.std.specs.Prelude.{◌≡◌, ◌*◌, ◌≤◌, length};
 ghost use Rattle.lines.specs.Post.{Going, Begun};
 ghost use Rattle.model.specs.Lines.{answer_bytes, program_words};

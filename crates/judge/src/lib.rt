@@ -1,4 +1,6 @@
 // The answers of requests on a good book, kind by kind: reads only.
+#![tactic(auto)]
+
 pub mod answers;
 pub mod asking;
 pub mod eager;

@@ -1,3 +1,5 @@
 // Lines: the settings line, and the stream of chunks.
+#![tactic(auto)]
+
 pub mod lay;
 pub mod stream;

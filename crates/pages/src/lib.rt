@@ -1,4 +1,6 @@
 // The porter's page: for one date a line for each session and conference room in use, at the front of a lent page.
+#![tactic(auto)]
+
 mod counts;
 mod lines;
 mod tally;

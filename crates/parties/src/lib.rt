@@ -1,5 +1,7 @@
 // A party: many guests for one meeting, all of them or none. The guests are lent as a slice of structs; a thin loop takes them apart, and
 // what is done with their words is in `words`.
+#![tactic(auto)]
+
 mod guest;
 pub mod words;
 

@@ -1,6 +1,8 @@
 // The ring of kept orders, which stands behind the diary: where an order is kept, the answer to one that is, and keeping one. Every
 // function here is lent the tail of a book: the entries, eleven words each, and behind them the next place. Behind the tail stands the
 // change count (`changes`).
+#![tactic(auto)]
+
 pub mod changes;
 pub mod law;
 

@@ -1,5 +1,7 @@
 // One request on a good diary, where every question is answered before the first word is written, and on a good book with its ring and
 // its change count; and the answer that a request would get, by reading alone.
+#![tactic(auto)]
+
 pub mod asking;
 pub mod meetings;
 pub mod visitors;

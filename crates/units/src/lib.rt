@@ -1,4 +1,6 @@
 // The three units: sessions and times have a date. Nothing else turns one unit into another.
+#![tactic(auto)]
+
 ghost use Rattle.std.specs.Prelude.{◌≡◌, true, ◌+◌, ◌*◌, ◌-◌, ◌≤◌, ◌<◌, leb};
 ghost use Rattle.model.specs.Site.{date_of_session, date_of_time};
 ghost use Rattle.model.specs.Kinds.{sessions, times};
