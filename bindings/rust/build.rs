@@ -10,7 +10,7 @@ fn main() {
     };
     let library = folder.join("libcapi.a");
     if !library.exists() {
-        println!("cargo:warning=no {}: run `rt staticlib capi`, or set CAVIAR_LIB_DIR", library.display());
+        println!("cargo:warning=no {}: run `tools/build-library`, or set CAVIAR_LIB_DIR", library.display());
     }
     println!("cargo:rerun-if-changed={}", library.display());
     println!("cargo:rustc-link-search=native={}", folder.display());

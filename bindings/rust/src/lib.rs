@@ -18,7 +18,7 @@
 //! assert_eq!(caviar::check(&book).result(), Ok(0));
 //! ```
 //!
-//! `rt staticlib capi` writes the library that the build script links. Another folder that holds
+//! `tools/build-library` writes the library that the build script links. Another folder that holds
 //! libcapi.a is named by the variable `CAVIAR_LIB_DIR`.
 
 mod ffi;
