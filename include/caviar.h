@@ -186,7 +186,7 @@
  *     answer = caviar_order(book, 771, 17, hotel);                 0 0 0: the answer of order 17
  *     answer = caviar_request(book, 771, hotel);                   11 0 0: the room is booked already
  *
- * examples/c/visit.c is a whole program. Link with target/staticlib/libcapi.a, which `rt staticlib capi` writes:
+ * examples/c/visit.c is a whole program. Link with target/staticlib/libcapi.a, which `tools/build-library` writes:
  *
  *     gcc -Iinclude prog.c target/staticlib/libcapi.a
  */

@@ -1,7 +1,7 @@
 /* A visit of two dates, from C: lay a book, ask for leave, a hotel room and a meeting, see a refusal, check the book, write the
  * porter's page of a date, add a party, send an order twice, see first and then book, bill the meeting, and take a taxi before breakfast.
  *
- *     rt staticlib capi
+ *     tools/build-library
  *     gcc -Iinclude examples/c/visit.c target/staticlib/libcapi.a -o target/visit && target/visit
  */
 #include <stdio.h>

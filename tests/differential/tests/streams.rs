@@ -13,11 +13,11 @@ use std::process::{Child, Command, Stdio};
 use std::thread;
 use std::time::Duration;
 
-/// The program, which `rt check` and `rt ci` build.
+/// The program, which `tools/build-frames` builds.
 fn program() -> Child {
     let path = PathBuf::from(env!("CARGO_MANIFEST_DIR")).join("../../target/bin/frames");
     let started = Command::new(&path).stdin(Stdio::piped()).stdout(Stdio::piped()).spawn();
-    started.unwrap_or_else(|error| panic!("{}: {error}; `rt check frames` builds it", path.display()))
+    started.unwrap_or_else(|error| panic!("{}: {error}; `tools/build-frames` builds it", path.display()))
 }
 
 /// What the program writes for the pieces, each written by itself. It may end before it reads them

@@ -111,12 +111,12 @@ pub fn raised(state: &State, by: u32) -> State {
     State { changes: state.changes + by, ..state.clone() }
 }
 
-/// "ofKind": the request with another kind, seats and information 0.
+/// "of_kind": the request with another kind, seats and information 0.
 pub fn of_kind(kind: u32, request: &Request) -> Request {
     Request { kind, n: 0, info: 0, ..*request }
 }
 
-/// "onlyB": the same without a.
+/// "only_b": the same without a.
 pub fn only_b(kind: u32, request: &Request) -> Request {
     Request { a: 0, ..of_kind(kind, request) }
 }
