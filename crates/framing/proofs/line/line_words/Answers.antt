@@ -19,7 +19,7 @@ loop-k-preserved c =
     let line = c.args.line.now in (
       search rules,
       search rules,
-      ap (λ (w : ℕ). take (l.k + 1) (set l.words l.k w)) (c.word_at-read.ensures.shows (digits_of line l.k c.requires.0 (omega arith)))
+      ap (λ (w : ℕ). take (l.k + 1) (set l.words l.k w)) (c.word_at-read.ensures.shows (digits_of line l.k c.requires.line_value (omega arith)))
           ∙ words_more line l.words l.k (omega arith) (omega (arith, c.requires)) l.invariant.2,
     )
 
