@@ -24,7 +24,7 @@ const CHUNK: usize = 65536;
 const ANSWERS_ROOM: usize = ANSWER_BYTES * CHUNK;
 
 // How a turn went: there may be more input; there is none, or none that is read; reading failed; writing failed.
-#[derive(Drop)]
+#[derive(Clone, Copy)]
 pub enum Sign {
     More,
     Ended,
@@ -34,7 +34,7 @@ pub enum Sign {
 
 // What `read` answered in a turn, and how many bytes that is; where the stream is then; how many bytes are handed to `write`; and how the
 // turn went.
-#[derive(Drop)]
+#[derive(Clone, Copy)]
 pub struct Turn {
     pub got: isize,
     pub read: usize,
@@ -44,14 +44,14 @@ pub struct Turn {
 }
 
 // How many bytes were handed to `write`, and whether it took them all.
-#[derive(Drop)]
+#[derive(Clone, Copy)]
 pub struct Sent {
     pub handed: usize,
     pub is_written: bool,
 }
 
 // How the last turn went, how many bytes were handed to `write` behind it, and whether that took them.
-#[derive(Drop)]
+#[derive(Clone, Copy)]
 pub struct End {
     pub sign: Sign,
     pub wrote: usize,
