@@ -1,6 +1,6 @@
 -- The sign of a turn: which signs say that the input ended, and which that all was written.
 -- Assumes nothing.
-use Rattle.std.proofs.Common.{ℕ, zero, suc, ◌≡◌, ◌*◌, ◌≤◌, Bool, true, false, Result, Ok, Err, ◌⊎◌, inl, inr, refl, sym, ◌∙◌, ap}
+use Rattle.std.proofs.Common.{ℕ, zero, suc, ◌≡◌, true, false, Result, Ok, Err, ◌⊎◌, inl, inr, refl, ap}
 use Rattle.std.specs.Prelude.{⊤}
 use Rattle.std.specs.declared.io.Error.{Error}
 use Rattle.model.proofs.Search.{both}

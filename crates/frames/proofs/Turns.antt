@@ -1,8 +1,8 @@
 -- The program's turns, one after the other.
 -- Assumes nothing.
-use Rattle.std.proofs.Common.{ℕ, ◌≡◌, ◌+◌, ◌*◌, ◌≤◌, ◌<◌, Bool, true, false, List, [], ◌++◌, length, take, Option, None, Some, IfSome, Result, Ok, Err, OnOk, ◌⊎◌, inl, inr, refl, sym, ap, ◌∙◌, subst, append-nil, arith}
+use Rattle.std.proofs.Common.{ℕ, ◌≡◌, ◌*◌, ◌≤◌, ◌<◌, Bool, true, false, List, [], ◌∷◌, ◌++◌, length, take, Option, IfSome, Result, Ok, Err, OnOk, ◌⊎◌, inl, inr, refl, sym, ap, ◌∙◌, subst, append-nil, arith}
 use Rattle.std.specs.Prelude.{⊤}
-use Rattle.std.specs.Io.KnownBytes.{Appends, Consumes, ReadConsumes, IsAtEnd}
+use Rattle.std.specs.Io.KnownBytes.{Appends, Consumes, IsAtEnd}
 use Rattle.std.specs.declared.io.Error.{Error}
 use Rattle.std.proofs.KnownBytes.{Consumes-trans, Consumes-nil, Appends-trans, Appends-nil, Consumes-whole}
 use Rattle.model.specs.Lines.{answer_bytes, frames}
@@ -13,9 +13,7 @@ use Rattle.lines.specs.declared.stream.Phase.{Phase}
 use Rattle.lines.specs.declared.stream.Phase.TheVariants.{Over}
 use Rattle.lines.specs.declared.stream.Stream.{Stream}
 use Rattle.lines.proofs.Program.{Ran, ran-none, ran-more, ran_ends, ran_over}
-use Rattle.frames.specs.declared.End.{End}
 use Rattle.frames.specs.declared.Turn.{Turn}
-use Rattle.frames.specs.declared.Sign.{Sign}
 use Rattle.frames.specs.declared.Sign.TheVariants.{More, Ended}
 use Rattle.frames.specs.Run.{heard, count_of, signed, is_end, is_put, Turned, Carried, Finished, Driven}
 use Rattle.frames.proofs.Signs.{put_more, put_end, end_unput, ended_by, unput_by}
@@ -78,40 +76,44 @@ since-more {r} {r₁} {r₂} {w} {w₁} {w₂} {k} {chunk = chunk} {out = out} {
     by_end z (inl h) = inl (c.last (subst (λ (n : ℕ). 0 < n) e z) h)
     by_end z (inr h) = inr h
 
-module _ {r r₁ w w₁ w₂ : Option (List ℕ)} {k wrote handed : ℕ} {t : Turn} {b b' out : List ℕ} (q : Result ⊤ Error)
-    (v : Since r r₁ w w₁ k t b) (f : Finished t.sign t.stream b wrote b' out) (e : handed ≡ wrote)
-    (whole : OnOk q (Appends w₁ w₂ (take handed out))) (part : (n : ℕ) × Appends w₁ w₂ (take n (take handed out))) where
-  all_out : is_end t.sign ≡ true → v.output ++ take handed out ≡ frames v.input
-  all_out h = ran_ends v.ran (ap (λ (n : ℕ). take n out) e ∙ f.last h)
+module _ (w₂ : Option (List ℕ)) {r r₁ w w₁ : Option (List ℕ)} {k wrote : ℕ} {t : Turn} {b b' out : List ℕ} (q : Result ⊤ Error)
+    (v : Since r r₁ w w₁ k t b) (f : Finished t.sign t.stream b wrote b' out)
+    (whole : OnOk q (Appends w₁ w₂ (take wrote out))) (part : (n : ℕ) × Appends w₁ w₂ (take n (take wrote out))) where
+  all_out : is_end t.sign ≡ true → v.output ++ take wrote out ≡ frames v.input
+  all_out h = ran_ends v.ran (f.last h)
 
-  given : (q : Result ⊤ Error) → OnOk q (Appends w₁ w₂ (take handed out)) → is_put t.sign ≡ true → OnOk q (Appends w w₂ (v.output ++ take handed out))
+  given : (q : Result ⊤ Error) → OnOk q (Appends w₁ w₂ (take wrote out)) → is_put t.sign ≡ true → OnOk q (Appends w w₂ (v.output ++ take wrote out))
   given (Ok u) a h = Appends-trans w w₁ w₂ _ _ (v.given h) a
   given (Err x) a h = tt
 
-  parts : (p : Bool) → is_put t.sign ≡ p → (n : ℕ) × Appends w w₂ (take n (v.output ++ take handed out))
+  parts : (p : Bool) → is_put t.sign ≡ p → (n : ℕ) × Appends w w₂ (take n (v.output ++ take wrote out))
   parts true h = Appends-part w w₁ w₂ _ _ (v.given h) part
   parts false h =
-      let z : take handed out ≡ [] = ap (λ (n : ℕ). take n out) (e ∙ (f.none (end_unput t.sign h)).0) in
+      let z : take wrote out ≡ [] = ap (λ (n : ℕ). take n out) (f.none (end_unput t.sign h)).0 in
       Appends-still w w₁ w₂ _ _ z v.part part
 
-  -- and the end
-  pub driven : Driven r r₁ w w₂ (record { sign = t.sign; wrote = handed; put = q }) out
-  driven =
+  -- the end, by the number of bytes that `finish` wrote
+  ended : Driven r r₁ w w₂ (record { sign = t.sign; wrote = wrote; put = q }) out
+  ended =
       record {
         input = v.input;
         output = v.output;
         whole = all_out;
-        lines = λ h. (e ∙ (f.none h).0, sym (ap (λ (t : Written). t.out) v.ran.same));
+        lines = λ h. ((f.none h).0, sym (ap (λ (t : Written). t.out) v.ran.same));
         taken = v.taken;
         given = given q whole;
         part = parts (is_put t.sign) refl;
       }
 
+  -- and by the number of those that were handed to `write`
+  pub driven : {handed : ℕ} → handed ≡ wrote → Driven r r₁ w w₂ (record { sign = t.sign; wrote = handed; put = q }) out
+  driven e = subst (λ (n : ℕ). Driven r r₁ w w₂ (record { sign = t.sign; wrote = n; put = q }) out) (sym e) ended
+
   -- what is left of the input is not answered behind a refused settings line
   over : t.stream.phase ≡ Over → (rest : List ℕ) → frames v.input ≡ frames (v.input ++ rest)
   over h rest = ap frames (sym (append-nil v.input)) ∙ sym (ran_over v.ran h []) ∙ ran_over v.ran h rest
 
-  gained : (q : Result ⊤ Error) → OnOk q (Appends w₁ w₂ (take handed out)) → is_end t.sign ≡ true → OnOk q (Appends w w₂ (frames v.input))
+  gained : (q : Result ⊤ Error) → OnOk q (Appends w₁ w₂ (take wrote out)) → is_end t.sign ≡ true → OnOk q (Appends w w₂ (frames v.input))
   gained (Ok u) a h = subst (Appends w w₂) (all_out h) (given (Ok u) a (put_end t.sign h))
   gained (Err x) a h = tt
 

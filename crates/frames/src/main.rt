@@ -107,10 +107,10 @@ fn is_end(sign: Sign) -> bool
     }
 }
 
-fn goes_on(sign: Sign) -> bool
-    ensures { result ≡ goes_on sign }
+fn goes_on(turn: &Turn) -> bool
+    ensures { result ≡ goes_on turn.now.sign }
 {
-    match sign {
+    match turn.sign {
         Sign::More => true,
         Sign::Ended => false,
         Sign::Unread(_) => false,
@@ -153,19 +153,31 @@ fn send<W: Write>(output: &mut W, bytes: &[u8]) -> Sent
     let mut sent = 0;
     for _ in 0..u64::MAX {
         if sent == handed {
-            return Sent { handed, put: Ok(()) };
+            return Sent {
+                handed,
+                put: Ok(()),
+            };
         }
         match output.write(&bytes[sent..]) {
-            Ok(0) => return Sent { handed, put: Err(not_taken()) },
+            Ok(0) => return Sent {
+                handed,
+                put: Err(not_taken()),
+            },
             Ok(n) => sent += n,
             Err(e) => {
                 if !is_interrupted(&e) {
-                    return Sent { handed, put: Err(e) };
+                    return Sent {
+                        handed,
+                        put: Err(e),
+                    };
                 }
             }
         }
     }
-    Sent { handed, put: Err(not_taken()) }
+    Sent {
+        handed,
+        put: Err(not_taken()),
+    }
 }
 
 // Bytes were handed to `write`, and it took none of them.
@@ -255,7 +267,7 @@ fn drive<R: Read, W: Write>(
 {
     let mut turn = start();
     for _ in 0..u64::MAX {
-        if !goes_on(turn.sign) {
+        if !goes_on(&turn) {
             break;
         }
         let before = turn.stream;
@@ -302,6 +314,12 @@ fn main(rt: HostRuntime) -> ExitCode {
     let mut book = [0u32; PROGRAM_WORDS];
     let mut chunk = [0u8; CHUNK];
     let mut out = answers();
-    let end = drive(&mut rt.stdin(), &mut rt.stdout(), &mut book, &mut chunk, &mut out);
+    let end = drive(
+        &mut rt.stdin(),
+        &mut rt.stdout(),
+        &mut book,
+        &mut chunk,
+        &mut out,
+    );
     status(&rt, end)
 }

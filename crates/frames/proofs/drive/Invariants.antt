@@ -11,6 +11,6 @@ invariant-loop g l =
     (g.R.Read.remaining l.input)
     (g.W.Write.contents l.initial.output)
     (g.W.Write.contents l.output)
-    (length l.chunk)
+    (length l.initial.chunk)
     l.turn
     l.book
