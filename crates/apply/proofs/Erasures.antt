@@ -43,7 +43,7 @@ module _ {S : Settings} (x : State) {b : List ℕ} (a : Carries S x b) (t : ℕ 
       → Carries S (with_leave x (λ d u. turned on (x.leave d u) (t d && eqb u v))) (marked_all (grid_of S leaves) on v from to b)
   unfolding word
   leave-bits on v h most agree =
-      bits a leaves t from to most agree (with_leave x (λ d u. turned on (x.leave d u) (t d && eqb u v))) (leave-frame x _) refl on v
+      bits a leaves t from to most agree (with_leave x (λ d u. turned on (x.leave d u) (t d && eqb u v))) (leave-frame x (λ d u. turned on (x.leave d u) (t d && eqb u v))) refl on v
       (group-lt S.visitors v h)
       (λ i j k c. turned-bits on (x.leave i) (t i) v j)
 
@@ -51,7 +51,7 @@ module _ {S : Settings} (x : State) {b : List ℕ} (a : Carries S x b) (t : ℕ 
       → Carries S (with_standing x (λ i u. turned on (x.standing i u) (t i && eqb u m))) (marked_all (grid_of S standings) on m from to b)
   unfolding word
   standing-bits on m h most agree =
-      bits a standings t from to most agree (with_standing x (λ i u. turned on (x.standing i u) (t i && eqb u m))) (standing-frame x _) refl on m
+      bits a standings t from to most agree (with_standing x (λ i u. turned on (x.standing i u) (t i && eqb u m))) (standing-frame x (λ i u. turned on (x.standing i u) (t i && eqb u m))) refl on m
       (group-lt S.meetings m h)
       (λ i j k c. turned-bits on (x.standing i) (t i) m j)
 

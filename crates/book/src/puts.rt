@@ -6,7 +6,7 @@ ghost use Rattle.book.specs.Stores.{puts, replaced, stored, cleared, Wrote};
 use crate::grid::{Grid, at};
 
 // What a cell holds: the entry, and the words beside it, as many as the cell has.
-#[derive(Drop)]
+#[derive(Clone, Copy)]
 pub struct Content {
     pub entry: u32,
     pub second: u32,

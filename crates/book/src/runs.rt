@@ -90,7 +90,7 @@ fn one_if_any(n: u32) -> usize
 }
 
 // How many blocks of a run hold w, and how many of their words are w.
-#[derive(Drop)]
+#[derive(Clone, Copy)]
 pub struct Holding {
     pub blocks: usize,
     pub words: u32,
@@ -168,7 +168,7 @@ fn clear_long(book: &mut [u32], w: u32, start: usize, end: usize) -> u32
 }
 
 // The words from `start` to before `end`.
-#[derive(Drop)]
+#[derive(Clone, Copy)]
 pub struct Extent {
     pub start: usize,
     pub end: usize,

@@ -22,7 +22,7 @@ use parties::party;
 
 // An answer as three words: a number, which is 0 where the call is done, a place and a value.
 #[repr(C)]
-#[derive(Drop)]
+#[derive(Clone, Copy)]
 pub struct AnswerWords {
     pub number: u32,
     pub place: u32,
@@ -31,7 +31,7 @@ pub struct AnswerWords {
 
 // What asking gives: the three words of an answer, and the change count.
 #[repr(C)]
-#[derive(Drop)]
+#[derive(Clone, Copy)]
 pub struct AskedWords {
     pub number: u32,
     pub place: u32,
@@ -41,7 +41,7 @@ pub struct AskedWords {
 
 // A request's seven words.
 #[repr(C)]
-#[derive(Drop)]
+#[derive(Clone, Copy)]
 pub struct RequestWords {
     pub kind: u32,
     pub a: u32,
@@ -224,7 +224,7 @@ pub extern "C" fn caviar_party(book: &mut [u32], meeting: u32, guests: &[Guest])
 
 // What a meeting is charged: a number, which is 0 where the call is done, a place, and a value of 64 bits, the cents.
 #[repr(C)]
-#[derive(Drop)]
+#[derive(Clone, Copy)]
 pub struct ChargedWords {
     pub number: u32,
     pub place: u32,

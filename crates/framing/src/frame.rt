@@ -11,7 +11,7 @@ pub const REQUEST_DIGITS: usize = 8 * 7;
 pub const ORDER_DIGITS: usize = REQUEST_DIGITS + 8;
 
 // What seven words are read as: whether all their bytes are digits, and the request that they show if they are.
-#[derive(Drop)]
+#[derive(Clone, Copy)]
 pub struct Asked {
     pub digits: bool,
     pub request: Request,

@@ -34,7 +34,7 @@ pub fn line_end(s: &[u8]) -> usize
 
 // What stands at the front of the input: a frame line of some length, with its call; another line of some length; or a line that is not
 // over.
-#[derive(Drop)]
+#[derive(Clone, Copy)]
 pub enum Next {
     Frame {
         len: usize,

@@ -12,14 +12,14 @@ ghost use Rattle.kinds.specs.Rows.{row_of, named as named_field, plain as plain_
 use model::Settings;
 
 // The field a or b of a kind: whether it is used, and its limit, 0 where it has none.
-#[derive(Drop)]
+#[derive(Clone, Copy)]
 pub struct Field {
     pub used: bool,
     pub limit: u32,
 }
 
 // A row of the table: the fields a and b, the number of slots of the kind's unit, whether n and info are used, and whether first = last.
-#[derive(Drop)]
+#[derive(Clone, Copy)]
 pub struct Row {
     pub a: Field,
     pub b: Field,

@@ -17,7 +17,7 @@ const DINING_MOST: usize = 16;
 pub const SETTINGS_WORDS: usize = FIXED_WORDS + DINING_MOST;
 
 // What a settings line gives: the length of the book that is laid, or the number of a refusal.
-#[derive(Drop)]
+#[derive(Clone, Copy)]
 pub enum Laid {
     Book(usize),
     Refused(u32),

@@ -22,13 +22,13 @@ const HELD_MOST: usize = 8 * SETTINGS_WORDS + 1;
 const HELD_ROOM: usize = HELD_MOST + 1;
 
 // The bytes of a line that is not over.
-#[derive(Drop)]
+#[derive(Clone, Copy)]
 pub struct Held {
     pub bytes: [u8; HELD_ROOM],
     pub len: usize,
 }
 
-#[derive(Drop)]
+#[derive(Clone, Copy)]
 pub enum Phase {
     Opening,
     Later,
@@ -37,7 +37,7 @@ pub enum Phase {
 
 // Where the program is: in the settings line, in a later line, or past a refused settings line; behind a good settings line the
 // book is the first `size` words that are lent.
-#[derive(Drop)]
+#[derive(Clone, Copy)]
 pub struct Stream {
     pub held: Held,
     pub phase: Phase,
@@ -45,14 +45,14 @@ pub struct Stream {
 }
 
 // The stream after a chunk, and how many bytes are written.
-#[derive(Drop)]
+#[derive(Clone, Copy)]
 pub struct Fed {
     pub stream: Stream,
     pub wrote: usize,
 }
 
 // A line is over: whether more lines are read, the book's length, and how many bytes are written.
-#[derive(Drop)]
+#[derive(Clone, Copy)]
 pub struct Ended {
     pub more: bool,
     pub size: usize,
@@ -60,14 +60,14 @@ pub struct Ended {
 }
 
 // The answer of a line, and how many bytes of the input it took; none if the line is not over.
-#[derive(Drop)]
+#[derive(Clone, Copy)]
 pub struct Taken {
     pub used: usize,
     pub answer: Answer,
 }
 
 // How many bytes of a chunk were whole lines, and how many bytes are written.
-#[derive(Drop)]
+#[derive(Clone, Copy)]
 pub struct Progress {
     pub used: usize,
     pub wrote: usize,

@@ -20,7 +20,7 @@ const ERASE_ATTEND: u32 = 11;
 const MOST_GUESTS: usize = 64;
 
 // How many guests were added, and the answer: done, or the first refusal.
-#[derive(Drop)]
+#[derive(Clone, Copy)]
 struct Added {
     guests: usize,
     answer: Answer,

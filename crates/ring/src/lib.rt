@@ -29,7 +29,7 @@ pub const NEXT: usize = 704;
 
 // An answer as the three words in which it is kept and written: a number, 0 where it is done, a place and a value. From a step on answers
 // are handed on like this: words are merged in registers where the kinds come together, an enum is not.
-#[derive(Drop)]
+#[derive(Clone, Copy)]
 pub struct Told {
     pub number: u32,
     pub place: u32,

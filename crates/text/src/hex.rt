@@ -8,7 +8,7 @@ ghost use Rattle.text.specs.Put.{Put};
 use crate::store::put;
 
 // What eight bytes are read as: whether all of them are digits, and the word that they show if they are.
-#[derive(Drop)]
+#[derive(Clone, Copy)]
 pub struct Read {
     pub word: u32,
     pub digits: bool,

@@ -173,7 +173,7 @@ fn first_slot(n: u32, each: u32, late: u32, d: u32) -> u32
 }
 
 // The slots from `from` to before `to`.
-#[derive(Drop)]
+#[derive(Clone, Copy)]
 struct Run {
     from: u32,
     to: u32,
@@ -193,14 +193,14 @@ fn slots_on(n: u32, each: u32, late: u32, first: u32, last: u32) -> Run
 }
 
 // The sessions from `from` to before `to`.
-#[derive(Drop)]
+#[derive(Clone, Copy)]
 pub struct SessionRun {
     pub from: Session,
     pub to: Session,
 }
 
 // The times from `from` to before `to`.
-#[derive(Drop)]
+#[derive(Clone, Copy)]
 pub struct TimeRun {
     pub from: Time,
     pub to: Time,

@@ -1,0 +1,12 @@
+-- One row of one-word cells is a run of one slot.
+-- Assumes nothing.
+use Rattle.book.specs.Lent.{reading}
+use mathlib.Core.Path.{◌∙◌}
+use borrow.Author.Rules.{rules}
+use Rattle.book.proofs.RowRuns.{one-row}
+use Rattle.book.proofs.rows.row_count.Goals as goal
+
+pub returns : goal.returns
+returns c =
+    let a = c.args in
+    c.rows_count.ensures ∙ one-row a.g (reading a.book.now) a.w a.slot

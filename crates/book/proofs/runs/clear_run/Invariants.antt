@@ -1,0 +1,17 @@
+-- `runs::clear_run`: the blocks before n are cleared and counted.
+-- Assumes nothing.
+use Prim.Native.Nat.{◌+◌, ◌-◌, ◌≤◌}
+use mathlib.Core.Path.{◌≡◌, refl, ◌∙◌}
+use native.Mathlib.Omega.{arith}
+use lib.ListN.{length}
+use borrow.Author.Rules.{rules}
+use Rattle.book.specs.Stores.{Cleared}
+use Rattle.book.proofs.Sweeps.{cleared-none, cleared-then, cleared-few}
+use Rattle.book.proofs.runs.clear_run.Given as goal
+
+abbrev pub invariant-loop-n : goal.invariant-loop-n
+invariant-loop-n l =
+    (length l.book ≡ length l.initial.book) × (l.start ≤ l.n) × (l.n ≤ l.end) × Cleared l.w l.start l.n l.initial.book l.book l.cleared
+
+abbrev pub decreases-loop-n : goal.decreases-loop-n
+decreases-loop-n l = l.end - l.n

@@ -1,0 +1,16 @@
+-- `runs::clear_words`: the words before n are cleared.
+-- Assumes nothing.
+use Prim.Native.Nat.{ℕ, ◌+◌, ◌-◌}
+use mathlib.Core.Path.{◌≡◌, refl, sym, ◌∙◌, ap}
+use native.Mathlib.Omega.{arith}
+use lib.ListN.{length, set, length-set}
+use borrow.Author.Rules.{rules}
+use Rattle.book.specs.Stores.{over, zeroed}
+use Rattle.book.proofs.Turns.{over-turn, over-end}
+use Rattle.book.proofs.runs.clear_words.Given as goal
+
+abbrev pub invariant-loop-n : goal.invariant-loop-n
+invariant-loop-n l = (length l.book ≡ length l.initial.book) × (over (zeroed l.w) l.n l.end l.book ≡ over (zeroed l.w) l.start l.end l.initial.book)
+
+abbrev pub decreases-loop-n : goal.decreases-loop-n
+decreases-loop-n l = l.end - l.n

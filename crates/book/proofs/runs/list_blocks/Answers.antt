@@ -1,0 +1,56 @@
+-- `runs::list_blocks`: the blocks before n that hold w are listed and counted.
+-- Assumes nothing.
+use Prim.Native.Nat.{◌+◌, ◌-◌, ◌≤◌}
+use mathlib.Core.Path.{◌≡◌, refl, ◌∙◌}
+use native.Mathlib.Omega.{arith}
+use lib.ListN.{length, length-set}
+use borrow.Author.Rules.{rules}
+use Rattle.book.specs.Stores.{Holds}
+use Rattle.book.proofs.Sweeps.{cleared-few}
+use Rattle.book.proofs.Listings.{holds-none, holds-next, listed-is, few-blocks, one-few, block-few}
+use Rattle.book.proofs.runs.list_blocks.Goals as goal
+
+pub loop-n-init : goal.loop-n-init
+loop-n-init c =
+    let a = c.args in
+    (refl, omega arith, c.requires.start_le_end.0, holds-none a.w a.start a.book.now a.places.now)
+
+pub offset_bounds-places-blocks : goal.offset_bounds-places-blocks
+offset_bounds-places-blocks c =
+    omega (arith, few-blocks c.loop-n.invariant.3 (omega (arith, c.loop-n.invariant.2, c.requires.end_bound.0)))
+
+pub bounds-places-blocks : goal.bounds-places-blocks
+bounds-places-blocks c =
+    omega (arith, c.loop-n.invariant.0, c.requires.end_bound.1, few-blocks c.loop-n.invariant.3 (omega (arith, c.loop-n.invariant.2, c.requires.end_bound.0)))
+
+pub overflow_add-blocks : goal.overflow_add-blocks
+overflow_add-blocks c =
+    omega (arith, few-blocks c.loop-n.invariant.3 (omega (arith, c.loop-n.invariant.2, c.requires.end_bound.0)), one-few c.part_count-here.result c.one_if_any-blocks.ensures)
+
+pub overflow_add-words : goal.overflow_add-words
+overflow_add-words c =
+    let t = c.loop-n-test.true in
+    let here = block-few c.args.w c.loop-n.n c.args.book.now (omega (arith, t, c.loop-n.invariant.2, c.requires.start_le_end.1)) c.part_count-here.ensures in
+    omega (arith, cleared-few c.loop-n.invariant.3.cleared, here, c.requires.start_le_end.1, c.requires.start_le_end.2, c.loop-n.invariant.2)
+
+pub loop-n-preserved : goal.loop-n-preserved
+loop-n-preserved c =
+    let t = c.loop-n-test.true in
+    let room : c.loop-n.n + 64 ≤ length c.args.book.now = omega (arith, t, c.loop-n.invariant.2, c.requires.start_le_end.1) in (
+      length-set c.loop-n.places c.loop-n.blocks _ ∙ c.loop-n.invariant.0,
+      omega (arith, c.loop-n.invariant.1),
+      omega (arith, t, c.loop-n.invariant.2),
+      holds-next c.loop-n.invariant.1 room (omega (arith, c.loop-n.invariant.0, c.requires.end_bound.1, few-blocks c.loop-n.invariant.3 (omega (arith, c.loop-n.invariant.2, c.requires.end_bound.0)))) c.part_count-here.ensures c.one_if_any-blocks.ensures c.loop-n.invariant.3,
+    )
+
+pub offset_bounds-places-blocks-2 : goal.offset_bounds-places-blocks-2
+offset_bounds-places-blocks-2 c =
+    omega (arith, few-blocks c.loop-n.invariant.3 (omega (arith, c.loop-n.invariant.2, c.requires.end_bound.0)))
+
+pub bounds-places-blocks-2 : goal.bounds-places-blocks-2
+bounds-places-blocks-2 c =
+    omega (arith, c.loop-n.invariant.0, c.requires.end_bound.1, few-blocks c.loop-n.invariant.3 (omega (arith, c.loop-n.invariant.2, c.requires.end_bound.0)))
+
+pub returns : goal.returns
+returns c =
+    listed-is (omega (arith, c.loop-n.invariant.0, c.requires.end_bound.1, few-blocks c.loop-n.invariant.3 (omega (arith, c.loop-n.invariant.2, c.requires.end_bound.0)))) c.loop-n.invariant.2 c.loop-n.invariant.3

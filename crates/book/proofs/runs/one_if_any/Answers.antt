@@ -1,0 +1,10 @@
+-- `runs::one_if_any`: by the test.
+-- Assumes nothing.
+use borrow.Author.Tests.{eq-eqb, ne_eqb}
+use Rattle.book.proofs.runs.one_if_any.Goals as goal
+
+pub returns-then-n-eq0 : goal.returns-then-n-eq0
+returns-then-n-eq0 c = rw (eq-eqb _ _ c.if-n-eq0.true)
+
+pub returns : goal.returns
+returns c = rw (ne_eqb _ _ c.if-n-eq0.false)

@@ -1,0 +1,120 @@
+-- The seven blocks are the date.
+-- Assumes nothing.
+use Prim.Native.Nat.{◌+◌}
+use mathlib.Core.Path.{◌∙◌}
+use native.Mathlib.Omega.{arith}
+use borrow.Author.Rules.{rules}
+use Rattle.model.specs.Words.{leaves, hotel_cells, standings, attend_cells, conf_pairs, lunch_triples, ride_cells}
+use Rattle.model.specs.Kinds.{sessions, times}
+use Rattle.book.specs.Lent.{reading}
+use Rattle.units.proofs.Slots.{unit-le}
+use Rattle.checking.proofs.Addresses.{block-fits, block_run, one-long}
+use Rattle.rules.proofs.Answers.{relay}
+use Rattle.checking.proofs.Facts.{day-kept, kept-day}
+use Rattle.checking.proofs.Runs.{run-order}
+use Rattle.checking.proofs.dates.date_at.Goals as goal
+
+pub block-leave-requires : goal.block-leave-requires
+block-leave-requires c =
+    let p = c.requires.at in
+    let both =    block-fits c.args.site.settings p.starts _ leaves _ _ p.laid (omega arith) (omega (arith, p.date)) in
+    record { lies = both.0; from_le_to = both.1 }
+
+pub block-hotel-requires : goal.block-hotel-requires
+block-hotel-requires c =
+    let p = c.requires.at in
+    let both =    block-fits c.args.site.settings p.starts _ hotel_cells _ _ p.laid (omega arith) (omega (arith, p.date)) in
+    record { lies = both.0; from_le_to = both.1 }
+
+pub block-stand-requires : goal.block-stand-requires
+block-stand-requires c =
+    let p = c.requires.at in
+    let both =    block-fits c.args.site.settings p.starts _ standings _ _ p.laid (run-order p.sessions) p.sessions.ends.most in
+    record { lies = both.0; from_le_to = both.1 }
+
+pub block-attend-requires : goal.block-attend-requires
+block-attend-requires c =
+    let p = c.requires.at in
+    let both =    block-fits c.args.site.settings p.starts _ attend_cells _ _ p.laid (run-order p.sessions) p.sessions.ends.most in
+    record { lies = both.0; from_le_to = both.1 }
+
+pub block-conf-requires : goal.block-conf-requires
+block-conf-requires c =
+    let p = c.requires.at in
+    let both =    block-fits c.args.site.settings p.starts _ conf_pairs _ _ p.laid (run-order p.sessions) p.sessions.ends.most in
+    record { lies = both.0; from_le_to = both.1 }
+
+pub block-lunch-requires : goal.block-lunch-requires
+block-lunch-requires c =
+    let p = c.requires.at in
+    let both =    block-fits c.args.site.settings p.starts _ lunch_triples _ _ p.laid (omega arith) (omega (arith, p.date)) in
+    record { lies = both.0; from_le_to = both.1 }
+
+pub block-ride-requires : goal.block-ride-requires
+block-ride-requires c =
+    let p = c.requires.at in
+    let both =    block-fits c.args.site.settings p.starts _ ride_cells _ _ p.laid (run-order p.times) p.times.ends.most in
+    record { lies = both.0; from_le_to = both.1 }
+
+pub overflow_sub-n : goal.overflow_sub-n
+overflow_sub-n c = omega (arith, run-order c.requires.at.sessions)
+
+pub overflow_cast-n : goal.overflow_cast-n
+overflow_cast-n c =
+    let p = c.requires.at in
+    omega (arith, p.sessions.ends.most, unit-le _ p.laid.ranges sessions)
+
+pub overflow_sub-q : goal.overflow_sub-q
+overflow_sub-q c = omega (arith, run-order c.requires.at.times)
+
+pub overflow_cast-q : goal.overflow_cast-q
+overflow_cast-q c =
+    let p = c.requires.at in
+    omega (arith, p.times.ends.most, unit-le _ p.laid.ranges times)
+
+pub date-requires : goal.date-requires
+date-requires c =
+    let p = c.requires.at in
+    let b = reading c.args.book.now in
+    let d = c.args.d.0 in
+    let s = c.args.sessions in
+    let t = c.args.times in
+    let leave = block_run c.args.site.settings p.starts b leaves d (d + 1) c.block-leave.ensures in
+    let hotel = block_run c.args.site.settings p.starts b hotel_cells d (d + 1) c.block-hotel.ensures in
+    let stand = block_run c.args.site.settings p.starts b standings s.from.0 s.to.0 c.block-stand.ensures in
+    let attend = block_run c.args.site.settings p.starts b attend_cells s.from.0 s.to.0 c.block-attend.ensures in
+    let conf = block_run c.args.site.settings p.starts b conf_pairs s.from.0 s.to.0 c.block-conf.ensures in
+    let lunch = block_run c.args.site.settings p.starts b lunch_triples d (d + 1) c.block-lunch.ensures in
+    let ride = block_run c.args.site.settings p.starts b ride_cells t.from.0 t.to.0 c.block-ride.ensures in
+    record {
+      ranges = p.laid.ranges;
+      long = record {
+          leaves = leave.long ∙ one-long _ _;
+          hotels = hotel.long ∙ one-long _ _;
+          stands = stand.long;
+          attends = attend.long;
+          confs = conf.long;
+          lunches = lunch.long ∙ one-long _ _;
+          rides = ride.long;
+        };
+      caps = c.requires.caps;
+    }
+
+pub returns : goal.returns
+returns c =
+    let p = c.requires.at in
+    let b = reading c.args.book.now in
+    let d = c.args.d.0 in
+    let s = c.args.sessions in
+    let t = c.args.times in
+    let leave = block_run c.args.site.settings p.starts b leaves d (d + 1) c.block-leave.ensures in
+    let hotel = block_run c.args.site.settings p.starts b hotel_cells d (d + 1) c.block-hotel.ensures in
+    let stand = block_run c.args.site.settings p.starts b standings s.from.0 s.to.0 c.block-stand.ensures in
+    let attend = block_run c.args.site.settings p.starts b attend_cells s.from.0 s.to.0 c.block-attend.ensures in
+    let conf = block_run c.args.site.settings p.starts b conf_pairs s.from.0 s.to.0 c.block-conf.ensures in
+    let lunch = block_run c.args.site.settings p.starts b lunch_triples d (d + 1) c.block-lunch.ensures in
+    let ride = block_run c.args.site.settings p.starts b ride_cells t.from.0 t.to.0 c.block-ride.ensures in
+    let caps = c.args.caps.now in
+    relay c.date.result (day-kept c.args.site.settings caps b p.laid d p.date p.sessions p.times)
+    (kept-day c.args.site.settings caps b p.laid d p.date p.sessions p.times)
+    (rw (leave.is, hotel.is, stand.is, attend.is, conf.is, lunch.is, ride.is) at c.date.ensures)

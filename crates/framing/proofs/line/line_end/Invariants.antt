@@ -1,0 +1,14 @@
+-- `line::line_end`: no byte before i is 10.
+-- Assumes nothing.
+use borrow.Author.Rules.{rules}
+use Prim.Native.Nat.{ℕ, ◌≤◌, ◌<◌, ◌-◌}
+use mathlib.Core.Path.{◌≡◌}
+use borrow.Author.Count.{below_more}
+use lib.ListN.{length, get_or}
+use Rattle.framing.proofs.line.line_end.Given as goal
+
+abbrev pub invariant-loop-i : goal.invariant-loop-i
+invariant-loop-i l = (l.i ≤ length l.s) × ((k : ℕ) → k < l.i → get_or l.s k 0 ≡ 10 → ⊥)
+
+abbrev pub decreases-loop-i : goal.decreases-loop-i
+decreases-loop-i l = length l.s - l.i

@@ -1,0 +1,16 @@
+-- `line::whole_words`: the words before k are digits.
+-- Assumes nothing.
+use Prim.Native.Nat.{◌+◌, ◌-◌, ◌*◌, ◌≤◌}
+use mathlib.Core.Path.{◌≡◌, refl, sym, ◌∙◌, ap}
+use native.Mathlib.Omega.{arith}
+use lib.ListN.{take}
+use borrow.Author.Rules.{rules}
+use Rattle.text.specs.Digits.{digits_only}
+use Rattle.framing.proofs.Framing.{digits_from, whole_by, not-whole}
+use Rattle.framing.proofs.line.whole_words.Given as goal
+
+abbrev pub invariant-loop-k : goal.invariant-loop-k
+invariant-loop-k l = (l.k ≤ l.n) × (l.all ≡ digits_only (take (8 * l.k) l.line))
+
+abbrev pub decreases-loop-k : goal.decreases-loop-k
+decreases-loop-k l = l.n - l.k

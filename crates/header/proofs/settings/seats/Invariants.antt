@@ -1,0 +1,17 @@
+-- The capacities passed are in place.
+-- Assumes nothing.
+use Prim.Native.Nat.{ℕ, ◌-◌, ◌≤◌, ◌<◌}
+use mathlib.Core.Path.{◌≡◌, refl, ◌∙◌}
+use native.Mathlib.Omega.{arith}
+use lib.ListN.{length, get_or, set, length-set}
+use lib.Seq.{get_or-set_same, get_or-set_other}
+use borrow.Author.Count.{below_none, below_more}
+use Rattle.header.specs.Heads.{seat_of}
+use Rattle.header.proofs.Heads.{seats-by}
+use Rattle.header.proofs.settings.seats.Given as goal
+
+abbrev pub invariant-loop-g : goal.invariant-loop-g
+invariant-loop-g l = (l.g ≤ 16) × (length l.all ≡ 16) × ((k : ℕ) → k < l.g → get_or l.all k 0 ≡ seat_of l.words l.dining k)
+
+abbrev pub decreases-loop-g : goal.decreases-loop-g
+decreases-loop-g l = 16 - l.g

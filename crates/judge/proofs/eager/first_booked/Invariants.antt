@@ -1,0 +1,21 @@
+-- Each date passed so far passes the test.
+-- Assumes nothing.
+-- a count that is the model's is 0 where that is
+use Prim.Native.Nat.{ℕ, suc, ◌-◌}
+use mathlib.Core.Path.{◌≡◌, ap}
+use mathlib.Core.Bool.{not}
+use lib.Dec.{eqb}
+use native.Mathlib.Omega.{arith}
+use borrow.Author.Tests.{eq-eqb, ne_eqb}
+use Rattle.model.specs.Reading.{state_of}
+use Rattle.book.specs.Lent.{reading}
+use Rattle.book.proofs.Goods.{good-laid}
+use Rattle.questions.specs.Asked.{NoBookings, holds_in}
+use Rattle.questions.proofs.Passed.{Passed, passed_none, passed-next, passed-at, passed-all}
+use Rattle.judge.proofs.eager.first_booked.Given as goal
+
+abbrev pub invariant-loop-date : goal.invariant-loop-date
+invariant-loop-date l = Passed (holds_in l.site.settings (state_of (reading l.book)) NoBookings l.visitor 0) l.initial.date.0 l.date.0
+
+abbrev pub decreases-loop-date : goal.decreases-loop-date
+decreases-loop-date l = suc l.last.0 - l.date.0

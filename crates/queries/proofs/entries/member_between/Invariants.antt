@@ -1,0 +1,18 @@
+-- No slot before i has the bit.
+-- Assumes nothing.
+use Rattle.book.specs.Lent.{reading}
+use Prim.Native.Nat.{ℕ, ◌/◌, ◌%◌, ◌-◌, ◌≤◌, ◌<◌}
+use mathlib.Core.Path.{◌≡◌, sym, ◌∙◌}
+use mathlib.Core.Bool.{false}
+use native.Mathlib.Omega.{arith}
+use Rattle.model.specs.Bounded.{bit}
+use Rattle.book.specs.Grids.{cell_at}
+use Rattle.queries.proofs.Free.{between-yes, between-no}
+use Rattle.model.proofs.Search.{passed-more}
+use Rattle.queries.proofs.entries.member_between.Given as goal
+
+abbrev pub invariant-loop-i : goal.invariant-loop-i
+invariant-loop-i l = (l.lo ≤ l.i) × ((k : ℕ) → l.lo ≤ k → k < l.i → bit (cell_at l.g (reading l.book) k (l.v / 32)) (l.v % 32) ≡ false)
+
+abbrev pub decreases-loop-i : goal.decreases-loop-i
+decreases-loop-i l = l.hi - l.i

@@ -1,0 +1,31 @@
+-- The rooms below `next` are taken in some session, and the room in hand is free before `slot`.
+-- Assumes nothing.
+use Rattle.book.specs.Lent.{reading}
+use Prim.Native.Nat.{ℕ, ◌-◌, ◌≤◌, ◌<◌}
+use mathlib.Core.Path.{◌≡◌, ◌∙◌, ap}
+use mathlib.Core.Bool.{false, not}
+use native.Mathlib.Omega.{arith}
+use borrow.Author.Tests.{eq-eqb, ne_eqb}
+use borrow.Author.Rules.{rules}
+use Rattle.model.specs.State.{State}
+use Rattle.model.specs.Reading.{state_of, read_state}
+use Rattle.model.specs.Words.{conf_pairs}
+use Rattle.book.proofs.Goods.{good-state, good-lies}
+use Rattle.queries.specs.Shown.{room_taken}
+use Rattle.queries.proofs.Free.{free_in, free-yes, free-no, lowest-none, lowest-at}
+use Rattle.queries.proofs.Shows.{room-taken-is}
+use Rattle.model.proofs.Search.{passed_first, passed-more}
+use Rattle.queries.proofs.rooms.lowest_in.Given as goal
+
+abbrev pub invariant-loop-slot : goal.invariant-loop-slot
+invariant-loop-slot l = (l.from ≤ l.slot) × (l.slot ≤ l.to)
+    × ((k : ℕ) → l.from ≤ k → k < l.slot → room_taken (state_of (reading l.book)) l.room k ≡ false)
+
+abbrev pub decreases-loop-slot : goal.decreases-loop-slot
+decreases-loop-slot l = l.to - l.slot
+
+abbrev pub invariant-rooms : goal.invariant-rooms
+invariant-rooms l = (l.next ≤ l.rooms) × ((c : ℕ) → c < l.next → free_in (state_of (reading l.book)) l.from l.to c ≡ false)
+
+abbrev pub decreases-rooms : goal.decreases-rooms
+decreases-rooms l = l.rooms - l.next

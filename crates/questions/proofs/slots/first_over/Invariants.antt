@@ -1,0 +1,18 @@
+-- Each slot passed so far passes the test.
+-- Assumes nothing.
+use Prim.Native.Nat.{suc, ◌-◌}
+use native.Mathlib.Omega.{arith}
+use Rattle.model.specs.Reading.{state_of}
+use Rattle.book.specs.Lent.{reading}
+use Rattle.book.proofs.Goods.{good-laid}
+use Rattle.questions.specs.Asked.{RoomLeft, holds_in}
+use Rattle.questions.proofs.Passed.{Passed, passed_none, passed-next, passed-at, passed-all}
+use mathlib.Core.Bool.{not}
+use mathlib.Core.Path.{ap}
+use Rattle.questions.proofs.slots.first_over.Given as goal
+
+abbrev pub invariant-loop-date : goal.invariant-loop-date
+invariant-loop-date l = Passed (holds_in l.site.settings (state_of (reading l.book)) RoomLeft l.room l.n) l.initial.date.0 l.date.0
+
+abbrev pub decreases-loop-date : goal.decreases-loop-date
+decreases-loop-date l = suc l.last.0 - l.date.0

@@ -1,0 +1,37 @@
+-- By the two searches, the cheaper one first.
+-- Assumes nothing.
+use mathlib.Core.Bool.{and-true, and-false}
+use Rattle.model.specs.Kinds.{sessions}
+use Rattle.book.proofs.Goods.{good-laid}
+use Rattle.units.proofs.Slots.{date-lt}
+use Rattle.questions.specs.Asked.{not_held}
+use borrow.Author.Rules.{rules}
+use Rattle.questions.proofs.slots.not_held.Goals as goal
+
+pub date_of_session-date-requires : goal.date_of_session-date-requires
+date_of_session-date-requires c = (good-laid c.requires.good).ranges
+
+pub lunch_held-requires : goal.lunch_held-requires
+lunch_held-requires c =
+    let a = c.args in
+    record {
+      good = c.requires.good;
+      sited = c.requires.sited;
+      date_lt_dates = rw c.date_of_session-date.ensures (date-lt a.site.settings (good-laid c.requires.good).ranges sessions a.session.0 c.requires.session_bound);
+      meeting_lt_meetings = c.requires.meeting_lt_meetings;
+    }
+
+pub returns-then-lunch_held : goal.returns-then-lunch_held
+unfolding not_held
+returns-then-lunch_held c = rw (← c.date_of_session-date.ensures, ← c.lunch_held.ensures, c.if-lunch_held.true, and-false _)
+
+pub returns : goal.returns
+unfolding not_held
+returns c =
+    rw (
+      ← c.date_of_session-date.ensures,
+      ← c.lunch_held.ensures,
+      c.if-lunch_held.false,
+      ← c.conf_held.ensures,
+      and-true _,
+    )

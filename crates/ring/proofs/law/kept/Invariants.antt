@@ -1,0 +1,18 @@
+-- The entries passed so far keep the law.
+-- Assumes nothing.
+use Prim.Native.Nat.{ℕ, ◌-◌, ◌≤◌, ◌<◌}
+use mathlib.Core.Path.{◌≡◌, sym, ◌∙◌}
+use mathlib.Core.Bool.{true}
+use native.Mathlib.Omega.{arith}
+use borrow.Author.Tests.{not-true, not-false}
+use borrow.Author.Rules.{rules}
+use Rattle.model.specs.Tail.{entry_kept, tail_length}
+use Rattle.model.proofs.Search.{passed_first}
+use Rattle.ring.proofs.Entries.{tail-fails, tail-passes}
+use Rattle.ring.proofs.law.kept.Given as goal
+
+abbrev pub invariant-loop-i : goal.invariant-loop-i
+invariant-loop-i l = (l.i ≤ 64) × ((k : ℕ) → k < l.i → entry_kept l.tail k ≡ true)
+
+abbrev pub decreases-loop-i : goal.decreases-loop-i
+decreases-loop-i l = 64 - l.i

@@ -1,0 +1,43 @@
+-- The flag says whether the cells passed are within bounds.
+-- Assumes nothing.
+use Prim.Native.Nat.{ℕ, ◌-◌, ◌≤◌, ◌<◌}
+use mathlib.Core.Bool.{not}
+use native.Mathlib.Omega.{arith}
+use lib.ListN.{length, get_or}
+use borrow.Author.Count.{below_none}
+use Rattle.rules.specs.Rows.{Decides}
+use Rattle.rules.proofs.Answers.{relay, more, over-said}
+use Rattle.rules.proofs.row.bounded.Goals as goal
+
+pub loop-i-init : goal.loop-i-init
+loop-i-init c = (omega arith, below_none _)
+
+pub offset_bounds-bounds-i : goal.offset_bounds-bounds-i
+offset_bounds-bounds-i c = omega arith
+
+pub bounds-bounds-i : goal.bounds-bounds-i
+bounds-bounds-i c = omega arith
+
+pub offset_bounds-row-i : goal.offset_bounds-row-i
+offset_bounds-row-i c = omega arith
+
+pub bounds-row-i : goal.bounds-row-i
+bounds-row-i c = omega arith
+
+pub overflow_add-i : goal.overflow_add-i
+overflow_add-i c = omega arith
+
+pub loop-i-smaller : goal.loop-i-smaller
+loop-i-smaller c = omega arith
+
+pub loop-i-preserved : goal.loop-i-preserved
+loop-i-preserved c =
+    let a = c.args in (
+      omega arith,
+      more (λ k. get_or a.row.now k 0 ≤ get_or a.bounds.now k 0) c.loop-i.i c.loop-i.bad _ c.loop-i.invariant.1
+          (over-said (get_or a.bounds.now c.loop-i.i 0) (get_or a.row.now c.loop-i.i 0)),
+    )
+
+pub returns : goal.returns
+returns c =
+    relay (not c.loop-i.bad) (λ f i h. f i (omega arith)) (λ f i h. f i (omega arith)) c.loop-i.invariant.1

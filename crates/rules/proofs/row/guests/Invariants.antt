@@ -1,0 +1,20 @@
+-- The rest of the pass gives the answer.
+-- Assumes nothing.
+use Prim.Native.Nat.{◌+◌, ◌-◌, ◌≤◌}
+use mathlib.Core.List.{List}
+use mathlib.Core.Path.{◌≡◌, refl, sym, ◌∙◌, ap}
+use mathlib.Core.Bool.{Bool, false, not, ◌||◌}
+use native.Mathlib.Omega.{arith}
+use lib.ListN.{length, drop, length-set, get_or}
+use Rattle.rules.specs.Rows.{Marked}
+use Rattle.rules.proofs.Answers.{decide}
+use Rattle.rules.proofs.Passing.{pass, mark-is, mark-none, mark-more, pass-more, pass-end, says, said}
+use Rattle.rules.proofs.row.guests.Given as goal
+
+abbrev pub invariant-loop-i : goal.invariant-loop-i
+invariant-loop-i l =
+    (l.i ≤ length l.row) × (length l.seen ≡ length l.initial.seen) × (get_or l.seen 0 false ≡ false) ×
+    (pass (drop l.i l.row) l.seen l.bad ≡ pass l.row l.initial.seen false) × Marked l.initial.seen l.seen
+
+abbrev pub decreases-loop-i : goal.decreases-loop-i
+decreases-loop-i l = length l.row - l.i

@@ -1,0 +1,19 @@
+-- The flag says whether the pairs passed are good.
+-- Assumes nothing.
+use Prim.Native.Nat.{ℕ, ◌+◌, ◌*◌, ◌-◌, ◌≤◌, ◌<◌}
+use mathlib.Core.Path.{◌≡◌, subst}
+use mathlib.Core.Bool.{not}
+use native.Mathlib.Omega.{arith}
+use lib.ListN.{get_or}
+use borrow.Author.Count.{below_none}
+use Rattle.rules.specs.Rows.{Pair, Decides}
+use Rattle.rules.proofs.Answers.{more}
+use Rattle.rules.proofs.Cells.{pair-said}
+use Rattle.rules.proofs.row.pairs.Given as goal
+
+abbrev pub invariant-loop-j : goal.invariant-loop-j
+invariant-loop-j l = (l.j ≤ l.n) × Decides (not l.bad)
+    ((k : ℕ) → k < l.j → Pair l.limit l.stands (get_or l.row (k * 2) 0) (get_or l.row (k * 2 + 1) 0))
+
+abbrev pub decreases-loop-j : goal.decreases-loop-j
+decreases-loop-j l = l.n - l.j

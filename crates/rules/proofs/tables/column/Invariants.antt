@@ -1,0 +1,17 @@
+-- The words of the column or-ed so far.
+-- Assumes nothing.
+use Prim.Native.Nat.{ℕ, ◌+◌, ◌-◌, ◌*◌, ◌≤◌}
+use mathlib.Core.Path.{◌≡◌, ◌∙◌, ap}
+use native.Mathlib.Omega.{arith}
+use lib.Bits.{bit_or}
+use lib.ListN.{get_or}
+use Rattle.rules.specs.Rows.{ors}
+use Rattle.rules.proofs.Parts.{row_inside}
+use Rattle.rules.proofs.Barring.{ors-none, ors-more}
+use Rattle.rules.proofs.tables.column.Given as goal
+
+abbrev pub invariant-loop-p : goal.invariant-loop-p
+invariant-loop-p l = (l.p ≤ l.n) × (l.all ≡ ors (λ p. get_or l.rows (p * l.width + l.k) 0) l.p)
+
+abbrev pub decreases-loop-p : goal.decreases-loop-p
+decreases-loop-p l = l.n - l.p

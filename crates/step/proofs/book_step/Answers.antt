@@ -1,0 +1,12 @@
+-- `book_step`: the answer that the words tell.
+-- Assumes nothing.
+use mathlib.Core.Path.{◌∙◌, ap}
+use Rattle.model.specs.declared.Answer.{Answer}
+use Rattle.book.specs.Good.{answered}
+use Rattle.step.proofs.Kept.{answer-told}
+use borrow.Author.Rules.{rules}
+use Rattle.step.proofs.book_step.Goals as goal
+
+pub returns : goal.returns
+returns c =
+    ap (λ (a : Answer). answered a c.told_step-told.new.book) c.answer_of.ensures ∙ answer-told c.requires.good_book c.args.order c.args.r c.told_step-told.ensures

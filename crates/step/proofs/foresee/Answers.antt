@@ -1,0 +1,36 @@
+-- `foresee`: judged, and question 30 behind the answer.
+-- Assumes nothing.
+use mathlib.Core.Path.{sym, ◌∙◌}
+use lib.Seq.{length-take-le}
+use Rattle.model.proofs.Ledger.{diary-fits, last_word}
+use Rattle.book.specs.Lent.{reading}
+use Rattle.step.proofs.Kept.{part-good, count-is, seen-refused, seen-full, seen_done}
+use borrow.Author.Rules.{rules}
+use Rattle.step.proofs.foresee.Goals as goal
+
+pub slice_bounds-judge-end : goal.slice_bounds-judge-end
+slice_bounds-judge-end c = sym (length-take-le _ _ (diary-fits _ c.requires.good_book.laid c.requires.good_book.read c.requires.diary_value))
+
+pub judge-answer-requires : goal.judge-answer-requires
+unfolding reading
+judge-answer-requires c = part-good c.requires.good_book _ c.requires.diary_value
+
+pub returns-in-Refused : goal.returns-in-Refused
+unfolding reading
+returns-in-Refused c =
+    seen-refused c.requires.good_book c.requires.diary_value c.args.r c.judge-answer.ensures c.in-Refused.is
+
+pub count-requires : goal.count-requires
+count-requires c = last_word _ c.requires.good_book.laid
+
+pub returns-then-is_full : goal.returns-then-is_full
+unfolding reading
+returns-then-is_full c =
+    seen-full c.requires.good_book c.requires.diary_value c.args.r c.judge-answer.ensures c.in_default.is (c.count.ensures ∙ count-is c.requires.good_book)
+    (sym c.is_full.ensures ∙ c.if-is_full.true)
+
+pub returns : goal.returns
+unfolding reading
+returns c =
+    seen_done c.requires.good_book c.requires.diary_value c.args.r c.judge-answer.ensures c.in_default.is (c.count.ensures ∙ count-is c.requires.good_book)
+    (sym c.is_full.ensures ∙ c.if-is_full.false)

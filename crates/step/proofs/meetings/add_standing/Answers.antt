@@ -1,0 +1,35 @@
+-- Kind 8: judged, and written where it is done.
+-- Assumes nothing.
+use mathlib.Core.Path.{refl, sym, ◌∙◌, ap, ap₂}
+use borrow.Author.Rules.{rules}
+use Rattle.book.specs.Good.{answered}
+use Rattle.book.proofs.Goods.{good-laid}
+use Rattle.apply.specs.Accepted.{accepted}
+use Rattle.step.proofs.Outcomes.{refused-book}
+use Rattle.step.proofs.meetings.add_standing.Goals as goal
+
+pub site_of-site-requires : goal.site_of-site-requires
+site_of-site-requires c = (good-laid c.requires.good).ranges
+
+pub add_standing-answer-requires : goal.add_standing-answer-requires
+add_standing-answer-requires c = rw c.site_of-site.ensures (record {
+      good = c.requires.good;
+      sited = refl;
+      kind_value = c.requires.kind_value;
+    })
+
+pub returns-in-Refused : goal.returns-in-Refused
+returns-in-Refused c =
+    refused-book c.requires.good c.args.r (sym c.add_standing-answer.ensures ∙ c.in-Refused.is)
+
+pub add_standing-requires : goal.add_standing-requires
+add_standing-requires c = rw c.site_of-site.ensures
+    (record {
+      good = c.requires.good;
+      sited = refl;
+      r_value = ap accepted (sym c.add_standing-answer.ensures ∙ c.in_default.is);
+      kind_value = c.requires.kind_value;
+    })
+
+pub returns : goal.returns
+returns c = ap₂ answered c.add_standing-answer.ensures c.add_standing.ensures

@@ -1,0 +1,35 @@
+-- Kind 9: judged, and written where it is done.
+-- Assumes nothing.
+use mathlib.Core.Path.{refl, sym, ◌∙◌, ap, ap₂}
+use borrow.Author.Rules.{rules}
+use Rattle.book.specs.Good.{answered}
+use Rattle.book.proofs.Goods.{good-laid}
+use Rattle.apply.specs.Accepted.{accepted}
+use Rattle.step.proofs.Outcomes.{refused-book}
+use Rattle.step.proofs.meetings.end_standing.Goals as goal
+
+pub site_of-site-requires : goal.site_of-site-requires
+site_of-site-requires c = (good-laid c.requires.good).ranges
+
+pub end_standing-answer-requires : goal.end_standing-answer-requires
+end_standing-answer-requires c = rw c.site_of-site.ensures (record {
+      good = c.requires.good;
+      sited = refl;
+      kind_value = c.requires.kind_value;
+    })
+
+pub returns-in-Refused : goal.returns-in-Refused
+returns-in-Refused c =
+    refused-book c.requires.good c.args.r (sym c.end_standing-answer.ensures ∙ c.in-Refused.is)
+
+pub end_standing-requires : goal.end_standing-requires
+end_standing-requires c = rw c.site_of-site.ensures
+    (record {
+      good = c.requires.good;
+      sited = refl;
+      r_value = ap accepted (sym c.end_standing-answer.ensures ∙ c.in_default.is);
+      kind_value = c.requires.kind_value;
+    })
+
+pub returns : goal.returns
+returns c = ap₂ answered c.end_standing-answer.ensures c.end_standing.ensures

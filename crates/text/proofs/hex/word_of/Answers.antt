@@ -1,0 +1,17 @@
+-- `hex::word_of`: digits are bytes that come back when their values are written.
+-- Assumes nothing.
+use native.Mathlib.Omega.{arith}
+use borrow.Author.Rules.{rules}
+use Rattle.text.specs.Digits.{byte_at, value_in}
+use Rattle.text.proofs.Together.{values-by, read_is}
+use Rattle.text.proofs.hex.word_of.Goals as goal
+
+pub packed-requires : goal.packed-requires
+packed-requires c = values-by (λ k. value_in (byte_at c.args.x k)) (λ k. omega arith) c.values-v.ensures
+
+pub digits-requires : goal.digits-requires
+digits-requires c = values-by (λ k. value_in (byte_at c.args.x k)) (λ k. omega arith) c.values-v.ensures
+
+pub returns : goal.returns
+returns c =
+    read_is c.args.x (omega arith) c.values-v.ensures c.packed.ensures c.digits.ensures

@@ -1,0 +1,15 @@
+-- The cut stays between the two ends, which meet.
+-- Assumes nothing.
+use Prim.Native.Nat.{◌+◌, ◌-◌, ◌/◌}
+use mathlib.Core.Path.{sym, ◌∙◌}
+use native.Mathlib.Omega.{arith}
+use borrow.Author.Rules.{rules}
+use Rattle.units.specs.Units.{day_of, Bracket}
+use Rattle.units.proofs.Cuts.{turn_low, turn-high}
+use Rattle.units.proofs.bisect.Given as goal
+
+abbrev pub invariant-loop-lo : goal.invariant-loop-lo
+invariant-loop-lo l = Bracket (day_of l.each l.late) l.n l.d l.lo l.hi
+
+abbrev pub decreases-loop-lo : goal.decreases-loop-lo
+decreases-loop-lo l = l.hi - l.lo

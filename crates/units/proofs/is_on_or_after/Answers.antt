@@ -1,0 +1,11 @@
+-- The question, put by a product.
+-- Assumes nothing.
+use mathlib.Core.Path.{sym}
+use borrow.Author.Rules.{rules}
+use Rattle.units.proofs.Cuts.{asked-by-product}
+use Rattle.units.proofs.is_on_or_after.Goals as goal
+
+pub returns : goal.returns
+returns c =
+    let a = c.args in
+    rw c.behind.ensures (sym (asked-by-product a.each a.late a.i a.d c.requires.le_each))

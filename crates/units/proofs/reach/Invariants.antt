@@ -1,0 +1,16 @@
+-- The first probe on date d or later is an end, and so is the number of slots.
+-- Assumes nothing.
+-- no slot is behind the last
+use Prim.Native.Nat.{ℕ, ◌-◌, ◌≤◌, ◌<◌}
+use mathlib.Core.Path.{sym, ◌∙◌}
+use native.Mathlib.Omega.{arith}
+use borrow.Author.Rules.{rules}
+use Rattle.units.specs.Units.{Reached}
+use Rattle.units.proofs.Cuts.{turn-high}
+use Rattle.units.proofs.reach.Given as goal
+
+abbrev pub invariant-loop-hi : goal.invariant-loop-hi
+invariant-loop-hi l = (l.from ≤ l.hi) × (0 < l.by)
+
+abbrev pub decreases-loop-hi : goal.decreases-loop-hi
+decreases-loop-hi l = l.n - l.hi
