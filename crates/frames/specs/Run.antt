@@ -58,6 +58,14 @@ is_put Ended = true
 is_put (Unread e) = true
 is_put (Unwritten e) = false
 
+-- the program's exit status: 0 where the end of the input was answered, or a refused settings line, and all answers are written
+abbrev pub status_of : Sign → Result ⊤ Error → ℕ
+status_of More q = 1
+status_of Ended (Ok t) = 0
+status_of Ended (Err e) = 1
+status_of (Unread e) q = 1
+status_of (Unwritten e) q = 1
+
 -- A turn from the stream s and the book b₀: `read` left the first bytes of chunk, as many as it answered, and the first bytes of out, which
 -- were handed to `write`, are what the model writes for them.
 pub record Turned (s : Stream) (b₀ out₀ chunk : List ℕ) (t : Turn) (b out : List ℕ) : Type 0 where

@@ -14,9 +14,10 @@ ghost use Rattle.std.specs.Prelude.{◌≡◌, ◌*◌, ◌≤◌, ◌<◌, ◌�
 ghost use Rattle.std.specs.Io.{ReadsAtMost};
 ghost use Rattle.std.specs.Io.KnownBytes.{Appends, ReadConsumes};
 ghost use Rattle.std.specs.IoError.{error_kind};
+ghost use Rattle.std.specs.Process.{exit_status};
 ghost use Rattle.lines.specs.Post.{Going, Begun};
 ghost use Rattle.model.specs.Lines.{answer_bytes, program_words, frames};
-ghost use Rattle.frames.specs.Run.{answers_room, heard, signed, is_end, goes_on, Turned, Carried, Finished, Driven};
+ghost use Rattle.frames.specs.Run.{answers_room, heard, signed, is_end, goes_on, status_of, Turned, Carried, Finished, Driven};
 
 use framing::line::ANSWER_BYTES;
 use lines::lay::PROGRAM_WORDS;
@@ -284,7 +285,9 @@ fn drive<R: Read, W: Write>(
 }
 
 // The program's exit status: 0, or 1 behind a line on standard error that says what failed.
-fn status(rt: &impl Eprint, end: End) -> ExitCode {
+fn status(rt: &impl Eprint, end: End) -> ExitCode
+    ensures { exit_status result ≡ status_of end.sign end.put }
+{
     match end.sign {
         Sign::Ended => match end.put {
             Ok(()) => ExitCode::SUCCESS,
@@ -297,7 +300,9 @@ fn status(rt: &impl Eprint, end: End) -> ExitCode {
 }
 
 // Says on standard error what failed. Where that fails too, the status alone tells it.
-fn failure(rt: &impl Eprint, what: &str, error: Error) -> ExitCode {
+fn failure(rt: &impl Eprint, what: &str, error: Error) -> ExitCode
+    ensures { exit_status result ≡ 1 }
+{
     let _ = eprintln!(rt; "frames: {what}: {error}");
     ExitCode::FAILURE
 }
