@@ -2,11 +2,7 @@
 -- Assumes nothing.
 use borrow.Author.Rules.{rules}
 use Rattle.lines.proofs.Whole.{free-none}
-use Rattle.lines.proofs.stream.nothing.Statement.{statement}
-use Rattle.lines.proofs.stream.nothing.Tie as tie
+use Rattle.lines.proofs.stream.nothing.Goals as goal
 
-returns : tie.Need-returns
+pub returns : goal.returns
 returns c = record { long = search rules; few = search rules; free = free-none; same = search rules }
-
-pub nothing-spec : {M : Type 1} → statement M
-nothing-spec = tie.close (tie.spec returns)
