@@ -9,7 +9,7 @@ ghost use Rattle.book.specs.Founds.{found_of};
 ghost use Rattle.book.specs.Grids.{Sited};
 ghost use Rattle.book.specs.Good.{Good};
 ghost use Rattle.book.specs.Lent.{reading, Lies};
-ghost use Rattle.queries.specs.Shown.{empty_in};
+ghost use Rattle.queries.specs.Shown.{Seats, empty_in};
 
 use book::found::Found;
 use book::grid::{Grid, Site, cell, word};
@@ -86,6 +86,21 @@ pub fn lowest_free(book: &[u32], site: Site, first: Session, last: Session) -> F
         return lowest_soon(book, conf, site.settings.rooms, from, middle, to);
     }
     lowest_in(book, site, first, last)
+}
+
+// The seats of the meeting's lunch, if it is in the dining room: what `reserved` adds up, asked of one meeting.
+fn seats_at(book: &[u32], site: Site, date: Date, room: u32, meeting: u32) -> u32
+    requires good { Good site.settings (reading book.now) }
+    requires sited { Sited site }
+    requires date_lt_dates { date.0 < site.settings.dates }
+    requires room_lt_dining { room < site.settings.dining }
+    requires meeting_lt_meetings { meeting < site.settings.meetings }
+    ensures { Seats (state_of (reading book.now)) date.0 room meeting result }
+{
+    if cell(book, site.grids.lunch, date.0, meeting) != room + 1 {
+        return 0;
+    }
+    word(book, site.grids.lunch, date.0, meeting, 1)
 }
 
 // The seats reserved in a dining room on a date. A lunch cell holds its room plus 1, or 0 for no lunch, and each of these 17 has a weight:

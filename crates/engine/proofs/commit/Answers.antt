@@ -1,0 +1,43 @@
+-- `commit`: checked, question 29, and then one step.
+-- Assumes nothing.
+use mathlib.Core.Path.{sym, ◌∙◌}
+use Rattle.model.specs.Machine.{commit}
+use Rattle.model.proofs.Ledger.{last_word}
+use Rattle.step.proofs.Kept.{count-is}
+use Rattle.checking.proofs.Verdicts.{call-refused, done-good}
+use Rattle.engine.proofs.Whole.{other-count, same_count, with-commit}
+use borrow.Author.Rules.{rules}
+use Rattle.engine.proofs.commit.Goals as goal
+
+pub returns-in-Refused : goal.returns-in-Refused
+returns-in-Refused c =
+    let a = c.args in
+    let both =    with-commit a.book.now a.count a.r _ _
+    (call-refused a.book.now (commit a.count a.r) (sym c.check-checked.ensures ∙ c.in-Refused.is)) in
+    record { call = both.0; removal = both.1 }
+
+pub count-requires : goal.count-requires
+count-requires c =
+    let a = c.args in
+    last_word a.book.now (done-good a.book.now _ (sym c.check-checked.ensures ∙ c.in_default.is)).laid
+
+pub returns-then-count : goal.returns-then-count
+returns-then-count c =
+    let a = c.args in
+    let g = done-good a.book.now _ (sym c.check-checked.ensures ∙ c.in_default.is) in
+    let both =    with-commit a.book.now a.count a.r _ _
+    (other-count g a.count a.r (c.count.ensures ∙ count-is g) c.if-count.true) in
+    record { call = both.0; removal = both.1 }
+
+pub answer_one-requires : goal.answer_one-requires
+answer_one-requires c =
+    let a = c.args in
+    rw c.settings-s.ensures (done-good a.book.now _ (sym c.check-checked.ensures ∙ c.in_default.is))
+
+pub returns : goal.returns
+returns c =
+    let a = c.args in
+    let g = done-good a.book.now _ (sym c.check-checked.ensures ∙ c.in_default.is) in
+    let both =    with-commit a.book.now a.count a.r _ _
+    (same_count g a.count a.r (c.count.ensures ∙ count-is g) c.if-count.false c.answer_one.ensures) in
+    record { call = both.0; removal = both.1 }
