@@ -1,7 +1,7 @@
 -- Entries counted as they are erased: a column of cells slot by slot, and a region whose cells a write elsewhere leaves.
 -- Assumes nothing.
 use Prim.Native.Nat.{ℕ, suc, ◌+◌, ◌*◌, ◌-◌, ◌≤◌, ◌<◌}
-use mathlib.Core.Path.{◌≡◌, sym, ◌∙◌, ap, ap₂}
+use mathlib.Core.Path.{◌≡◌, sym, ◌∙◌, ap}
 use mathlib.Core.Bool.{Bool, false, not}
 use mathlib.Core.List.{List}
 use native.Mathlib.Nat.{add-mul, mul-one, mul-le-mul_right}
@@ -13,7 +13,6 @@ use Rattle.model.specs.declared.Settings.{Settings}
 use Rattle.model.specs.Bounded.{one, sum_from}
 use Rattle.model.specs.Words.{Region, slots, items, address}
 use Rattle.model.specs.Reading.{at}
-use Rattle.model.proofs.Places.{Cell}
 use Rattle.model.proofs.Sums.{sum-agree}
 use Rattle.book.specs.declared.grid.Grid.{Grid}
 use Rattle.book.specs.Grids.{place, cell_at, grid_of}

@@ -14,7 +14,7 @@ use borrow.Author.Tests.{eqb-true, eqb-false, eq-eqb, leb-true, le-leb, ltb-true
 use Rattle.model.specs.declared.Settings.{Settings}
 use Rattle.model.specs.Site.{settings_length}
 use Rattle.model.specs.Words.{Region, leaves, hotel_cells, standings, attend_cells, conf_pairs, lunch_triples, ride_cells}
-use Rattle.model.specs.Words.{slots, items, width, address, base, diary_length, word}
+use Rattle.model.specs.Words.{slots, items, width, address, base, diary_length}
 use Rattle.model.specs.Reading.{at}
 use Rattle.model.proofs.Search.{and_left, and_right, and-true, bool_eq}
 use Rattle.model.proofs.Places.{Cell, Same, address-inj, address-lt}

@@ -7,7 +7,6 @@ use mathlib.Core.List.{List, [], ◌∷◌, ◌++◌, append-nil}
 use lib.ListN.{drop}
 use Rattle.model.specs.declared.Settings.{Settings}
 use Rattle.model.specs.declared.Request.{Request}
-use Rattle.model.specs.declared.Answer.{Answer}
 use Rattle.model.specs.Messages.{order_length, answer_words}
 use Rattle.model.specs.Tail.{kept_at}
 use Rattle.model.specs.Machine.{ordered, Reply, told, reply_words, answer_order, perform}

@@ -4,7 +4,6 @@ use Prim.Native.Nat.{ℕ}
 use mathlib.Core.Path.{◌≡◌, refl, sym, ◌∙◌, ap, ap₂, subst}
 use mathlib.Core.Bool.{Bool, true, false}
 use mathlib.Core.List.{List}
-use native.Mathlib.Omega.{arith}
 use lib.Dec.{eqb}
 use borrow.Author.Tests.{eq-eqb, ne_eqb}
 use lib.ListN.{length}
@@ -12,7 +11,7 @@ use Rattle.model.specs.declared.Settings.{Settings}
 use Rattle.model.specs.declared.Request.{Request}
 use Rattle.model.specs.declared.Answer.{Answer}
 use Rattle.model.specs.declared.Answer.TheVariants.{Done, Refused}
-use Rattle.model.specs.Machine.{counted_step, Call, ordered, ask, commit, told, asked, answer_commit, perform}
+use Rattle.model.specs.Machine.{counted_step, ordered, ask, commit, told, asked, answer_commit, perform}
 use Rattle.model.specs.Reading.{settings_of}
 use Rattle.model.specs.Ledger.{book_length, ledger_of}
 use Rattle.model.specs.Laws.{well_laid, lawful}

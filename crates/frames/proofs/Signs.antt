@@ -1,34 +1,49 @@
--- What read's answer says, and the sign of a turn.
+-- The sign of a turn: which signs say that the input ended, and which that all was written.
 -- Assumes nothing.
-use Prim.Native.Nat.{zero, suc}
-use mathlib.Core.Path.{◌≡◌, refl, sym, ◌∙◌, ap}
-use mathlib.Core.Bool.{Bool, true, false}
-use lib.IntN.{ℤ, pos, negsuc}
-use lib.Signed.{lt_z}
-use native.Mathlib.Omega.{arith}
-use borrow.Author.Tests.{lt-ltb, le-ltb}
+use Rattle.std.proofs.Common.{ℕ, zero, suc, ◌≡◌, true, false, Result, Ok, Err, ◌⊎◌, inl, inr, refl, ap}
+use Rattle.std.specs.Prelude.{⊤}
+use Rattle.std.specs.declared.io.Error.{Error}
 use Rattle.model.proofs.Search.{both}
 use Rattle.lines.specs.declared.stream.Phase.{Phase}
+use Rattle.lines.specs.declared.stream.Phase.TheVariants.{Opening, Later, Over}
 use Rattle.frames.specs.declared.Sign.{Sign}
-use Rattle.frames.specs.declared.Sign.TheVariants.{More, Ended, Unread}
-use Rattle.frames.specs.Run.{heard, signed}
+use Rattle.frames.specs.declared.Sign.TheVariants.{More, Ended, Unread, Unwritten}
+use Rattle.frames.specs.Run.{heard, count_of, signed, is_end, goes_on, is_put}
 
-pub heard-more : (z : ℤ) → lt_z (pos 0) z ≡ true → More ≡ heard z
-heard-more (pos zero) h = both h refl
-heard-more (pos (suc n)) h = refl
-heard-more (negsuc n) h = both h refl
+-- the program goes on behind no other sign
+pub going_more : (g : Sign) → goes_on g ≡ true → g ≡ More
+going_more More h = refl
+going_more Ended h = both h refl
+going_more (Unread e) h = both h refl
+going_more (Unwritten e) h = both h refl
 
-pub heard-unread : (z : ℤ) → lt_z z (pos 0) ≡ true → Unread ≡ heard z
-heard-unread (pos zero) h = both h refl
-heard-unread (pos (suc n)) h = both h (le-ltb (suc n) 0 (omega arith))
-heard-unread (negsuc n) h = refl
+pub put_more : {g : Sign} → g ≡ More → is_put g ≡ true
+put_more e = ap is_put e
 
-pub heard-ended : (z : ℤ) → lt_z (pos 0) z ≡ false → lt_z z (pos 0) ≡ false → Ended ≡ heard z
-heard-ended (pos zero) h k = refl
-heard-ended (pos (suc n)) h k = both (lt-ltb 0 (suc n) (omega arith)) h
-heard-ended (negsuc n) h k = both refl k
+pub put_end : (g : Sign) → is_end g ≡ true → is_put g ≡ true
+put_end More h = both h refl
+put_end Ended h = refl
+put_end (Unread e) h = both h refl
+put_end (Unwritten e) h = both h refl
 
--- the sign of a turn by what was found
-pub signed_by : {g g' : Sign} {p p' : Phase} {t t' : Bool} → g ≡ g' → p ≡ p' → t ≡ t' → signed g' p' t' ≡ signed g p t
-signed_by {g} {g'} {p} {p'} {t} {t'} e f h =
-    sym (ap (λ (x : Sign). signed x p t) e ∙ ap (λ (q : Phase). signed g' q t) f ∙ ap (λ (u : Bool). signed g' p' u) h)
+pub end_unput : (g : Sign) → is_put g ≡ false → is_end g ≡ false
+end_unput More h = both refl h
+end_unput Ended h = both refl h
+end_unput (Unread e) h = both refl h
+end_unput (Unwritten e) h = refl
+
+-- a turn ends the run where nothing is left to read, or behind a refused settings line
+pub ended_by : (g : Sign) (p : Phase) (q : Result ⊤ Error) → is_end (signed g p q) ≡ true → (g ≡ Ended) ⊎ (p ≡ Over)
+ended_by More p (Err e) h = both h refl
+ended_by More Opening (Ok t) h = both h refl
+ended_by More Later (Ok t) h = both h refl
+ended_by More Over (Ok t) h = inr refl
+ended_by Ended p q h = inl refl
+ended_by (Unread e) p q h = both h refl
+ended_by (Unwritten e) p q h = both h refl
+
+-- where writing failed and the sign does not say so, nothing had been read
+pub unput_by : (r : Result ℕ Error) (p : Phase) (e : Error) → is_put (signed (heard r) p (Err e)) ≡ true → count_of r ≡ 0
+unput_by (Ok zero) p e h = refl
+unput_by (Ok (suc n)) p e h = both h refl
+unput_by (Err x) p e h = refl

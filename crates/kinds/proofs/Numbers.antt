@@ -1,6 +1,6 @@
 -- Kinds by number: what is none of the twenty numbers has no kind.
 -- Assumes nothing.
-use Prim.Native.Nat.{ℕ, zero, suc, ◌+◌, ◌<◌}
+use Prim.Native.Nat.{ℕ, zero, suc, ◌<◌}
 use mathlib.Core.Path.{◌≡◌, refl}
 use mathlib.Core.Option.{none}
 use native.Mathlib.Omega.{arith}

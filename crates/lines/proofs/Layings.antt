@@ -1,6 +1,6 @@
 -- The settings line.
 -- Assumes nothing.
-use Prim.Native.Nat.{ℕ, ◌+◌, ◌/◌, ◌≤◌, ◌<◌}
+use Prim.Native.Nat.{ℕ, ◌/◌, ◌≤◌, ◌<◌}
 use native.Mathlib.Omega.{arith}
 use mathlib.Core.Path.{◌≡◌, refl, sym, ◌∙◌, ap}
 use mathlib.Core.Bool.{Bool, true, false, ◌&&◌, cond}
@@ -17,7 +17,7 @@ use Rattle.model.specs.Machine.{told}
 use Rattle.model.specs.Words.{diary_length}
 use Rattle.model.specs.Reading.{settings_of}
 use Rattle.model.specs.Ledger.{Ledger, empty_ledger, book_length, ledger_of}
-use Rattle.model.specs.Calls.{Called, settings_good, fresh_book, laid, lay}
+use Rattle.model.specs.Calls.{Called, settings_good, fresh_book, lay}
 use Rattle.model.specs.Lines.{whole_words, line_words, answer_line, answer_bytes, program_words}
 use Rattle.model.proofs.Search.{never, and_right, both}
 use Rattle.model.proofs.Places.{settings-length}

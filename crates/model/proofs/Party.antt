@@ -1,9 +1,9 @@
 -- Parties (section 17): a party that is done is its guests' requests one by one, one that is refused names the first guest whom kind 10
 -- would refuse after those before; a party of one is that request; and guests who are different visitors can change places.
 -- Assumes nothing.
-use Prim.Native.Nat.{ℕ, suc}
+use Prim.Native.Nat.{ℕ}
 use mathlib.Core.Path.{◌≡◌, refl, sym, ◌∙◌, ap, ap₂}
-use mathlib.Core.Bool.{Bool, true, false, not, ◌&&◌, cond, true≢false}
+use mathlib.Core.Bool.{Bool, true, false, not, ◌&&◌, cond}
 use mathlib.Core.List.{List, [], ◌∷◌, ◌++◌, map}
 use native.Mathlib.Omega.{arith}
 use lib.Dec.{eqb}
@@ -14,15 +14,15 @@ use Rattle.model.specs.declared.Request.{Request}
 use Rattle.model.specs.declared.Guest.{Guest}
 use Rattle.model.specs.declared.Answer.{Answer}
 use Rattle.model.specs.declared.Answer.TheVariants.{Done, Refused}
-use Rattle.model.specs.State.{State, attends, booked}
+use Rattle.model.specs.State.{State, attends}
 use Rattle.model.specs.Bounded.{within, any, failing}
-use Rattle.model.specs.Kinds.{Kind, kind_of, Kind.add_attend}
+use Rattle.model.specs.Kinds.{kind_of, Kind.add_attend}
 use Rattle.model.specs.Questions.{always, further, ask, test, judge, Question.absent, Question.elsewhere}
 use Rattle.model.specs.Machine.{Outcome, slot, plus, with_attend, change, value, step, Steps, steps}
 use Rattle.model.specs.Machine.{joining, if_done, joined, all_or_none, party_fits, admit}
 use Rattle.model.proofs.Search.{never}
 use Rattle.model.proofs.Frame.{step-settings}
-use Rattle.model.proofs.Done.{Accepted, accepted-step, done-of, refused-keeps, Alike, judge-same}
+use Rattle.model.proofs.Done.{Accepted, accepted-step, done-of, refused-keeps, judge-same}
 use Rattle.model.proofs.Runs.{AllZero}
 
 abbrev done_at : State → Outcome

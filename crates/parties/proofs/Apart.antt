@@ -1,14 +1,11 @@
 -- Guests are taken apart: words, three a guest, filled from the start.
 -- Assumes nothing.
 use mathlib.Core.Path.{◌≡◌, refl, sym, ◌∙◌, ap, subst}
-use mathlib.Core.Logic.{◌≢◌, ◌⊎◌, inl, inr}
-use Prim.Native.Nat.{ℕ, zero, suc, ◌+◌, ◌*◌, ◌<◌, ◌≤◌, ◌-◌}
+use mathlib.Core.Logic.{◌≢◌, inl, inr}
+use Prim.Native.Nat.{ℕ, suc, ◌+◌, ◌*◌, ◌<◌, ◌≤◌}
 use native.Mathlib.Nat.{eq-or-lt_of_le}
 use native.Mathlib.Omega.{arith}
 use mathlib.Core.List.{List, [], ◌∷◌, drop}
-use mathlib.Core.WellFounded.InvImage
-use mathlib.Core.WellFounded.{WellFounded}
-use lib.WfN.{lt-wf_rel}
 use lib.ListN.{length, get_or, set, length-set}
 use lib.Seq.{get_or-set_same, get_or-set_other, get_or-drop}
 use Rattle.model.specs.declared.Guest.{Guest}
@@ -99,26 +96,6 @@ unfolding guests_of guest_at
 says_all [] w h = refl
 says_all (g ∷ gs) w h = λ j. h 0 (omega arith) j ∷ says_all gs (drop 3 w) (λ k l. after w k ∙ h (suc k) (omega (arith, l))) j
 
--- filled to the end, or to the place of the 64th
-pub all-taken : (gs : List Guest) (i : ℕ) (w : List ℕ) → Taken gs i w → ((i < length gs → ⊥) ⊎ (i < 64 → ⊥)) → Apart gs w
-all-taken gs i w t (inl out) few = says_all gs w (λ k l. t.same k (omega (arith, l, not-less i (length gs) out)))
-  where
-    not-less : (m n : ℕ) → (m < n → ⊥) → n ≤ m
-    not-less m n h = omega (arith, h)
-all-taken gs i w t (inr out) few = says_all gs w (λ k l. t.same k (omega (arith, l, few, not-less i 64 out)))
-  where
-    not-less : (m n : ℕ) → (m < n → ⊥) → n ≤ m
-    not-less m n h = omega (arith, h)
-
--- how far a loop over the guests has come
-pub record Come (gs : List Guest) : Type 0 where
-  pub at : ℕ
-  pub words : List ℕ
-  pub taken : Taken gs at words
-
--- the next state is nearer to the place of the 64th
-abbrev pub Nearer : (gs : List Guest) → Come gs → Come gs → Type 0
-Nearer gs a b = 64 - a.at < 64 - b.at
-
-pub Nearer-wf : (gs : List Guest) → WellFounded (Nearer gs)
-Nearer-wf gs = InvImage.wf (λ (s : Come gs). 64 - s.at) lt-wf_rel.wf
+-- filled to the end
+pub all-taken : (gs : List Guest) (i : ℕ) (w : List ℕ) → Taken gs i w → length gs ≤ i → Apart gs w
+all-taken gs i w t out few = says_all gs w (λ k l. t.same k (omega (arith, l, out)))

@@ -1,4 +1,3 @@
 pub mod Guests
 pub mod Joining
 pub mod Apart
-pub mod LocalArray

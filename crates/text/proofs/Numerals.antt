@@ -3,9 +3,9 @@
 use Prim.Native.Nat.{ℕ, zero, suc, ◌+◌, ◌-◌, ◌*◌, ◌/◌, ◌%◌, ◌^◌, ◌≤◌, ◌<◌}
 use native.Mathlib.Omega.{arith}
 use native.Mathlib.Decide.{dec_lt}
-use native.Mathlib.Nat.{div-one, mod-one, mod-eq_of_lt, one-le-pow, pow-zero, pow-suc, pow-succ', add-mul, mul_assoc, mul_comm, mul-div_left, div-div-eq-div-mul}
+use native.Mathlib.Nat.{div-one, mod-one, one-le-pow, pow-zero, pow-suc, pow-succ', add-mul, mul_assoc, mul_comm, mul-div_left, div-div-eq-div-mul}
 use mathlib.Core.Path.{◌≡◌, refl, sym, ◌∙◌, ap, ap₂}
-use lib.Arith.{digits_div, digits_mod, digits_lt, mod-mul}
+use lib.Arith.{digits_div, digits_mod, mod-mul}
 use lib.Bits.{bit_and, and_block, and_mask, and_high}
 use Rattle.text.specs.Digits.{numeral}
 

@@ -3,12 +3,10 @@
 use mathlib.Core.Path.{sym, ◌∙◌, ap}
 use native.Mathlib.Omega.{arith}
 use lib.Seq.{length-take-le}
-use borrow.Author.Tests.{not-true, not-false}
 use Rattle.model.specs.Site.{valid_settings}
 use Rattle.model.proofs.Ledger.{laid-valid, diary-fits, last_word, tail-fits}
 use Rattle.book.proofs.Goods.{ranges-by}
 use Rattle.checking.proofs.Verdicts.{first-laid, two-no, two-yes, tail-long}
-use borrow.Author.Rules.{rules}
 use Rattle.checking.proofs.book_lawful.Goals as goal
 
 pub diary_len-n-requires : goal.diary_len-n-requires

@@ -1,9 +1,7 @@
 -- Each answer by the two questions.
 -- Assumes nothing.
 use mathlib.Core.Path.{sym, ◌∙◌}
-use borrow.Author.Tests.{not-true, not-false}
 use Rattle.checking.proofs.Verdicts.{check-one, check-two, check_done}
-use borrow.Author.Rules.{rules}
 use Rattle.checking.proofs.check.Goals as goal
 
 pub returns-then-not-well_laid : goal.returns-then-not-well_laid

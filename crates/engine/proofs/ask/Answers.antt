@@ -1,6 +1,6 @@
 -- `ask`: checked, then foreseen, and the count.
 -- Assumes nothing.
-use mathlib.Core.Path.{refl, sym, ◌∙◌, ap}
+use mathlib.Core.Path.{sym, ◌∙◌, ap}
 use Rattle.model.specs.Machine.{ask}
 use Rattle.model.specs.Site.{valid_settings}
 use Rattle.model.proofs.Ledger.{laid-valid, last_word}
@@ -8,7 +8,6 @@ use Rattle.book.proofs.Goods.{ranges-by}
 use Rattle.step.proofs.Kept.{count-is}
 use Rattle.checking.proofs.Verdicts.{call-refused, done-good}
 use Rattle.engine.proofs.Whole.{asked-good}
-use borrow.Author.Rules.{rules}
 use Rattle.engine.proofs.ask.Goals as goal
 
 pub returns-in-Refused : goal.returns-in-Refused

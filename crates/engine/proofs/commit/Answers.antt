@@ -6,13 +6,12 @@ use Rattle.model.proofs.Ledger.{last_word}
 use Rattle.step.proofs.Kept.{count-is}
 use Rattle.checking.proofs.Verdicts.{call-refused, done-good}
 use Rattle.engine.proofs.Whole.{other-count, same_count, with-commit}
-use borrow.Author.Rules.{rules}
 use Rattle.engine.proofs.commit.Goals as goal
 
 pub returns-in-Refused : goal.returns-in-Refused
 returns-in-Refused c =
     let a = c.args in
-    let both =    with-commit a.book.now a.count a.r _ _
+    let both = with-commit a.book.now a.count a.r _ _
     (call-refused a.book.now (commit a.count a.r) (sym c.check-checked.ensures ∙ c.in-Refused.is)) in
     record { call = both.0; removal = both.1 }
 
@@ -25,7 +24,7 @@ pub returns-then-count : goal.returns-then-count
 returns-then-count c =
     let a = c.args in
     let g = done-good a.book.now _ (sym c.check-checked.ensures ∙ c.in_default.is) in
-    let both =    with-commit a.book.now a.count a.r _ _
+    let both = with-commit a.book.now a.count a.r _ _
     (other-count g a.count a.r (c.count.ensures ∙ count-is g) c.if-count.true) in
     record { call = both.0; removal = both.1 }
 
@@ -38,6 +37,6 @@ pub returns : goal.returns
 returns c =
     let a = c.args in
     let g = done-good a.book.now _ (sym c.check-checked.ensures ∙ c.in_default.is) in
-    let both =    with-commit a.book.now a.count a.r _ _
+    let both = with-commit a.book.now a.count a.r _ _
     (same_count g a.count a.r (c.count.ensures ∙ count-is g) c.if-count.false c.answer_one.ensures) in
     record { call = both.0; removal = both.1 }

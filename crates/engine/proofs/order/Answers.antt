@@ -1,7 +1,6 @@
 -- `order`: checked, then one step.
 -- Assumes nothing.
 use mathlib.Core.Path.{sym, ◌∙◌}
-use borrow.Author.Rules.{rules}
 use Rattle.model.specs.Machine.{ordered}
 use Rattle.step.proofs.Kept.{good-call}
 use Rattle.checking.proofs.Verdicts.{call-refused, done-good}
@@ -11,7 +10,7 @@ use Rattle.engine.proofs.order.Goals as goal
 pub returns-in-Refused : goal.returns-in-Refused
 returns-in-Refused c =
     let a = c.args in
-    let both =    with-removal a.book.now a.order a.r _ _
+    let both = with-removal a.book.now a.order a.r _ _
     (call-refused a.book.now (ordered a.order a.r) (sym c.check-checked.ensures ∙ c.in-Refused.is)) in
     record { call = both.0; removal = both.1 }
 
@@ -24,7 +23,7 @@ answer_one-requires c =
 pub returns : goal.returns
 returns c =
     let a = c.args in
-    let both =    with-removal a.book.now a.order a.r _ _
+    let both = with-removal a.book.now a.order a.r _ _
     (c.answer_one.ensures
     ∙ sym (good-call (done-good a.book.now _
     (sym c.check-checked.ensures

@@ -1,11 +1,10 @@
 -- `request`: an order without a number, which no ring keeps.
 -- Assumes nothing.
 use mathlib.Core.Path.{refl}
-use borrow.Author.Rules.{rules}
 use Rattle.engine.proofs.request.Goals as goal
 
 pub returns : goal.returns
 returns c = record {
-      call = c.order.ensures.call;
-      removal = c.order.ensures.removal refl;
-    }
+  call = c.order.ensures.call;
+  removal = c.order.ensures.removal refl;
+}

@@ -1,7 +1,6 @@
 -- `judge`: the kind's own function in each arm, and question 3 where no kind has the number.
 -- Assumes nothing.
 use mathlib.Core.Path.{refl, ◌∙◌}
-use borrow.Author.Rules.{rules}
 use Rattle.book.specs.Lent.{reading}
 use Rattle.book.proofs.Goods.{good-laid}
 use Rattle.kinds.proofs.Numbers.{no_kind}
@@ -13,143 +12,143 @@ site_of-site-requires c = (good-laid c.requires).ranges
 
 pub add_leave-requires : goal.add_leave-requires
 add_leave-requires c = rw c.site_of-site.ensures (record {
-      good = c.requires;
-      sited = refl;
-      kind_value = c.in-1.is;
-    })
+  good = c.requires;
+  sited = refl;
+  kind_value = c.in-1.is;
+})
 
 pub end_leave-requires : goal.end_leave-requires
 end_leave-requires c = rw c.site_of-site.ensures (record {
-      good = c.requires;
-      sited = refl;
-      kind_value = c.in-2.is;
-    })
+  good = c.requires;
+  sited = refl;
+  kind_value = c.in-2.is;
+})
 
 pub remove_visitor-requires : goal.remove_visitor-requires
 remove_visitor-requires c = rw c.site_of-site.ensures (record {
-      good = c.requires;
-      sited = refl;
-      kind_value = c.in-3.is;
-    })
+  good = c.requires;
+  sited = refl;
+  kind_value = c.in-3.is;
+})
 
 pub add_hotel-requires : goal.add_hotel-requires
 add_hotel-requires c = rw c.site_of-site.ensures (record {
-      good = c.requires;
-      sited = refl;
-      kind_value = c.in-4.is;
-    })
+  good = c.requires;
+  sited = refl;
+  kind_value = c.in-4.is;
+})
 
 pub erase_hotel-requires : goal.erase_hotel-requires
 erase_hotel-requires c = rw c.site_of-site.ensures (record {
-      good = c.requires;
-      sited = refl;
-      kind_value = c.in-5.is;
-    })
+  good = c.requires;
+  sited = refl;
+  kind_value = c.in-5.is;
+})
 
 pub add_ride-requires : goal.add_ride-requires
 add_ride-requires c = rw c.site_of-site.ensures (record {
-      good = c.requires;
-      sited = refl;
-      kind_value = c.in-6.is;
-    })
+  good = c.requires;
+  sited = refl;
+  kind_value = c.in-6.is;
+})
 
 pub erase_ride-requires : goal.erase_ride-requires
 erase_ride-requires c = rw c.site_of-site.ensures (record {
-      good = c.requires;
-      sited = refl;
-      kind_value = c.in-7.is;
-    })
+  good = c.requires;
+  sited = refl;
+  kind_value = c.in-7.is;
+})
 
 pub add_standing-requires : goal.add_standing-requires
 add_standing-requires c = rw c.site_of-site.ensures (record {
-      good = c.requires;
-      sited = refl;
-      kind_value = c.in-8.is;
-    })
+  good = c.requires;
+  sited = refl;
+  kind_value = c.in-8.is;
+})
 
 pub end_standing-requires : goal.end_standing-requires
 end_standing-requires c = rw c.site_of-site.ensures (record {
-      good = c.requires;
-      sited = refl;
-      kind_value = c.in-9.is;
-    })
+  good = c.requires;
+  sited = refl;
+  kind_value = c.in-9.is;
+})
 
 pub add_attend-requires : goal.add_attend-requires
 add_attend-requires c = rw c.site_of-site.ensures (record {
-      good = c.requires;
-      sited = refl;
-      kind_value = c.in-10.is;
-    })
+  good = c.requires;
+  sited = refl;
+  kind_value = c.in-10.is;
+})
 
 pub erase_attend-requires : goal.erase_attend-requires
 erase_attend-requires c = rw c.site_of-site.ensures (record {
-      good = c.requires;
-      sited = refl;
-      kind_value = c.in-11.is;
-    })
+  good = c.requires;
+  sited = refl;
+  kind_value = c.in-11.is;
+})
 
 pub add_conf-requires : goal.add_conf-requires
 add_conf-requires c = rw c.site_of-site.ensures (record {
-      good = c.requires;
-      sited = refl;
-      kind_value = c.in-12.is;
-    })
+  good = c.requires;
+  sited = refl;
+  kind_value = c.in-12.is;
+})
 
 pub erase_conf-requires : goal.erase_conf-requires
 erase_conf-requires c = rw c.site_of-site.ensures (record {
-      good = c.requires;
-      sited = refl;
-      kind_value = c.in-13.is;
-    })
+  good = c.requires;
+  sited = refl;
+  kind_value = c.in-13.is;
+})
 
 pub add_lunch-requires : goal.add_lunch-requires
 add_lunch-requires c = rw c.site_of-site.ensures (record {
-      good = c.requires;
-      sited = refl;
-      kind_value = c.in-14.is;
-    })
+  good = c.requires;
+  sited = refl;
+  kind_value = c.in-14.is;
+})
 
 pub erase_lunch-requires : goal.erase_lunch-requires
 erase_lunch-requires c = rw c.site_of-site.ensures (record {
-      good = c.requires;
-      sited = refl;
-      kind_value = c.in-15.is;
-    })
+  good = c.requires;
+  sited = refl;
+  kind_value = c.in-15.is;
+})
 
 pub erase_conf_and_lunch-requires : goal.erase_conf_and_lunch-requires
 erase_conf_and_lunch-requires c = rw c.site_of-site.ensures (record {
-      good = c.requires;
-      sited = refl;
-      kind_value = c.in-16.is;
-    })
+  good = c.requires;
+  sited = refl;
+  kind_value = c.in-16.is;
+})
 
 pub which_meeting-requires : goal.which_meeting-requires
 which_meeting-requires c = rw c.site_of-site.ensures (record {
-      good = c.requires;
-      sited = refl;
-      kind_value = c.in-17.is;
-    })
+  good = c.requires;
+  sited = refl;
+  kind_value = c.in-17.is;
+})
 
 pub count_leave-requires : goal.count_leave-requires
 count_leave-requires c = rw c.site_of-site.ensures (record {
-      good = c.requires;
-      sited = refl;
-      kind_value = c.in-18.is;
-    })
+  good = c.requires;
+  sited = refl;
+  kind_value = c.in-18.is;
+})
 
 pub seats_left-requires : goal.seats_left-requires
 seats_left-requires c = rw c.site_of-site.ensures (record {
-      good = c.requires;
-      sited = refl;
-      kind_value = c.in-19.is;
-    })
+  good = c.requires;
+  sited = refl;
+  kind_value = c.in-19.is;
+})
 
 pub free_room-requires : goal.free_room-requires
 free_room-requires c = rw c.site_of-site.ensures (record {
-      good = c.requires;
-      sited = refl;
-      kind_value = c.in-20.is;
-    })
+  good = c.requires;
+  sited = refl;
+  kind_value = c.in-20.is;
+})
 
 pub returns-in-1 : goal.returns-in-1
 returns-in-1 c = c.add_leave.ensures

@@ -6,7 +6,6 @@ use Rattle.model.specs.Kinds.{sessions}
 use Rattle.book.proofs.Goods.{good-laid}
 use Rattle.queries.proofs.Runs.{run-order}
 use Rattle.pages.proofs.Dates.{too_short, long-enough}
-use borrow.Author.Rules.{rules}
 use Rattle.pages.proofs.fill.Goals as goal
 
 pub site_of-site-requires : goal.site_of-site-requires
@@ -14,17 +13,17 @@ site_of-site-requires c = (good-laid c.requires.good).ranges
 
 pub sessions_on-run-requires : goal.sessions_on-run-requires
 sessions_on-run-requires c = record {
-      ranges = (good-laid c.requires.good).ranges;
-      first_le_last = omega arith;
-      last_lt_dates = c.requires.date_lt_dates;
-    }
+  ranges = (good-laid c.requires.good).ranges;
+  first_le_last = omega arith;
+  last_lt_dates = c.requires.date_lt_dates;
+}
 
 pub lines_between-n-requires : goal.lines_between-n-requires
 lines_between-n-requires c = rw c.site_of-site.ensures (record {
-      good = c.requires.good;
-      sited = refl;
-      from_le_to = (run-order c.args.s sessions _ _ _ _ c.sessions_on-run.ensures (omega arith), c.sessions_on-run.ensures.ends.most);
-    })
+  good = c.requires.good;
+  sited = refl;
+  from_le_to = (run-order c.args.s sessions _ _ _ _ c.sessions_on-run.ensures (omega arith), c.sessions_on-run.ensures.ends.most);
+})
 
 pub returns-then-page-n : goal.returns-then-page-n
 returns-then-page-n c =
@@ -33,11 +32,11 @@ returns-then-page-n c =
 
 pub put_sessions-requires : goal.put_sessions-requires
 put_sessions-requires c = rw c.site_of-site.ensures (record {
-      good = c.requires.good;
-      sited = refl;
-      from_le_to = (run-order c.args.s sessions _ _ _ _ c.sessions_on-run.ensures (omega arith), c.sessions_on-run.ensures.ends.most);
-      to_in_bounds = omega (arith, c.if-page-n.false, c.lines_between-n.ensures.is);
-    })
+  good = c.requires.good;
+  sited = refl;
+  from_le_to = (run-order c.args.s sessions _ _ _ _ c.sessions_on-run.ensures (omega arith), c.sessions_on-run.ensures.ends.most);
+  to_in_bounds = omega (arith, c.if-page-n.false, c.lines_between-n.ensures.is);
+})
 
 pub returns : goal.returns
 returns c =

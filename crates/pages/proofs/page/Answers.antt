@@ -11,7 +11,6 @@ use Rattle.book.specs.Lent.{reading}
 use Rattle.book.proofs.Goods.{ranges-by, good-part}
 use Rattle.checking.proofs.Verdicts.{done-good}
 use Rattle.pages.proofs.Dates.{page-refused, page-late, page-diary}
-use borrow.Author.Rules.{rules}
 use Rattle.pages.proofs.page.Goals as goal
 
 pub returns-in-Refused : goal.returns-in-Refused

@@ -4,7 +4,6 @@ use mathlib.Core.Path.{ap}
 use Prim.Native.Nat.{ℕ, ◌/◌, ◌^◌}
 use lib.Dec.{eqb}
 use Rattle.pool.proofs.Masks.{low-is}
-use borrow.Author.Rules.{rules}
 use Rattle.pool.proofs.has.Goals as goal
 
 pub returns : goal.returns

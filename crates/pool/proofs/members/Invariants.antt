@@ -1,13 +1,10 @@
 -- The ones of the words before i are counted.
 -- Assumes nothing.
-use mathlib.Core.Path.{◌≡◌, ◌∙◌, ap, refl}
-use Prim.Native.Nat.{◌+◌, ◌-◌, ◌*◌, ◌≤◌}
-use native.Mathlib.Omega.{arith}
+use mathlib.Core.Path.{◌≡◌}
+use Prim.Native.Nat.{◌-◌, ◌*◌, ◌≤◌}
 use lib.ListN.{length}
-use lib.Count.{ones-le}
 use Rattle.model.specs.Bounded.{count}
 use Rattle.pool.specs.Pool.{member}
-use Rattle.pool.proofs.Counts.{count_word, count-pair}
 use Rattle.pool.proofs.members.Given as goal
 
 abbrev pub invariant-loop-i : goal.invariant-loop-i

@@ -2,7 +2,6 @@
 -- Assumes nothing.
 use native.Mathlib.Omega.{arith}
 use Rattle.pool.proofs.Masks.{shl_is, and_is}
-use borrow.Author.Rules.{rules}
 use Rattle.pool.proofs.without.Goals as goal
 
 pub returns : goal.returns

@@ -1,10 +1,8 @@
 -- The words that are kept with the order, and the answer that is.
 -- Assumes nothing.
 use native.Mathlib.Omega.{arith}
-use borrow.Author.Tests.{not-true, not-false}
 use Rattle.model.specs.Tail.{tail_length}
 use Rattle.ring.proofs.Entries.{other-words, same-words}
-use borrow.Author.Rules.{rules}
 use Rattle.ring.proofs.answer_to.Goals as goal
 
 pub is_request-requires : goal.is_request-requires

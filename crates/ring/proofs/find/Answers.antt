@@ -3,7 +3,6 @@
 use mathlib.Core.Path.{◌∙◌, ap}
 use Rattle.book.specs.Founds.{found_of}
 use Rattle.ring.proofs.Entries.{kept-at}
-use borrow.Author.Rules.{rules}
 use Rattle.ring.proofs.find.Goals as goal
 
 pub returns : goal.returns

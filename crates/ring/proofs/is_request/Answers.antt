@@ -2,7 +2,6 @@
 -- Assumes nothing.
 use Rattle.ring.proofs.Entries.{request-at}
 use borrow.Author.Tests.{eq-eqb, ne_eqb}
-use borrow.Author.Rules.{rules}
 use Rattle.ring.proofs.is_request.Goals as goal
 
 pub returns-then-tail-at : goal.returns-then-tail-at

@@ -9,7 +9,6 @@ use Rattle.ring.specs.Stores.{entry_kept_at}
 use Rattle.ring.proofs.Entries.{put-long}
 use native.Mathlib.Omega.{arith}
 use Rattle.model.specs.Tail.{tail_length}
-use borrow.Author.Rules.{rules}
 use Rattle.ring.proofs.keep.Goals as goal
 
 pub bounds-tail-704 : goal.bounds-tail-704

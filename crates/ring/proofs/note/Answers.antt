@@ -3,7 +3,6 @@
 use mathlib.Core.Path.{◌∙◌}
 use Rattle.ring.specs.Telling.{answer_by}
 use Rattle.ring.proofs.Entries.{none-noted, next-below, told-kept}
-use borrow.Author.Rules.{rules}
 use Rattle.ring.proofs.note.Goals as goal
 
 pub returns-then-order-eq0 : goal.returns-then-order-eq0
@@ -12,9 +11,9 @@ returns-then-order-eq0 c =
 
 pub keep-requires : goal.keep-requires
 keep-requires c = record {
-      tail_len = c.requires.tail_len;
-      ring_length_bound = next-below c.args.tail.now c.requires.tail_len c.requires.tail_value;
-    }
+  tail_len = c.requires.tail_len;
+  ring_length_bound = next-below c.args.tail.now c.requires.tail_len c.requires.tail_value;
+}
 
 pub returns : goal.returns
 returns c =

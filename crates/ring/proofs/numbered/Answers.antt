@@ -1,13 +1,9 @@
 -- The entries passed so far have other numbers.
 -- Assumes nothing.
-use Prim.Native.Nat.{ℕ, ◌-◌, ◌≤◌, ◌<◌}
-use mathlib.Core.Path.{◌≡◌, sym, ◌∙◌}
-use mathlib.Core.Bool.{false}
+use mathlib.Core.Path.{sym, ◌∙◌}
 use native.Mathlib.Omega.{arith}
-use lib.Dec.{eqb}
 use borrow.Author.Tests.{eq-eqb, ne_eqb}
-use borrow.Author.Rules.{rules}
-use Rattle.model.specs.Tail.{word_of, tail_length}
+use Rattle.model.specs.Tail.{tail_length}
 use Rattle.model.proofs.Search.{passed_first}
 use Rattle.book.proofs.Founds.{found_at, found_none}
 use Rattle.ring.proofs.Entries.{first_word}

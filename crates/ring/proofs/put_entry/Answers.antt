@@ -4,7 +4,6 @@ use mathlib.Core.Path.{refl}
 use native.Mathlib.Omega.{arith}
 use lib.ListN.{length-set}
 use Rattle.ring.specs.Stores.{entry_put}
-use borrow.Author.Rules.{rules}
 use Rattle.ring.proofs.put_entry.Goals as goal
 
 pub bounds-tail-at-2 : goal.bounds-tail-at-2

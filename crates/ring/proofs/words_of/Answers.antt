@@ -2,7 +2,6 @@
 -- Assumes nothing.
 use mathlib.Core.Path.{sym, ap}
 use Rattle.ring.specs.Telling.{told_of}
-use borrow.Author.Rules.{rules}
 use Rattle.ring.proofs.words_of.Goals as goal
 
 pub returns-in-Done : goal.returns-in-Done

@@ -4,7 +4,6 @@ use mathlib.Core.Path.{◌∙◌, ap}
 use Rattle.model.specs.declared.Answer.{Answer}
 use Rattle.book.specs.Good.{answered}
 use Rattle.step.proofs.Kept.{answer-told}
-use borrow.Author.Rules.{rules}
 use Rattle.step.proofs.book_step.Goals as goal
 
 pub returns : goal.returns

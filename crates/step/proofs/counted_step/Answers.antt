@@ -10,7 +10,6 @@ use Rattle.book.specs.Good.{GoodBook, answered}
 use Rattle.ring.proofs.Telling.{told-no, told-yes}
 use Rattle.step.proofs.Kept.{part-good, count-is, foreseen-full, part-tellable, part_same, part-refused, part-raised, whole_long}
 use borrow.Author.Tests.{ne_eqb}
-use borrow.Author.Rules.{rules}
 use Rattle.step.proofs.counted_step.Goals as goal
 
 pub count-changes-requires : goal.count-changes-requires
@@ -50,9 +49,9 @@ returns-then-told-ne0 c =
 
 pub raise-requires : goal.raise-requires
 raise-requires c = record {
-      book_nonzero = omega (arith, last_word _ c.requires.good_book.laid, whole_long c.args.book.now c.step-told.new.book c.args.diary (diary-fits _ c.requires.good_book.laid c.requires.good_book.read c.requires.diary_value) c.step-told.auto.book);
-      changes_value = ne_eqb _ _ c.if-changes.false;
-    }
+  book_nonzero = omega (arith, last_word _ c.requires.good_book.laid, whole_long c.args.book.now c.step-told.new.book c.args.diary (diary-fits _ c.requires.good_book.laid c.requires.good_book.read c.requires.diary_value) c.step-told.auto.book);
+  changes_value = ne_eqb _ _ c.if-changes.false;
+}
 
 pub returns-then-is_change : goal.returns-then-is_change
 unfolding reading

@@ -5,7 +5,6 @@ use lib.Seq.{length-take-le}
 use Rattle.model.proofs.Ledger.{diary-fits, last_word}
 use Rattle.book.specs.Lent.{reading}
 use Rattle.step.proofs.Kept.{part-good, count-is, seen-refused, seen-full, seen_done}
-use borrow.Author.Rules.{rules}
 use Rattle.step.proofs.foresee.Goals as goal
 
 pub slice_bounds-judge-end : goal.slice_bounds-judge-end

@@ -3,7 +3,6 @@
 use mathlib.Core.Path.{sym, subst}
 use Rattle.units.specs.Ranges.{Ranges}
 use Rattle.book.proofs.Goods.{good-laid, good-part}
-use borrow.Author.Rules.{rules}
 use Rattle.step.proofs.foretell.Goals as goal
 
 pub diary_len-requires : goal.diary_len-requires

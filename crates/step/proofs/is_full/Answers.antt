@@ -3,7 +3,6 @@
 use mathlib.Core.Path.{ap}
 use mathlib.Core.Bool.{Bool, ◌&&◌}
 use lib.Dec.{eqb}
-use borrow.Author.Rules.{rules}
 use Rattle.step.proofs.is_full.Goals as goal
 
 pub returns : goal.returns

@@ -6,7 +6,6 @@ use Rattle.book.specs.Lent.{reading}
 use Rattle.kinds.proofs.Numbers.{no_kind}
 use Rattle.judge.proofs.Whole.{step-none}
 use Rattle.step.proofs.Outcomes.{refused-book}
-use borrow.Author.Rules.{rules}
 use Rattle.step.proofs.step.Goals as goal
 
 pub returns-in_default : goal.returns-in_default

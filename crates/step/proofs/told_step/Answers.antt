@@ -2,7 +2,6 @@
 -- Assumes nothing.
 use mathlib.Core.Path.{◌∙◌, ap, ap₂}
 use native.Mathlib.Omega.{arith}
-use lib.ListN.{length}
 use Rattle.model.specs.declared.Answer.{Answer}
 use Rattle.model.specs.Tail.{Tail, entry_at, noted, tail_words}
 use Rattle.model.specs.Ledger.{ledger_of}
@@ -11,7 +10,6 @@ use Rattle.model.proofs.Tail.{kept-place}
 use Rattle.model.proofs.Ledger.{diary-fits, tail-fits, last_word}
 use Rattle.ring.proofs.Telling.{told-answer, told_is}
 use Rattle.step.proofs.Kept.{tail-long, tail-is, found-kept, found_none, kept-answered, again-long, again_kept, again-is, again-tellable, order-noted}
-use borrow.Author.Rules.{rules}
 use Rattle.step.proofs.told_step.Goals as goal
 
 pub overflow_sub-last : goal.overflow_sub-last
@@ -40,10 +38,10 @@ slice_bounds-answer_to-start c = tail-fits _ c.requires.good_book.laid c.require
 
 pub answer_to-requires : goal.answer_to-requires
 answer_to-requires c = record {
-      tail_len = tail-long c.requires.good_book c.requires.diary_value;
-      place_lt_ring_places = kept-place (ledger_of c.args.book.now).tail c.args.order
-          (found-kept c.requires.good_book c.requires.diary_value c.args.order c.find.ensures c.in-At.is);
-    }
+  tail_len = tail-long c.requires.good_book c.requires.diary_value;
+  place_lt_ring_places = kept-place (ledger_of c.args.book.now).tail c.args.order
+      (found-kept c.requires.good_book c.requires.diary_value c.args.order c.find.ensures c.in-At.is);
+}
 
 pub returns-in-At : goal.returns-in-At
 returns-in-At c =
@@ -69,10 +67,10 @@ slice_bounds-note-end c = omega (arith, c.counted_step-told.auto.book)
 
 pub note-requires : goal.note-requires
 note-requires c = record {
-      tail_len = again-long c.requires.good_book c.requires.diary_value c.args.r c.counted_step-told.ensures.is;
-      tail_value = again_kept c.requires.good_book c.requires.diary_value c.args.r c.counted_step-told.ensures.is;
-      t_value = told_is c.counted_step-told.ensures.answer c.counted_step-told.ensures.told (again-tellable c.requires.good_book c.requires.diary_value c.args.r c.counted_step-told.ensures.is);
-    }
+  tail_len = again-long c.requires.good_book c.requires.diary_value c.args.r c.counted_step-told.ensures.is;
+  tail_value = again_kept c.requires.good_book c.requires.diary_value c.args.r c.counted_step-told.ensures.is;
+  t_value = told_is c.counted_step-told.ensures.answer c.counted_step-told.ensures.told (again-tellable c.requires.good_book c.requires.diary_value c.args.r c.counted_step-told.ensures.is);
+}
 
 pub returns : goal.returns
 returns c =

@@ -3,8 +3,6 @@
 use Prim.Native.Nat.{◌+◌, ◌-◌, ◌/◌}
 use mathlib.Core.Path.{sym, ◌∙◌}
 use native.Mathlib.Omega.{arith}
-use borrow.Author.Rules.{rules}
-use Rattle.units.specs.Units.{day_of, Bracket}
 use Rattle.units.proofs.Cuts.{turn_low, turn-high}
 use Rattle.units.proofs.bisect.Goals as goal
 
@@ -13,9 +11,9 @@ loop-lo-init c = c.requires.bracket
 
 pub is_on_or_after-requires : goal.is_on_or_after-requires
 is_on_or_after-requires c = record {
-      le_each = c.requires.le_each;
-      each_bound = c.requires.each_bound;
-    }
+  le_each = c.requires.le_each;
+  each_bound = c.requires.each_bound;
+}
 
 pub loop-lo-smaller-then-is_on_or_after : goal.loop-lo-smaller-then-is_on_or_after
 loop-lo-smaller-then-is_on_or_after c = omega arith

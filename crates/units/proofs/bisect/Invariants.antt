@@ -1,11 +1,7 @@
 -- The cut stays between the two ends, which meet.
 -- Assumes nothing.
-use Prim.Native.Nat.{◌+◌, ◌-◌, ◌/◌}
-use mathlib.Core.Path.{sym, ◌∙◌}
-use native.Mathlib.Omega.{arith}
-use borrow.Author.Rules.{rules}
+use Prim.Native.Nat.{◌-◌}
 use Rattle.units.specs.Units.{day_of, Bracket}
-use Rattle.units.proofs.Cuts.{turn_low, turn-high}
 use Rattle.units.proofs.bisect.Given as goal
 
 abbrev pub invariant-loop-lo : goal.invariant-loop-lo

@@ -1,6 +1,5 @@
 -- The guess is the cut if it is right, and else the search finds it.
 -- Assumes nothing.
-use borrow.Author.Rules.{rules}
 use Rattle.units.proofs.first_slot.Goals as goal
 
 pub returns-then-is_first : goal.returns-then-is_first

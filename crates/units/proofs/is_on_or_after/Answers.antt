@@ -1,7 +1,6 @@
 -- The question, put by a product.
 -- Assumes nothing.
 use mathlib.Core.Path.{sym}
-use borrow.Author.Rules.{rules}
 use Rattle.units.proofs.Cuts.{asked-by-product}
 use Rattle.units.proofs.is_on_or_after.Goals as goal
 

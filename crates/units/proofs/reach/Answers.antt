@@ -1,10 +1,9 @@
 -- The first probe on date d or later is an end, and so is the number of slots.
 -- Assumes nothing.
 -- no slot is behind the last
-use Prim.Native.Nat.{ℕ, ◌-◌, ◌≤◌, ◌<◌}
+use Prim.Native.Nat.{ℕ, ◌≤◌}
 use mathlib.Core.Path.{sym, ◌∙◌}
 use native.Mathlib.Omega.{arith}
-use borrow.Author.Rules.{rules}
 use Rattle.units.specs.Units.{Reached}
 use Rattle.units.proofs.Cuts.{turn-high}
 use Rattle.units.proofs.reach.Goals as goal
@@ -17,9 +16,9 @@ loop-hi-init c = (omega arith, omega arith)
 
 pub is_on_or_after-requires : goal.is_on_or_after-requires
 is_on_or_after-requires c = record {
-      le_each = c.requires.le_each;
-      each_bound = c.requires.each_bound;
-    }
+  le_each = c.requires.le_each;
+  each_bound = c.requires.each_bound;
+}
 
 pub returns-then-is_on_or_after : goal.returns-then-is_on_or_after
 returns-then-is_on_or_after c =

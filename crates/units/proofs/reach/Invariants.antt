@@ -1,12 +1,7 @@
 -- The first probe on date d or later is an end, and so is the number of slots.
 -- Assumes nothing.
 -- no slot is behind the last
-use Prim.Native.Nat.{ℕ, ◌-◌, ◌≤◌, ◌<◌}
-use mathlib.Core.Path.{sym, ◌∙◌}
-use native.Mathlib.Omega.{arith}
-use borrow.Author.Rules.{rules}
-use Rattle.units.specs.Units.{Reached}
-use Rattle.units.proofs.Cuts.{turn-high}
+use Prim.Native.Nat.{◌-◌, ◌≤◌, ◌<◌}
 use Rattle.units.proofs.reach.Given as goal
 
 abbrev pub invariant-loop-hi : goal.invariant-loop-hi

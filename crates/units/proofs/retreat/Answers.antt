@@ -1,10 +1,8 @@
 -- Every slot before the one returned is before date d, by the last of them; before slot 0 there is none.
 -- Assumes nothing.
-use Prim.Native.Nat.{ℕ, ◌-◌, ◌≤◌, ◌<◌}
+use Prim.Native.Nat.{ℕ, ◌-◌, ◌<◌}
 use mathlib.Core.Path.{sym, ◌∙◌}
 use native.Mathlib.Omega.{arith}
-use borrow.Author.Rules.{rules}
-use borrow.Author.Tests.{not-true}
 use Rattle.units.specs.Units.{Passed}
 use Rattle.units.proofs.Cuts.{turn_low}
 use Rattle.units.proofs.retreat.Goals as goal
@@ -17,9 +15,9 @@ loop-lo-init c = (omega arith, omega arith)
 
 pub is_on_or_after-requires : goal.is_on_or_after-requires
 is_on_or_after-requires c = record {
-      le_each = c.requires.le_each;
-      each_bound = c.requires.each_bound;
-    }
+  le_each = c.requires.le_each;
+  each_bound = c.requires.each_bound;
+}
 
 pub returns-then-not-is_on_or_after : goal.returns-then-not-is_on_or_after
 returns-then-not-is_on_or_after c =

@@ -1,12 +1,6 @@
 -- Every slot before the one returned is before date d, by the last of them; before slot 0 there is none.
 -- Assumes nothing.
-use Prim.Native.Nat.{ℕ, ◌-◌, ◌≤◌, ◌<◌}
-use mathlib.Core.Path.{sym, ◌∙◌}
-use native.Mathlib.Omega.{arith}
-use borrow.Author.Rules.{rules}
-use borrow.Author.Tests.{not-true}
-use Rattle.units.specs.Units.{Passed}
-use Rattle.units.proofs.Cuts.{turn_low}
+use Prim.Native.Nat.{◌≤◌, ◌<◌}
 use Rattle.units.proofs.retreat.Given as goal
 
 abbrev pub invariant-loop-lo : goal.invariant-loop-lo

@@ -3,7 +3,6 @@
 use Prim.Native.Nat.{◌+◌, ◌≤◌}
 use native.Mathlib.Nat.{mul-le-mul_left, mul-le-mul_right}
 use native.Mathlib.Omega.{arith}
-use borrow.Author.Rules.{rules}
 use Rattle.units.proofs.slots_on.Goals as goal
 
 pub first_slot-from-requires : goal.first_slot-from-requires

@@ -1,6 +1,5 @@
 -- `bits::flip`: the bit set or cleared.
 -- Assumes nothing.
-use borrow.Author.Rules.{rules}
 use Rattle.apply.proofs.bits.flip.Goals as goal
 
 pub returns-then-on : goal.returns-then-on

@@ -5,7 +5,6 @@ use mathlib.Core.Path.{◌∙◌, ap}
 use Rattle.book.specs.Lent.{reading}
 use Rattle.book.specs.Stores.{replaced}
 use Rattle.apply.specs.Stores.{flipped, marked}
-use borrow.Author.Rules.{rules}
 use Rattle.apply.proofs.bits.mark.Goals as goal
 
 pub returns : goal.returns

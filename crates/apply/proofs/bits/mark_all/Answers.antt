@@ -6,7 +6,6 @@ use Rattle.book.specs.Lent.{reading}
 use Rattle.book.proofs.Turns.{over-end, wrote_none}
 use Rattle.apply.specs.Stores.{marked, marked_three, marked_all}
 use Rattle.apply.proofs.Marks.{three-are-all}
-use borrow.Author.Rules.{rules}
 use Rattle.apply.proofs.bits.mark_all.Goals as goal
 
 pub returns-then-to-from : goal.returns-then-to-from

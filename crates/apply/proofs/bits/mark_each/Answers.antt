@@ -1,13 +1,9 @@
 -- `bits::mark_each`: the slots before i are marked.
 -- Assumes nothing.
-use Prim.Native.Nat.{◌-◌}
-use mathlib.Core.Path.{◌≡◌, refl, ◌∙◌}
+use mathlib.Core.Path.{refl, ◌∙◌}
 use native.Mathlib.Omega.{arith}
-use lib.ListN.{length}
-use borrow.Author.Rules.{rules}
-use Rattle.book.specs.Lent.{reading}
-use Rattle.book.proofs.Turns.{Turning, turning-start, turning-next, turning-end}
-use Rattle.apply.specs.Stores.{marked, marked_all}
+use Rattle.book.proofs.Turns.{turning-start, turning-next, turning-end}
+use Rattle.apply.specs.Stores.{marked_all}
 use Rattle.apply.proofs.bits.mark_each.Goals as goal
 
 pub loop-i-init : goal.loop-i-init
@@ -15,10 +11,10 @@ loop-i-init c = (refl, turning-start)
 
 pub mark-requires : goal.mark-requires
 mark-requires c = record {
-      lies = c.loop-i.invariant.1.stays _ c.requires.lies;
-      slot_lt_slots = omega (arith, c.requires.to_le_slots);
-      v_bound = c.requires.v_bound;
-    }
+  lies = c.loop-i.invariant.1.stays _ c.requires.lies;
+  slot_lt_slots = omega (arith, c.requires.to_le_slots);
+  v_bound = c.requires.v_bound;
+}
 
 pub loop-i-preserved : goal.loop-i-preserved
 loop-i-preserved c =

@@ -1,13 +1,11 @@
 -- `bits::mark_each`: the slots before i are marked.
 -- Assumes nothing.
 use Prim.Native.Nat.{◌-◌}
-use mathlib.Core.Path.{◌≡◌, refl, ◌∙◌}
-use native.Mathlib.Omega.{arith}
+use mathlib.Core.Path.{◌≡◌}
 use lib.ListN.{length}
-use borrow.Author.Rules.{rules}
 use Rattle.book.specs.Lent.{reading}
-use Rattle.book.proofs.Turns.{Turning, turning-start, turning-next, turning-end}
-use Rattle.apply.specs.Stores.{marked, marked_all}
+use Rattle.book.proofs.Turns.{Turning}
+use Rattle.apply.specs.Stores.{marked}
 use Rattle.apply.proofs.bits.mark_each.Given as goal
 
 abbrev pub invariant-loop-i : goal.invariant-loop-i

@@ -2,22 +2,21 @@
 -- Assumes nothing.
 use Rattle.book.proofs.Turns.{wrote_then}
 use Rattle.apply.specs.Stores.{marked_three}
-use borrow.Author.Rules.{rules}
 use Rattle.apply.proofs.bits.mark_three.Goals as goal
 
 pub mark-requires-2 : goal.mark-requires-2
 mark-requires-2 c = record {
-      lies = c.mark.ensures.stays _ c.requires.lies;
-      slot_lt_slots = c.requires.first_lt_slots.1;
-      v_bound = c.requires.v_bound;
-    }
+  lies = c.mark.ensures.stays _ c.requires.lies;
+  slot_lt_slots = c.requires.first_lt_slots.1;
+  v_bound = c.requires.v_bound;
+}
 
 pub mark-requires-3 : goal.mark-requires-3
 mark-requires-3 c = record {
-      lies = (wrote_then c.mark.ensures c.mark-2.ensures).stays _ c.requires.lies;
-      slot_lt_slots = c.requires.first_lt_slots.2;
-      v_bound = c.requires.v_bound;
-    }
+  lies = (wrote_then c.mark.ensures c.mark-2.ensures).stays _ c.requires.lies;
+  slot_lt_slots = c.requires.first_lt_slots.2;
+  v_bound = c.requires.v_bound;
+}
 
 pub returns : goal.returns
 unfolding marked_three

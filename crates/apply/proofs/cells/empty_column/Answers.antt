@@ -1,17 +1,13 @@
 -- `cells::empty_column`: the slots before i are emptied, and n of their cells were full.
 -- Assumes nothing.
-use Prim.Native.Nat.{ℕ, ◌+◌, ◌-◌}
-use mathlib.Core.Path.{◌≡◌, refl, sym, ◌∙◌, ap}
+use Prim.Native.Nat.{ℕ}
+use mathlib.Core.Path.{refl, ◌∙◌, ap}
 use mathlib.Core.Bool.{not}
 use native.Mathlib.Omega.{arith}
 use lib.Dec.{eqb}
-use lib.ListN.{length}
-use borrow.Author.Rules.{rules}
 use Rattle.model.specs.Bounded.{one}
 use Rattle.book.specs.Lent.{reading}
-use Rattle.book.specs.Stores.{empty, stored}
-use Rattle.book.proofs.Turns.{Turning, turning-start, turning-next, turning-end}
-use Rattle.queries.specs.Shown.{column_count}
+use Rattle.book.proofs.Turns.{turning-start, turning-next, turning-end}
 use Rattle.apply.specs.Stores.{filled}
 use Rattle.apply.proofs.Counts.{column-few, column-none, column-next}
 use Rattle.apply.proofs.cells.empty_column.Goals as goal
@@ -21,10 +17,10 @@ loop-i-init c = (refl, turning-start, omega arith)
 
 pub cell-requires : goal.cell-requires
 cell-requires c = record {
-      lies = c.loop-i.invariant.1.stays _ c.requires.lies;
-      slot_lt_slots = omega (arith, c.requires.to_le_slots);
-      item_lt_g = c.requires.item_lt_g;
-    }
+  lies = c.loop-i.invariant.1.stays _ c.requires.lies;
+  slot_lt_slots = omega (arith, c.requires.to_le_slots);
+  item_lt_g = c.requires.item_lt_g;
+}
 
 pub overflow_add-n : goal.overflow_add-n
 overflow_add-n c =
@@ -40,11 +36,11 @@ overflow_add-n c =
 
 pub put-requires : goal.put-requires
 put-requires c = record {
-      lies = c.loop-i.invariant.1.stays _ c.requires.lies;
-      width_bound = omega (arith, c.requires.width_value);
-      slot_lt_slots = omega (arith, c.requires.to_le_slots);
-      item_lt_g = c.requires.item_lt_g;
-    }
+  lies = c.loop-i.invariant.1.stays _ c.requires.lies;
+  width_bound = omega (arith, c.requires.width_value);
+  slot_lt_slots = omega (arith, c.requires.to_le_slots);
+  item_lt_g = c.requires.item_lt_g;
+}
 
 pub loop-i-preserved : goal.loop-i-preserved
 loop-i-preserved c =

@@ -1,19 +1,12 @@
 -- `cells::empty_column`: the slots before i are emptied, and n of their cells were full.
 -- Assumes nothing.
-use Prim.Native.Nat.{ℕ, ◌+◌, ◌-◌}
-use mathlib.Core.Path.{◌≡◌, refl, sym, ◌∙◌, ap}
-use mathlib.Core.Bool.{not}
-use native.Mathlib.Omega.{arith}
-use lib.Dec.{eqb}
+use Prim.Native.Nat.{◌+◌, ◌-◌}
+use mathlib.Core.Path.{◌≡◌}
 use lib.ListN.{length}
-use borrow.Author.Rules.{rules}
-use Rattle.model.specs.Bounded.{one}
 use Rattle.book.specs.Lent.{reading}
 use Rattle.book.specs.Stores.{empty, stored}
-use Rattle.book.proofs.Turns.{Turning, turning-start, turning-next, turning-end}
+use Rattle.book.proofs.Turns.{Turning}
 use Rattle.queries.specs.Shown.{column_count}
-use Rattle.apply.specs.Stores.{filled}
-use Rattle.apply.proofs.Counts.{column-few, column-none, column-next}
 use Rattle.apply.proofs.cells.empty_column.Given as goal
 
 abbrev pub invariant-loop-i : goal.invariant-loop-i

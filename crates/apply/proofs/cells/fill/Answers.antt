@@ -1,13 +1,8 @@
 -- `cells::fill`: the slots before i are filled.
 -- Assumes nothing.
-use Prim.Native.Nat.{◌-◌}
-use mathlib.Core.Path.{◌≡◌, refl, ◌∙◌}
+use mathlib.Core.Path.{refl, ◌∙◌}
 use native.Mathlib.Omega.{arith}
-use lib.ListN.{length}
-use borrow.Author.Rules.{rules}
-use Rattle.book.specs.Lent.{reading}
-use Rattle.book.specs.Stores.{stored}
-use Rattle.book.proofs.Turns.{Turning, turning-start, turning-next, turning-end}
+use Rattle.book.proofs.Turns.{turning-start, turning-next, turning-end}
 use Rattle.apply.specs.Stores.{filled}
 use Rattle.apply.proofs.cells.fill.Goals as goal
 
@@ -16,11 +11,11 @@ loop-i-init c = (refl, turning-start)
 
 pub put-requires : goal.put-requires
 put-requires c = record {
-      lies = c.loop-i.invariant.1.stays _ c.requires.lies;
-      width_bound = c.requires.width_bound;
-      slot_lt_slots = omega (arith, c.requires.to_le_slots);
-      item_lt_g = c.requires.item_lt_g;
-    }
+  lies = c.loop-i.invariant.1.stays _ c.requires.lies;
+  width_bound = c.requires.width_bound;
+  slot_lt_slots = omega (arith, c.requires.to_le_slots);
+  item_lt_g = c.requires.item_lt_g;
+}
 
 pub loop-i-preserved : goal.loop-i-preserved
 loop-i-preserved c =

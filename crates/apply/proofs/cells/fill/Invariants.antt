@@ -1,14 +1,11 @@
 -- `cells::fill`: the slots before i are filled.
 -- Assumes nothing.
 use Prim.Native.Nat.{◌-◌}
-use mathlib.Core.Path.{◌≡◌, refl, ◌∙◌}
-use native.Mathlib.Omega.{arith}
+use mathlib.Core.Path.{◌≡◌}
 use lib.ListN.{length}
-use borrow.Author.Rules.{rules}
 use Rattle.book.specs.Lent.{reading}
 use Rattle.book.specs.Stores.{stored}
-use Rattle.book.proofs.Turns.{Turning, turning-start, turning-next, turning-end}
-use Rattle.apply.specs.Stores.{filled}
+use Rattle.book.proofs.Turns.{Turning}
 use Rattle.apply.proofs.cells.fill.Given as goal
 
 abbrev pub invariant-loop-i : goal.invariant-loop-i

@@ -1,13 +1,9 @@
 -- `cells::sweep_row`: the cells before j are swept.
 -- Assumes nothing.
-use Prim.Native.Nat.{◌-◌}
-use mathlib.Core.Path.{◌≡◌, refl, ◌∙◌}
+use mathlib.Core.Path.{refl, ◌∙◌}
 use native.Mathlib.Omega.{arith}
-use lib.ListN.{length}
-use borrow.Author.Rules.{rules}
-use Rattle.book.specs.Lent.{reading}
-use Rattle.book.specs.Stores.{cleared, swept_row}
-use Rattle.book.proofs.Turns.{Turning, turning-start, turning-next, turning-end}
+use Rattle.book.specs.Stores.{swept_row}
+use Rattle.book.proofs.Turns.{turning-start, turning-next, turning-end}
 use Rattle.apply.proofs.cells.sweep_row.Goals as goal
 
 pub loop-j-init : goal.loop-j-init
@@ -15,11 +11,11 @@ loop-j-init c = (refl, turning-start)
 
 pub clear-requires : goal.clear-requires
 clear-requires c = record {
-      lies = c.loop-j.invariant.1.stays _ c.requires.lies;
-      width_bound = c.requires.width_bound;
-      slot_lt_slots = c.requires.slot_lt_slots;
-      item_lt_g = c.loop-j-test.true;
-    }
+  lies = c.loop-j.invariant.1.stays _ c.requires.lies;
+  width_bound = c.requires.width_bound;
+  slot_lt_slots = c.requires.slot_lt_slots;
+  item_lt_g = c.loop-j-test.true;
+}
 
 pub loop-j-preserved : goal.loop-j-preserved
 loop-j-preserved c =

@@ -1,13 +1,11 @@
 -- `cells::sweep_row`: the cells before j are swept.
 -- Assumes nothing.
 use Prim.Native.Nat.{◌-◌}
-use mathlib.Core.Path.{◌≡◌, refl, ◌∙◌}
-use native.Mathlib.Omega.{arith}
+use mathlib.Core.Path.{◌≡◌}
 use lib.ListN.{length}
-use borrow.Author.Rules.{rules}
 use Rattle.book.specs.Lent.{reading}
-use Rattle.book.specs.Stores.{cleared, swept_row}
-use Rattle.book.proofs.Turns.{Turning, turning-start, turning-next, turning-end}
+use Rattle.book.specs.Stores.{cleared}
+use Rattle.book.proofs.Turns.{Turning}
 use Rattle.apply.proofs.cells.sweep_row.Given as goal
 
 abbrev pub invariant-loop-j : goal.invariant-loop-j

@@ -1,13 +1,9 @@
 -- `cells::sweep_rows`: the slots before i are swept.
 -- Assumes nothing.
-use Prim.Native.Nat.{◌-◌}
-use mathlib.Core.Path.{◌≡◌, refl, ◌∙◌}
+use mathlib.Core.Path.{refl, ◌∙◌}
 use native.Mathlib.Omega.{arith}
-use lib.ListN.{length}
-use borrow.Author.Rules.{rules}
-use Rattle.book.specs.Lent.{reading}
-use Rattle.book.specs.Stores.{swept_row, swept}
-use Rattle.book.proofs.Turns.{Turning, turning-start, turning-next, turning-end}
+use Rattle.book.specs.Stores.{swept}
+use Rattle.book.proofs.Turns.{turning-start, turning-next, turning-end}
 use Rattle.apply.proofs.cells.sweep_rows.Goals as goal
 
 pub loop-i-init : goal.loop-i-init
@@ -15,10 +11,10 @@ loop-i-init c = (refl, turning-start)
 
 pub sweep_row-requires : goal.sweep_row-requires
 sweep_row-requires c = record {
-      lies = c.loop-i.invariant.1.stays _ c.requires.lies;
-      width_bound = c.requires.width_bound;
-      slot_lt_slots = omega (arith, c.requires.to_le_slots);
-    }
+  lies = c.loop-i.invariant.1.stays _ c.requires.lies;
+  width_bound = c.requires.width_bound;
+  slot_lt_slots = omega (arith, c.requires.to_le_slots);
+}
 
 pub loop-i-preserved : goal.loop-i-preserved
 loop-i-preserved c =

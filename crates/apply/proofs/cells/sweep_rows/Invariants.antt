@@ -1,13 +1,11 @@
 -- `cells::sweep_rows`: the slots before i are swept.
 -- Assumes nothing.
 use Prim.Native.Nat.{◌-◌}
-use mathlib.Core.Path.{◌≡◌, refl, ◌∙◌}
-use native.Mathlib.Omega.{arith}
+use mathlib.Core.Path.{◌≡◌}
 use lib.ListN.{length}
-use borrow.Author.Rules.{rules}
 use Rattle.book.specs.Lent.{reading}
-use Rattle.book.specs.Stores.{swept_row, swept}
-use Rattle.book.proofs.Turns.{Turning, turning-start, turning-next, turning-end}
+use Rattle.book.specs.Stores.{swept_row}
+use Rattle.book.proofs.Turns.{Turning}
 use Rattle.apply.proofs.cells.sweep_rows.Given as goal
 
 abbrev pub invariant-loop-i : goal.invariant-loop-i

@@ -9,7 +9,6 @@ use Rattle.book.specs.Lent.{reading}
 use Rattle.apply.specs.Stores.{full, filled}
 use Rattle.apply.proofs.Columns.{write-add_conf}
 use Rattle.apply.proofs.Arms.{Known, laid, a-ok, b-ok, span, item, arm}
-use borrow.Author.Rules.{rules}
 use Rattle.apply.proofs.meetings.add_conf.Goals as goal
 
 pub add-requires : goal.add-requires
@@ -22,7 +21,7 @@ add-requires c =
       span = span w conf_pairs (λ g. g.conf) refl refl;
       item_lt_g = item w conf_pairs (λ g. g.conf) refl a.r.a (a-ok w a.site.settings.rooms refl);
       who_bound = omega
-            (arith, (laid w).ranges.meetings, b-ok w a.site.settings.meetings refl);
+          (arith, (laid w).ranges.meetings, b-ok w a.site.settings.meetings refl);
     }
 
 pub returns : goal.returns

@@ -9,7 +9,6 @@ use Rattle.book.specs.Lent.{reading}
 use Rattle.apply.specs.Stores.{full, filled}
 use Rattle.apply.proofs.Columns.{write-add_lunch}
 use Rattle.apply.proofs.Arms.{Known, laid, a-ok, b-ok, span, item, arm}
-use borrow.Author.Rules.{rules}
 use Rattle.apply.proofs.meetings.add_lunch.Goals as goal
 
 pub add-requires : goal.add-requires
@@ -22,7 +21,7 @@ add-requires c =
       span = span w lunch_triples (λ g. g.lunch) refl refl;
       item_lt_g = item w lunch_triples (λ g. g.lunch) refl a.r.b (b-ok w a.site.settings.meetings refl);
       who_bound = omega
-            (arith, (laid w).ranges.dining, a-ok w a.site.settings.dining refl);
+          (arith, (laid w).ranges.dining, a-ok w a.site.settings.dining refl);
     }
 
 pub returns : goal.returns

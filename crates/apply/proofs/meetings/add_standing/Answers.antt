@@ -10,7 +10,6 @@ use Rattle.book.specs.Lent.{reading}
 use Rattle.apply.specs.Stores.{marked_all}
 use Rattle.apply.proofs.Erasures.{write-add_standing}
 use Rattle.apply.proofs.Arms.{Known, a-ok, span, item, arm}
-use borrow.Author.Rules.{rules}
 use Rattle.apply.proofs.meetings.add_standing.Goals as goal
 
 pub turn-requires : goal.turn-requires

@@ -12,7 +12,6 @@ use Rattle.book.specs.Stores.{swept}
 use Rattle.apply.specs.Stores.{marked_all}
 use Rattle.apply.proofs.Erasures.{write-end_standing}
 use Rattle.apply.proofs.Arms.{Known, laid, a-ok, span, single, item, arm}
-use borrow.Author.Rules.{rules}
 use Rattle.apply.proofs.meetings.end_standing.Goals as goal
 
 pub end_standing-requires : goal.end_standing-requires
@@ -26,7 +25,7 @@ end_standing-requires c =
       single = single w attend_cells (λ g. g.attend) refl refl refl;
       a_bound = item w standings (λ g. g.standing) refl (a.r.a / 32) (group-lt a.site.settings.meetings a.r.a (a-ok w a.site.settings.meetings refl));
       a_bound_2 = omega
-              (arith, (laid w).ranges.meetings, a-ok w a.site.settings.meetings refl);
+          (arith, (laid w).ranges.meetings, a-ok w a.site.settings.meetings refl);
     }
 
 pub returns : goal.returns

@@ -9,7 +9,6 @@ use Rattle.book.specs.Lent.{reading}
 use Rattle.book.specs.Stores.{swept}
 use Rattle.apply.proofs.Erasures.{write-erase_conf}
 use Rattle.apply.proofs.Arms.{Known, laid, b-ok, span, arm}
-use borrow.Author.Rules.{rules}
 use Rattle.apply.proofs.meetings.erase_conf.Goals as goal
 
 pub drop-requires : goal.drop-requires

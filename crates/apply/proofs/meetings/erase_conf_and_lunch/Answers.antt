@@ -10,7 +10,6 @@ use Rattle.book.specs.Stores.{empty, swept}
 use Rattle.apply.specs.Stores.{filled}
 use Rattle.apply.proofs.Erasures.{write-erase_conf_and_lunch}
 use Rattle.apply.proofs.Arms.{Known, laid, b-ok, span, arm}
-use borrow.Author.Rules.{rules}
 use Rattle.apply.proofs.meetings.erase_conf_and_lunch.Goals as goal
 
 pub erase_conf_and_lunch-requires : goal.erase_conf_and_lunch-requires

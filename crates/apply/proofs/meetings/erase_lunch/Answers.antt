@@ -9,7 +9,6 @@ use Rattle.book.specs.Stores.{empty}
 use Rattle.apply.specs.Stores.{filled}
 use Rattle.apply.proofs.Columns.{write-erase_lunch}
 use Rattle.apply.proofs.Arms.{Known, b-ok, span, item, arm}
-use borrow.Author.Rules.{rules}
 use Rattle.apply.proofs.meetings.erase_lunch.Goals as goal
 
 pub take-requires : goal.take-requires

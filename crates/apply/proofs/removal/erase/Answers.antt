@@ -13,7 +13,6 @@ use Rattle.apply.specs.Stores.{Single}
 use Rattle.apply.proofs.Counts.{emptied-few}
 use Rattle.apply.proofs.Removals.{erased-by}
 use Rattle.apply.proofs.Arms.{span_of, single_of, item_of}
-use borrow.Author.Rules.{rules}
 use Rattle.apply.proofs.removal.erase.Goals as goal
 
 pub turn-requires : goal.turn-requires

@@ -1,8 +1,6 @@
 -- `removal::remove_on`: without leave there is nothing to remove.
 -- Assumes nothing.
 use mathlib.Core.Path.{sym, ◌∙◌}
-use borrow.Author.Rules.{rules}
-use borrow.Author.Tests.{not-true}
 use Rattle.book.proofs.Goods.{good-laid}
 use Rattle.queries.proofs.Spans.{bookings-none-on}
 use Rattle.apply.proofs.Removals.{away-kept, erased-is, erased-count}
@@ -10,11 +8,11 @@ use Rattle.apply.proofs.removal.remove_on.Goals as goal
 
 pub on_leave-requires : goal.on_leave-requires
 on_leave-requires c = record {
-      good = c.requires.good;
-      sited = c.requires.sited;
-      date_lt_dates = c.requires.date_lt_dates;
-      visitor_lt_visitors = c.requires.v_lt_visitors;
-    }
+  good = c.requires.good;
+  sited = c.requires.sited;
+  date_lt_dates = c.requires.date_lt_dates;
+  visitor_lt_visitors = c.requires.v_lt_visitors;
+}
 
 pub returns-then-not-on_leave : goal.returns-then-not-on_leave
 returns-then-not-on_leave c =
@@ -26,14 +24,14 @@ returns-then-not-on_leave c =
 
 pub erase-requires : goal.erase-requires
 erase-requires c = record {
-      laid = good-laid c.requires.good;
-      sited = c.requires.sited;
-      v_lt_visitors = c.requires.v_lt_visitors;
-      date_lt_dates = c.requires.date_lt_dates;
-    }
+  laid = good-laid c.requires.good;
+  sited = c.requires.sited;
+  v_lt_visitors = c.requires.v_lt_visitors;
+  date_lt_dates = c.requires.date_lt_dates;
+}
 
 pub returns : goal.returns
 returns c = record {
-      book_after = erased-is c.requires.good c.requires.v_lt_visitors c.requires.date_lt_dates c.erase.ensures;
-      value = erased-count c.requires.good c.requires.v_lt_visitors c.requires.date_lt_dates c.erase.ensures;
-    }
+  book_after = erased-is c.requires.good c.requires.v_lt_visitors c.requires.date_lt_dates c.erase.ensures;
+  value = erased-count c.requires.good c.requires.v_lt_visitors c.requires.date_lt_dates c.erase.ensures;
+}

@@ -1,13 +1,10 @@
 -- `removal::remove_visitor`: the dates before `date` are done, and n bookings erased.
 -- Assumes nothing.
 use Prim.Native.Nat.{suc, ◌-◌}
-use mathlib.Core.Path.{◌≡◌, refl, ◌∙◌}
-use native.Mathlib.Omega.{arith}
+use mathlib.Core.Path.{◌≡◌}
 use lib.ListN.{length}
 use Rattle.book.specs.Lent.{reading}
-use Rattle.book.proofs.Goods.{good-laid}
-use Rattle.apply.proofs.Removals.{Removing, removing-next, removing-end, removing-few}
-use borrow.Author.Rules.{rules}
+use Rattle.apply.proofs.Removals.{Removing}
 use Rattle.apply.proofs.removal.remove_visitor.Given as goal
 
 abbrev pub invariant-loop-date : goal.invariant-loop-date

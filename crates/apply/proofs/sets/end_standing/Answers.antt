@@ -2,7 +2,6 @@
 -- Assumes nothing.
 use native.Mathlib.Omega.{arith}
 use Rattle.book.proofs.Turns.{wrote_then}
-use borrow.Author.Rules.{rules}
 use Rattle.apply.proofs.sets.end_standing.Goals as goal
 
 pub overflow_add-last : goal.overflow_add-last

@@ -17,7 +17,6 @@ use Rattle.units.proofs.Slots.{date-lt}
 use Rattle.book.proofs.Turns.{wrote_then}
 use Rattle.apply.specs.Stores.{filled}
 use Rattle.apply.proofs.Arms.{span_of, item_of}
-use borrow.Author.Rules.{rules}
 use Rattle.apply.proofs.sets.erase_conf_and_lunch.Goals as goal
 
 last_of : (S : Settings) (h : Grid) → h ≡ grid_of S conf_pairs → (last : ℕ) → last < h.slots → last < slots S conf_pairs

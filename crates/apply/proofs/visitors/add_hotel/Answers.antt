@@ -9,7 +9,6 @@ use Rattle.book.specs.Lent.{reading}
 use Rattle.apply.specs.Stores.{full, filled}
 use Rattle.apply.proofs.Columns.{write-add_hotel}
 use Rattle.apply.proofs.Arms.{Known, laid, a-ok, b-ok, span, item, arm}
-use borrow.Author.Rules.{rules}
 use Rattle.apply.proofs.visitors.add_hotel.Goals as goal
 
 pub add-requires : goal.add-requires
@@ -22,7 +21,7 @@ add-requires c =
       span = span w hotel_cells (λ g. g.hotel) refl refl;
       item_lt_g = item w hotel_cells (λ g. g.hotel) refl a.r.a (a-ok w a.site.settings.hotels refl);
       who_bound = omega
-            (arith, (laid w).ranges.visitors, b-ok w a.site.settings.visitors refl);
+          (arith, (laid w).ranges.visitors, b-ok w a.site.settings.visitors refl);
     }
 
 pub returns : goal.returns

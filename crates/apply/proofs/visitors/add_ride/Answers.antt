@@ -9,7 +9,6 @@ use Rattle.book.specs.Lent.{reading}
 use Rattle.apply.specs.Stores.{full, filled}
 use Rattle.apply.proofs.Columns.{write-add_ride}
 use Rattle.apply.proofs.Arms.{Known, laid, a-ok, b-ok, span, item, arm}
-use borrow.Author.Rules.{rules}
 use Rattle.apply.proofs.visitors.add_ride.Goals as goal
 
 pub add-requires : goal.add-requires
@@ -22,7 +21,7 @@ add-requires c =
       span = span w ride_cells (λ g. g.ride) refl refl;
       item_lt_g = item w ride_cells (λ g. g.ride) refl a.r.a (a-ok w a.site.settings.transports refl);
       who_bound = omega
-            (arith, (laid w).ranges.visitors, b-ok w a.site.settings.visitors refl);
+          (arith, (laid w).ranges.visitors, b-ok w a.site.settings.visitors refl);
     }
 
 pub returns : goal.returns

@@ -10,7 +10,6 @@ use Rattle.book.specs.Lent.{reading}
 use Rattle.apply.specs.Stores.{marked_all}
 use Rattle.apply.proofs.Erasures.{write-end_leave}
 use Rattle.apply.proofs.Arms.{Known, b-ok, span, item, arm}
-use borrow.Author.Rules.{rules}
 use Rattle.apply.proofs.visitors.end_leave.Goals as goal
 
 pub turn-requires : goal.turn-requires

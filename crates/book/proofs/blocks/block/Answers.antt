@@ -3,7 +3,6 @@
 use native.Mathlib.Nat.{mul-le-mul_right}
 use native.Mathlib.Omega.{arith}
 use lib.ListN.{length}
-use borrow.Author.Rules.{rules}
 use Rattle.book.specs.Lent.{reading, Lies}
 use Rattle.book.proofs.Spans.{cells-le, words-le, block-by}
 use Rattle.book.proofs.blocks.block.Goals as goal

@@ -3,7 +3,6 @@
 use Rattle.book.proofs.Cells.{cell_room, wide-le}
 use native.Mathlib.Omega.{arith}
 use Prim.Native.Nat.{◌*◌}
-use borrow.Author.Rules.{rules}
 use Rattle.book.proofs.grid.at.Goals as goal
 
 pub overflow_mul-result : goal.overflow_mul-result

@@ -1,6 +1,5 @@
 -- By the contracts of the seven.
 -- Assumes nothing.
-use borrow.Author.Rules.{rules}
 use Rattle.book.proofs.grid.grids_of.Goals as goal
 
 pub returns : goal.returns

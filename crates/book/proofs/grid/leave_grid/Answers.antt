@@ -4,7 +4,6 @@ use mathlib.Core.Path.{◌∙◌}
 use native.Mathlib.Omega.{arith}
 use Rattle.model.specs.Words.{leaves, base}
 use Rattle.book.proofs.Regions.{grid-by}
-use borrow.Author.Rules.{rules}
 use Rattle.book.proofs.grid.leave_grid.Goals as goal
 
 pub returns : goal.returns

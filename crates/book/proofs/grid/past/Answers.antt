@@ -2,7 +2,6 @@
 -- Assumes nothing.
 use Rattle.book.proofs.Regions.{product3}
 use native.Mathlib.Omega.{arith}
-use borrow.Author.Rules.{rules}
 use Rattle.book.proofs.grid.past.Goals as goal
 
 pub overflow_mul-result : goal.overflow_mul-result

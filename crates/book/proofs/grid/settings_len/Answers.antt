@@ -1,7 +1,6 @@
 -- The limits, and a capacity for each dining room.
 -- Assumes nothing.
 use mathlib.Core.Path.{sym}
-use borrow.Author.Rules.{rules}
 use Rattle.model.proofs.Places.{settings-length}
 use Rattle.book.proofs.grid.settings_len.Goals as goal
 

@@ -1,7 +1,6 @@
 -- The settings, and the grids by their contract.
 -- Assumes nothing.
 use mathlib.Core.Path.{ap}
-use borrow.Author.Rules.{rules}
 use Rattle.book.specs.declared.grid.Grids.{Grids}
 use Rattle.book.proofs.grid.site_of.Goals as goal
 

@@ -6,7 +6,6 @@ use Rattle.book.proofs.Regions.{small, base-next, grid-by}
 use Rattle.units.proofs.Slots.{all-sessions}
 use native.Mathlib.Omega.{arith}
 use mathlib.Core.Path.{sym, ◌∙◌, ap}
-use borrow.Author.Rules.{rules}
 use Rattle.book.proofs.grid.standing_grid.Goals as goal
 
 pub past-requires : goal.past-requires

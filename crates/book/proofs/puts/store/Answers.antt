@@ -7,7 +7,6 @@ use native.Mathlib.Omega.{arith}
 use lib.ListN.{set, length-set}
 use Rattle.book.specs.Stores.{puts}
 use Rattle.book.proofs.Sweeps.{first-put, three-left}
-use borrow.Author.Rules.{rules}
 use Rattle.book.proofs.puts.store.Goals as goal
 
 pub returns-then-width-eq1 : goal.returns-then-width-eq1

@@ -1,7 +1,7 @@
 -- After j cells n is their count.
 -- Assumes nothing.
 use Rattle.book.specs.Lent.{reading}
-use Prim.Native.Nat.{ℕ, ◌+◌, ◌-◌, ◌≤◌}
+use Prim.Native.Nat.{ℕ, ◌+◌}
 use mathlib.Core.Path.{◌≡◌, refl, sym, ◌∙◌, ap, ap₂}
 use native.Mathlib.Omega.{arith}
 use lib.Dec.{eqb}
@@ -30,8 +30,7 @@ overflow_add-n c =
 
 pub loop-j-preserved : goal.loop-j-preserved
 loop-j-preserved c =
-    let a = c.args in
-    (
+    let a = c.args in (
       search rules,
       search rules,
       ap₂ ◌+◌ c.loop-j.invariant.2 (c.same-n.ensures ∙ ap (λ (x : ℕ). one (eqb x a.w)) c.cell.ensures)

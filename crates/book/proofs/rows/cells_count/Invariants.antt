@@ -1,16 +1,11 @@
 -- After j cells n is their count.
 -- Assumes nothing.
 use Rattle.book.specs.Lent.{reading}
-use Prim.Native.Nat.{ℕ, ◌+◌, ◌-◌, ◌≤◌}
-use mathlib.Core.Path.{◌≡◌, refl, sym, ◌∙◌, ap, ap₂}
-use native.Mathlib.Omega.{arith}
+use Prim.Native.Nat.{◌-◌, ◌≤◌}
+use mathlib.Core.Path.{◌≡◌}
 use lib.Dec.{eqb}
-use borrow.Author.Rules.{rules}
-use Rattle.model.specs.Bounded.{count, one}
+use Rattle.model.specs.Bounded.{count}
 use Rattle.book.specs.Grids.{cell_at}
-use Rattle.book.specs.Rows.{row_count}
-use Rattle.model.proofs.ReadBack.{one-le}
-use Rattle.book.proofs.Counts.{count-more, count-le}
 use Rattle.book.proofs.rows.cells_count.Given as goal
 
 abbrev pub invariant-loop-j : goal.invariant-loop-j

@@ -1,15 +1,10 @@
 -- After j words n is their count.
 -- Assumes nothing.
-use Prim.Native.Nat.{◌+◌, ◌-◌, ◌≤◌}
-use mathlib.Core.Path.{◌≡◌, refl, sym, ◌∙◌, ap, ap₂}
-use native.Mathlib.Omega.{arith}
+use Prim.Native.Nat.{◌-◌, ◌≤◌}
+use mathlib.Core.Path.{◌≡◌}
 use lib.Dec.{eqb}
 use lib.ListN.{length, get_or}
-use borrow.Author.Rules.{rules}
 use Rattle.model.specs.Bounded.{count}
-use Rattle.book.specs.Rows.{part_count}
-use Rattle.model.proofs.ReadBack.{one-le}
-use Rattle.book.proofs.Counts.{count-more, count-le}
 use Rattle.book.proofs.rows.part_count.Given as goal
 
 abbrev pub invariant-loop-j : goal.invariant-loop-j

@@ -2,7 +2,6 @@
 -- Assumes nothing.
 use Rattle.book.specs.Lent.{reading}
 use mathlib.Core.Path.{◌∙◌}
-use borrow.Author.Rules.{rules}
 use Rattle.book.proofs.RowRuns.{one-row}
 use Rattle.book.proofs.rows.row_count.Goals as goal
 

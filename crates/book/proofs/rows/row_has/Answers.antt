@@ -5,7 +5,6 @@ use mathlib.Core.Path.{sym, ◌∙◌, ap}
 use mathlib.Core.Bool.{not}
 use lib.Dec.{eqb}
 use Prim.Native.Nat.{ℕ}
-use borrow.Author.Rules.{rules}
 use Rattle.book.proofs.RowParts.{row-has-count}
 use Rattle.book.proofs.rows.row_has.Goals as goal
 

@@ -4,7 +4,6 @@ use Rattle.book.specs.Lent.{reading}
 use Prim.Native.Nat.{ℕ, ◌+◌, ◌*◌, ◌-◌}
 use mathlib.Core.Path.{◌≡◌, refl, ◌∙◌, ap}
 use native.Mathlib.Omega.{arith}
-use borrow.Author.Rules.{rules}
 use Rattle.book.proofs.RowRuns.{part-long, part-members}
 use Rattle.book.proofs.rows.row_members.Goals as goal
 

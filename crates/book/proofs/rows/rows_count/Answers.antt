@@ -3,7 +3,6 @@
 use Rattle.book.specs.Lent.{reading}
 use mathlib.Core.Path.{◌∙◌}
 use native.Mathlib.Omega.{arith}
-use borrow.Author.Rules.{rules}
 use Rattle.book.proofs.RowRuns.{block-few, part-counts}
 use Rattle.book.proofs.rows.rows_count.Goals as goal
 

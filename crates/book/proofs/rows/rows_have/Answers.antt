@@ -6,7 +6,6 @@ use mathlib.Core.Path.{◌∙◌, ap}
 use mathlib.Core.Bool.{not}
 use lib.Dec.{eqb}
 use native.Mathlib.Omega.{arith}
-use borrow.Author.Rules.{rules}
 use Rattle.book.proofs.RowRuns.{block-few, part-counts}
 use Rattle.book.proofs.rows.rows_have.Goals as goal
 

@@ -2,7 +2,6 @@
 -- Assumes nothing.
 use mathlib.Core.Path.{sym, ◌∙◌}
 use Rattle.book.proofs.Sweeps.{run-kept, cleared-block}
-use borrow.Author.Rules.{rules}
 use Rattle.book.proofs.runs.clear_block.Goals as goal
 
 pub returns-then-here-eq0 : goal.returns-then-here-eq0

@@ -1,12 +1,10 @@
 -- `runs::clear_halves`: the blocks before n and those before n + half are cleared and counted, and whole blocks are left.
 -- Assumes nothing.
-use Prim.Native.Nat.{◌+◌, ◌-◌, ◌%◌, ◌≤◌}
-use mathlib.Core.Path.{◌≡◌, refl, ◌∙◌}
+use Prim.Native.Nat.{◌+◌}
+use mathlib.Core.Path.{refl, ◌∙◌}
 use native.Mathlib.Omega.{arith}
-use lib.ListN.{length}
-use borrow.Author.Rules.{rules}
 use Rattle.book.proofs.Sweeps.{cleared-few}
-use Rattle.book.proofs.Halves.{Halves, halves-none, halves-low, halves-high, halves-whole, halves-few, block-left, blocks-behind}
+use Rattle.book.proofs.Halves.{halves-none, halves-low, halves-high, halves-whole, halves-few, block-left, blocks-behind}
 use Rattle.book.proofs.runs.clear_halves.Goals as goal
 
 pub loop-n-init : goal.loop-n-init

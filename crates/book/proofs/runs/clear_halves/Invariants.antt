@@ -1,12 +1,9 @@
 -- `runs::clear_halves`: the blocks before n and those before n + half are cleared and counted, and whole blocks are left.
 -- Assumes nothing.
 use Prim.Native.Nat.{◌+◌, ◌-◌, ◌%◌, ◌≤◌}
-use mathlib.Core.Path.{◌≡◌, refl, ◌∙◌}
-use native.Mathlib.Omega.{arith}
+use mathlib.Core.Path.{◌≡◌}
 use lib.ListN.{length}
-use borrow.Author.Rules.{rules}
-use Rattle.book.proofs.Sweeps.{cleared-few}
-use Rattle.book.proofs.Halves.{Halves, halves-none, halves-low, halves-high, halves-whole, halves-few, block-left, blocks-behind}
+use Rattle.book.proofs.Halves.{Halves}
 use Rattle.book.proofs.runs.clear_halves.Given as goal
 
 abbrev pub invariant-loop-n : goal.invariant-loop-n

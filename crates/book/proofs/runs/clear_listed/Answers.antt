@@ -1,10 +1,8 @@
 -- `runs::clear_listed`: the blocks at the first j places are cleared.
 -- Assumes nothing.
-use Prim.Native.Nat.{◌+◌, ◌-◌}
-use mathlib.Core.Path.{◌≡◌, refl, sym, ◌∙◌, ap}
+use Prim.Native.Nat.{◌+◌}
+use mathlib.Core.Path.{refl, sym, ◌∙◌, ap}
 use native.Mathlib.Omega.{arith}
-use lib.ListN.{length}
-use borrow.Author.Rules.{rules}
 use Rattle.book.specs.Stores.{over, block_zeroed}
 use Rattle.book.proofs.Turns.{over-turn, over-end}
 use Rattle.book.proofs.runs.clear_listed.Goals as goal
@@ -24,8 +22,7 @@ pub loop-j-preserved : goal.loop-j-preserved
 unfolding block_zeroed
 loop-j-preserved c =
     let a = c.args in
-    let t = c.loop-j-test.true in
-    (
+    let t = c.loop-j-test.true in (
       c.clear_words.auto.book ∙ c.loop-j.invariant.0,
       ap (over (block_zeroed a.w a.places.now) (c.loop-j.j + 1) a.blocks) c.clear_words.ensures
           ∙ sym (over-turn (block_zeroed a.w a.places.now) c.loop-j.j a.blocks c.loop-j.book t)

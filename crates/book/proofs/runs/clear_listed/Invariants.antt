@@ -1,12 +1,9 @@
 -- `runs::clear_listed`: the blocks at the first j places are cleared.
 -- Assumes nothing.
-use Prim.Native.Nat.{◌+◌, ◌-◌}
-use mathlib.Core.Path.{◌≡◌, refl, sym, ◌∙◌, ap}
-use native.Mathlib.Omega.{arith}
+use Prim.Native.Nat.{◌-◌}
+use mathlib.Core.Path.{◌≡◌}
 use lib.ListN.{length}
-use borrow.Author.Rules.{rules}
 use Rattle.book.specs.Stores.{over, block_zeroed}
-use Rattle.book.proofs.Turns.{over-turn, over-end}
 use Rattle.book.proofs.runs.clear_listed.Given as goal
 
 abbrev pub invariant-loop-j : goal.invariant-loop-j

@@ -2,7 +2,6 @@
 -- Assumes nothing.
 use native.Mathlib.Omega.{arith}
 use Rattle.book.proofs.Sweeps.{cleared-then, cleared-few}
-use borrow.Author.Rules.{rules}
 use Rattle.book.proofs.runs.clear_long.Goals as goal
 
 pub returns-then-end-start-lt-LONG : goal.returns-then-end-start-lt-LONG

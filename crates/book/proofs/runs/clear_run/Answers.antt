@@ -1,11 +1,7 @@
 -- `runs::clear_run`: the blocks before n are cleared and counted.
 -- Assumes nothing.
-use Prim.Native.Nat.{◌+◌, ◌-◌, ◌≤◌}
-use mathlib.Core.Path.{◌≡◌, refl, ◌∙◌}
+use mathlib.Core.Path.{refl, ◌∙◌}
 use native.Mathlib.Omega.{arith}
-use lib.ListN.{length}
-use borrow.Author.Rules.{rules}
-use Rattle.book.specs.Stores.{Cleared}
 use Rattle.book.proofs.Sweeps.{cleared-none, cleared-then, cleared-few}
 use Rattle.book.proofs.runs.clear_run.Goals as goal
 
@@ -19,8 +15,7 @@ overflow_add-cleared c =
 pub loop-n-preserved : goal.loop-n-preserved
 loop-n-preserved c =
     let a = c.args in
-    let t = c.loop-n-test.true in
-    (
+    let t = c.loop-n-test.true in (
       c.clear_block-cleared.auto.book ∙ c.loop-n.invariant.0,
       omega (arith, c.loop-n.invariant.1),
       omega (arith, t, c.loop-n.invariant.2),

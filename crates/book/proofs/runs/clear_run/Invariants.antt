@@ -1,12 +1,9 @@
 -- `runs::clear_run`: the blocks before n are cleared and counted.
 -- Assumes nothing.
-use Prim.Native.Nat.{◌+◌, ◌-◌, ◌≤◌}
-use mathlib.Core.Path.{◌≡◌, refl, ◌∙◌}
-use native.Mathlib.Omega.{arith}
+use Prim.Native.Nat.{◌-◌, ◌≤◌}
+use mathlib.Core.Path.{◌≡◌}
 use lib.ListN.{length}
-use borrow.Author.Rules.{rules}
 use Rattle.book.specs.Stores.{Cleared}
-use Rattle.book.proofs.Sweeps.{cleared-none, cleared-then, cleared-few}
 use Rattle.book.proofs.runs.clear_run.Given as goal
 
 abbrev pub invariant-loop-n : goal.invariant-loop-n

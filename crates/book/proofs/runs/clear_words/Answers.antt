@@ -1,10 +1,9 @@
 -- `runs::clear_words`: the words before n are cleared.
 -- Assumes nothing.
-use Prim.Native.Nat.{ℕ, ◌+◌, ◌-◌}
-use mathlib.Core.Path.{◌≡◌, refl, sym, ◌∙◌, ap}
+use Prim.Native.Nat.{ℕ, ◌+◌}
+use mathlib.Core.Path.{refl, sym, ◌∙◌, ap}
 use native.Mathlib.Omega.{arith}
-use lib.ListN.{length, set, length-set}
-use borrow.Author.Rules.{rules}
+use lib.ListN.{set, length-set}
 use Rattle.book.specs.Stores.{over, zeroed}
 use Rattle.book.proofs.Turns.{over-turn, over-end}
 use Rattle.book.proofs.runs.clear_words.Goals as goal
@@ -15,8 +14,7 @@ loop-n-init c = (refl, refl)
 pub loop-n-preserved : goal.loop-n-preserved
 unfolding zeroed
 loop-n-preserved c =
-    let a = c.args in
-    (
+    let a = c.args in (
       length-set c.loop-n.book c.loop-n.n c.unless.result ∙ c.loop-n.invariant.0,
       ap (λ (x : ℕ). over (zeroed a.w) (c.loop-n.n + 1) a.end (set c.loop-n.book c.loop-n.n x)) c.unless.ensures
           ∙ sym (over-turn (zeroed a.w) c.loop-n.n a.end c.loop-n.book c.loop-n-test.true)

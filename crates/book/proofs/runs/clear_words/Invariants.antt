@@ -1,12 +1,9 @@
 -- `runs::clear_words`: the words before n are cleared.
 -- Assumes nothing.
-use Prim.Native.Nat.{ℕ, ◌+◌, ◌-◌}
-use mathlib.Core.Path.{◌≡◌, refl, sym, ◌∙◌, ap}
-use native.Mathlib.Omega.{arith}
-use lib.ListN.{length, set, length-set}
-use borrow.Author.Rules.{rules}
+use Prim.Native.Nat.{◌-◌}
+use mathlib.Core.Path.{◌≡◌}
+use lib.ListN.{length}
 use Rattle.book.specs.Stores.{over, zeroed}
-use Rattle.book.proofs.Turns.{over-turn, over-end}
 use Rattle.book.proofs.runs.clear_words.Given as goal
 
 abbrev pub invariant-loop-n : goal.invariant-loop-n

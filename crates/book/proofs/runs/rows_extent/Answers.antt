@@ -1,7 +1,6 @@
 -- Both products lie within the grid.
 -- Assumes nothing.
 use native.Mathlib.Omega.{arith}
-use borrow.Author.Rules.{rules}
 use Rattle.book.proofs.Sweeps.{stretch-is}
 use Rattle.book.proofs.runs.rows_extent.Goals as goal
 

@@ -1,6 +1,5 @@
 -- The word of the book is the capacity in the settings.
 -- Assumes nothing.
-use borrow.Author.Rules.{rules}
 use Rattle.book.specs.Lent.{reading}
 use Rattle.book.proofs.Goods.{good-seats}
 use Rattle.book.proofs.seats.capacity.Goals as goal

@@ -1,8 +1,6 @@
 -- Both rows are blank where both were found so.
 -- Assumes nothing.
-use borrow.Author.Tests.{not-false}
 use mathlib.Core.Bool.{false≢true}
-use borrow.Author.Rules.{rules}
 use Rattle.checking.proofs.dates.blanks.Goals as goal
 
 pub returns-then-not-blank : goal.returns-then-not-blank

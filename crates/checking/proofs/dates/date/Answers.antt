@@ -1,9 +1,7 @@
 -- A date without entries needs no more than its unused bits asked.
 -- Assumes nothing.
-use borrow.Author.Tests.{not-true, not-false}
 use Rattle.rules.proofs.Answers.{said-true, said-false, relay}
 use Rattle.checking.proofs.Empties.{day-empty}
-use borrow.Author.Rules.{rules}
 use Rattle.checking.proofs.dates.date.Goals as goal
 
 pub returns-then-not-padded : goal.returns-then-not-padded
@@ -21,8 +19,8 @@ returns-then-empty c =
 
 pub entries-requires : goal.entries-requires
 entries-requires c = record {
-      ranges = c.requires.ranges;
-      long = c.requires.long;
-      caps = c.requires.caps;
-      padded = said-true c.padded.result (c.if-not-padded.false) c.padded.ensures;
-    }
+  ranges = c.requires.ranges;
+  long = c.requires.long;
+  caps = c.requires.caps;
+  padded = said-true c.padded.result (c.if-not-padded.false) c.padded.ensures;
+}

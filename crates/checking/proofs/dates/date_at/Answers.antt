@@ -3,7 +3,6 @@
 use Prim.Native.Nat.{◌+◌}
 use mathlib.Core.Path.{◌∙◌}
 use native.Mathlib.Omega.{arith}
-use borrow.Author.Rules.{rules}
 use Rattle.model.specs.Words.{leaves, hotel_cells, standings, attend_cells, conf_pairs, lunch_triples, ride_cells}
 use Rattle.model.specs.Kinds.{sessions, times}
 use Rattle.book.specs.Lent.{reading}
@@ -17,43 +16,43 @@ use Rattle.checking.proofs.dates.date_at.Goals as goal
 pub block-leave-requires : goal.block-leave-requires
 block-leave-requires c =
     let p = c.requires.at in
-    let both =    block-fits c.args.site.settings p.starts _ leaves _ _ p.laid (omega arith) (omega (arith, p.date)) in
+    let both = block-fits c.args.site.settings p.starts _ leaves _ _ p.laid (omega arith) (omega (arith, p.date)) in
     record { lies = both.0; from_le_to = both.1 }
 
 pub block-hotel-requires : goal.block-hotel-requires
 block-hotel-requires c =
     let p = c.requires.at in
-    let both =    block-fits c.args.site.settings p.starts _ hotel_cells _ _ p.laid (omega arith) (omega (arith, p.date)) in
+    let both = block-fits c.args.site.settings p.starts _ hotel_cells _ _ p.laid (omega arith) (omega (arith, p.date)) in
     record { lies = both.0; from_le_to = both.1 }
 
 pub block-stand-requires : goal.block-stand-requires
 block-stand-requires c =
     let p = c.requires.at in
-    let both =    block-fits c.args.site.settings p.starts _ standings _ _ p.laid (run-order p.sessions) p.sessions.ends.most in
+    let both = block-fits c.args.site.settings p.starts _ standings _ _ p.laid (run-order p.sessions) p.sessions.ends.most in
     record { lies = both.0; from_le_to = both.1 }
 
 pub block-attend-requires : goal.block-attend-requires
 block-attend-requires c =
     let p = c.requires.at in
-    let both =    block-fits c.args.site.settings p.starts _ attend_cells _ _ p.laid (run-order p.sessions) p.sessions.ends.most in
+    let both = block-fits c.args.site.settings p.starts _ attend_cells _ _ p.laid (run-order p.sessions) p.sessions.ends.most in
     record { lies = both.0; from_le_to = both.1 }
 
 pub block-conf-requires : goal.block-conf-requires
 block-conf-requires c =
     let p = c.requires.at in
-    let both =    block-fits c.args.site.settings p.starts _ conf_pairs _ _ p.laid (run-order p.sessions) p.sessions.ends.most in
+    let both = block-fits c.args.site.settings p.starts _ conf_pairs _ _ p.laid (run-order p.sessions) p.sessions.ends.most in
     record { lies = both.0; from_le_to = both.1 }
 
 pub block-lunch-requires : goal.block-lunch-requires
 block-lunch-requires c =
     let p = c.requires.at in
-    let both =    block-fits c.args.site.settings p.starts _ lunch_triples _ _ p.laid (omega arith) (omega (arith, p.date)) in
+    let both = block-fits c.args.site.settings p.starts _ lunch_triples _ _ p.laid (omega arith) (omega (arith, p.date)) in
     record { lies = both.0; from_le_to = both.1 }
 
 pub block-ride-requires : goal.block-ride-requires
 block-ride-requires c =
     let p = c.requires.at in
-    let both =    block-fits c.args.site.settings p.starts _ ride_cells _ _ p.laid (run-order p.times) p.times.ends.most in
+    let both = block-fits c.args.site.settings p.starts _ ride_cells _ _ p.laid (run-order p.times) p.times.ends.most in
     record { lies = both.0; from_le_to = both.1 }
 
 pub overflow_sub-n : goal.overflow_sub-n
@@ -89,14 +88,14 @@ date-requires c =
     record {
       ranges = p.laid.ranges;
       long = record {
-          leaves = leave.long ∙ one-long _ _;
-          hotels = hotel.long ∙ one-long _ _;
-          stands = stand.long;
-          attends = attend.long;
-          confs = conf.long;
-          lunches = lunch.long ∙ one-long _ _;
-          rides = ride.long;
-        };
+        leaves = leave.long ∙ one-long _ _;
+        hotels = hotel.long ∙ one-long _ _;
+        stands = stand.long;
+        attends = attend.long;
+        confs = conf.long;
+        lunches = lunch.long ∙ one-long _ _;
+        rides = ride.long;
+      };
       caps = c.requires.caps;
     }
 

@@ -1,13 +1,9 @@
 -- The dates passed keep the laws.
 -- Assumes nothing.
-use Prim.Native.Nat.{ℕ, ◌-◌, ◌≤◌, ◌<◌}
 use native.Mathlib.Omega.{arith}
 use mathlib.Core.Path.{◌≡◌, ◌∙◌}
 use native.Mathlib.Nat.{zero-div}
 use borrow.Author.Count.{below_more}
-use borrow.Author.Tests.{not-true, not-false}
-use Rattle.book.specs.Lent.{reading}
-use Rattle.checking.specs.Kept.{Kept}
 use Rattle.rules.proofs.Answers.{said-true, said-false}
 use Rattle.checking.proofs.dates.dates.Goals as goal
 
@@ -21,23 +17,23 @@ loop-date-init c =
 
 pub sessions_on-sessions-requires : goal.sessions_on-sessions-requires
 sessions_on-sessions-requires c = record {
-      ranges = c.requires.laid.ranges;
-      first_le_last = omega arith;
-      last_lt_dates = omega arith;
-    }
+  ranges = c.requires.laid.ranges;
+  first_le_last = omega arith;
+  last_lt_dates = omega arith;
+}
 
 pub times_on-times-requires : goal.times_on-times-requires
 times_on-times-requires c = record {
-      ranges = c.requires.laid.ranges;
-      first_le_last = omega arith;
-      last_lt_dates = omega arith;
-    }
+  ranges = c.requires.laid.ranges;
+  first_le_last = omega arith;
+  last_lt_dates = omega arith;
+}
 
 pub date_at-requires : goal.date_at-requires
 date_at-requires c = record {
-      at = record { laid = c.requires.laid; starts = c.requires.sited; date = omega arith; sessions = c.sessions_on-sessions.ensures; times = c.times_on-times.ensures };
-      caps = c.requires.caps;
-    }
+  at = record { laid = c.requires.laid; starts = c.requires.sited; date = omega arith; sessions = c.sessions_on-sessions.ensures; times = c.times_on-times.ensures };
+  caps = c.requires.caps;
+}
 
 pub returns-then-not-date_at : goal.returns-then-not-date_at
 returns-then-not-date_at c =

@@ -1,14 +1,8 @@
 -- The dates passed keep the laws.
 -- Assumes nothing.
 use Prim.Native.Nat.{ℕ, ◌-◌, ◌≤◌, ◌<◌}
-use native.Mathlib.Omega.{arith}
-use mathlib.Core.Path.{◌≡◌, ◌∙◌}
-use native.Mathlib.Nat.{zero-div}
-use borrow.Author.Count.{below_more}
-use borrow.Author.Tests.{not-true, not-false}
 use Rattle.book.specs.Lent.{reading}
 use Rattle.checking.specs.Kept.{Kept}
-use Rattle.rules.proofs.Answers.{said-true, said-false}
 use Rattle.checking.proofs.dates.dates.Given as goal
 
 abbrev pub invariant-loop-date : goal.invariant-loop-date

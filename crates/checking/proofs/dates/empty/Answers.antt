@@ -1,8 +1,6 @@
 -- Every part is blank where each was found so.
 -- Assumes nothing.
-use borrow.Author.Tests.{not-false}
 use mathlib.Core.Bool.{false≢true}
-use borrow.Author.Rules.{rules}
 use Rattle.checking.proofs.dates.empty.Goals as goal
 
 pub returns-then-not-blanks : goal.returns-then-not-blanks

@@ -3,8 +3,6 @@
 use mathlib.Core.Path.{◌≡◌, refl, ◌∙◌}
 use native.Mathlib.Omega.{arith}
 use lib.ListN.{length}
-use borrow.Author.Rules.{rules}
-use borrow.Author.Tests.{not-true, not-false}
 use Rattle.model.specs.Words.{groups}
 use Rattle.rules.proofs.Answers.{said-true, said-false, relay}
 use Rattle.rules.proofs.Barring.{most-low}
@@ -61,16 +59,16 @@ returns-then-not-triples c =
 
 pub guest_rows-requires : goal.guest_rows-requires
 guest_rows-requires c = record {
-      ready = record {
-        few = c.requires.ranges.visitors.1;
-        size = c.bar_past.auto.table;
-        same = c.guest_row.auto.seen ∙ c.bar_past.auto.table;
-        none = c.bar_past.ensures.0.none;
-        past = c.bar_past.ensures.1;
-        kept = c.guest_row.ensures.past;
-      };
-      cells_len = c.requires.long.rides;
-    }
+  ready = record {
+    few = c.requires.ranges.visitors.1;
+    size = c.bar_past.auto.table;
+    same = c.guest_row.auto.seen ∙ c.bar_past.auto.table;
+    none = c.bar_past.ensures.0.none;
+    past = c.bar_past.ensures.1;
+    kept = c.guest_row.ensures.past;
+  };
+  cells_len = c.requires.long.rides;
+}
 
 pub returns : goal.returns
 returns c =

@@ -1,13 +1,8 @@
 -- The sessions passed have no unused bits set.
 -- Assumes nothing.
-use Prim.Native.Nat.{ℕ, ◌-◌, ◌≤◌, ◌<◌}
 use native.Mathlib.Omega.{arith}
 use borrow.Author.Count.{below_none, below_more}
-use borrow.Author.Tests.{not-true, not-false}
-use Rattle.model.specs.Words.{groups}
-use Rattle.rules.specs.Rows.{Padded, row_at}
 use Rattle.rules.proofs.Answers.{said-true, said-false}
-use borrow.Author.Rules.{rules}
 use Rattle.checking.proofs.dates.pads.Goals as goal
 
 pub loop-p-init : goal.loop-p-init

@@ -1,7 +1,6 @@
 -- A session by its cells: without entries no table is made.
 -- Assumes nothing.
 use native.Mathlib.Omega.{arith}
-use borrow.Author.Tests.{not-true, not-false}
 use Rattle.rules.proofs.Answers.{relay, said-true, said-false}
 use Rattle.rules.proofs.Barring.{table-less}
 use Rattle.checking.proofs.Sessions.{session-by, session-attended, session-paired, session-blank}
@@ -27,9 +26,9 @@ bar-requires c =
 
 pub attends-requires : goal.attends-requires
 attends-requires c = record {
-      row_len_bound = c.requires.stand_len.1;
-      by_index = λ j h. omega (arith, c.requires.by_index j h, c.requires.le_meetings.1, c.requires.stands_len, c.bar.auto.table);
-    }
+  row_len_bound = c.requires.stand_len.1;
+  by_index = λ j h. omega (arith, c.requires.by_index j h, c.requires.le_meetings.1, c.requires.stands_len, c.bar.auto.table);
+}
 
 pub shape_of-stands-then-not-attends : goal.shape_of-stands-then-not-attends
 shape_of-stands-then-not-attends c = c.bar.auto.table
@@ -42,9 +41,9 @@ returns-then-not-attends c =
 
 pub pairs-requires : goal.pairs-requires
 pairs-requires c = record {
-      limit_in_bounds = omega (arith, c.requires.le_meetings.1, c.requires.stands_len, c.bar.auto.table);
-      n_bound = (omega (arith, c.requires.le_meetings.2), c.requires.stand_len.2);
-    }
+  limit_in_bounds = omega (arith, c.requires.le_meetings.1, c.requires.stands_len, c.bar.auto.table);
+  n_bound = (omega (arith, c.requires.le_meetings.2), c.requires.stand_len.2);
+}
 
 pub shape_of-stands : goal.shape_of-stands
 shape_of-stands c = c.bar.auto.table

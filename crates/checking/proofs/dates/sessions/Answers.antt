@@ -1,14 +1,8 @@
 -- The sessions passed are good.
 -- Assumes nothing.
-use Prim.Native.Nat.{ℕ, ◌-◌, ◌*◌, ◌≤◌, ◌<◌}
-use mathlib.Core.Path.{◌≡◌, ◌∙◌}
+use mathlib.Core.Path.{◌∙◌}
 use native.Mathlib.Omega.{arith}
-use lib.ListN.{length}
 use borrow.Author.Count.{below_none, below_more}
-use borrow.Author.Tests.{not-true, not-false}
-use Rattle.model.specs.Words.{groups}
-use Rattle.rules.specs.Rows.{row_at}
-use Rattle.checking.specs.Days.{Session}
 use Rattle.rules.proofs.Answers.{said-true, said-false}
 use Rattle.checking.proofs.dates.sessions.Goals as goal
 
@@ -57,13 +51,12 @@ pub loop-p-smaller : goal.loop-p-smaller
 loop-p-smaller c = omega arith
 
 pub loop-p-preserved : goal.loop-p-preserved
-loop-p-preserved c =
-    (
-      omega arith,
-      c.session.auto.stands ∙ c.loop-p.invariant.1,
-      below_more _ _ c.loop-p.invariant.2 (said-true c.session.result (c.if-not-session.false)
-          (rw (c.row_of-s.ensures.is, c.row_of-a.ensures.is, c.row_of-c.ensures.is) at c.session.ensures)),
-    )
+loop-p-preserved c = (
+  omega arith,
+  c.session.auto.stands ∙ c.loop-p.invariant.1,
+  below_more _ _ c.loop-p.invariant.2 (said-true c.session.result (c.if-not-session.false)
+      (rw (c.row_of-s.ensures.is, c.row_of-a.ensures.is, c.row_of-c.ensures.is) at c.session.ensures)),
+)
 
 pub shape_of-stands : goal.shape_of-stands
 shape_of-stands c = omega (arith, c.loop-p.invariant.1, c.requires.stands_len)

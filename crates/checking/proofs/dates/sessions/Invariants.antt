@@ -1,15 +1,11 @@
 -- The sessions passed are good.
 -- Assumes nothing.
 use Prim.Native.Nat.{ℕ, ◌-◌, ◌*◌, ◌≤◌, ◌<◌}
-use mathlib.Core.Path.{◌≡◌, ◌∙◌}
-use native.Mathlib.Omega.{arith}
+use mathlib.Core.Path.{◌≡◌}
 use lib.ListN.{length}
-use borrow.Author.Count.{below_none, below_more}
-use borrow.Author.Tests.{not-true, not-false}
 use Rattle.model.specs.Words.{groups}
 use Rattle.rules.specs.Rows.{row_at}
 use Rattle.checking.specs.Days.{Session}
-use Rattle.rules.proofs.Answers.{said-true, said-false}
 use Rattle.checking.proofs.dates.sessions.Given as goal
 
 abbrev pub invariant-loop-p : goal.invariant-loop-p

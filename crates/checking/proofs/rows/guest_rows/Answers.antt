@@ -1,11 +1,8 @@
 -- The rows passed are good, and the tables are ready for the next.
 -- Assumes nothing.
-use Prim.Native.Nat.{ℕ, ◌-◌, ◌≤◌, ◌<◌}
 use mathlib.Core.Path.{◌∙◌}
 use native.Mathlib.Omega.{arith}
 use borrow.Author.Count.{below_none, below_more}
-use borrow.Author.Tests.{not-true, not-false}
-use Rattle.rules.specs.Rows.{Ready, Guests, row_at}
 use Rattle.rules.proofs.Answers.{said-true, said-false}
 use Rattle.checking.proofs.rows.guest_rows.Goals as goal
 

@@ -5,7 +5,6 @@ use native.Mathlib.Omega.{arith}
 use Prim.Native.Nat.{◌+◌, ◌*◌}
 use Rattle.book.proofs.Spans.{part_by}
 use Rattle.rules.proofs.Parts.{row_inside}
-use borrow.Author.Rules.{rules}
 use Rattle.checking.proofs.rows.row_of.Goals as goal
 
 pub overflow_mul-at : goal.overflow_mul-at

@@ -1,6 +1,6 @@
 -- `list::answer_all`: what is left of the list gives the rest.
 -- Assumes nothing.
-use Prim.Native.Nat.{◌*◌, ◌-◌}
+use Prim.Native.Nat.{◌*◌}
 use mathlib.Core.Path.{sym, ◌∙◌, subst}
 use native.Mathlib.Omega.{arith}
 use lib.ListN.{get_or, take, drop}
@@ -8,7 +8,7 @@ use Rattle.model.specs.Messages.{request_of}
 use Rattle.book.specs.Good.{GoodBook}
 use Rattle.book.proofs.Goods.{good-laid, good-part, good-long}
 use Rattle.step.proofs.Kept.{good-step}
-use Rattle.engine.proofs.Splices.{Left, left-start, left-turn, left_end, place-within}
+use Rattle.engine.proofs.Splices.{left-start, left-turn, left_end, place-within}
 use Rattle.engine.proofs.list.answer_all.Goals as goal
 
 pub diary_len-diary-requires : goal.diary_len-diary-requires
@@ -37,8 +37,7 @@ loop-i-smaller c = omega arith
 pub loop-i-preserved : goal.loop-i-preserved
 loop-i-preserved c =
     let a = c.args in
-    let v = take a.width (drop (c.loop-i.i * a.width) a.list.now) in
-    (
+    let v = take a.width (drop (c.loop-i.i * a.width) a.list.now) in (
       subst (GoodBook a.s) (sym c.answer_at.ensures.book) (good-step c.loop-i.invariant.0 (get_or v 7 0) (request_of v)),
       left-turn a.s a.width c.requires.le_width a.list.now a.n _ _ c.loop-i.i _ _ _ _ c.loop-i.invariant.0
           c.loop-i-test.true c.requires.n_in_bounds c.loop-i.invariant.1 c.answer_at.ensures,

@@ -1,14 +1,8 @@
 -- `list::answer_all`: what is left of the list gives the rest.
 -- Assumes nothing.
-use Prim.Native.Nat.{◌*◌, ◌-◌}
-use mathlib.Core.Path.{sym, ◌∙◌, subst}
-use native.Mathlib.Omega.{arith}
-use lib.ListN.{get_or, take, drop}
-use Rattle.model.specs.Messages.{request_of}
+use Prim.Native.Nat.{◌-◌}
 use Rattle.book.specs.Good.{GoodBook}
-use Rattle.book.proofs.Goods.{good-laid, good-part, good-long}
-use Rattle.step.proofs.Kept.{good-step}
-use Rattle.engine.proofs.Splices.{Left, left-start, left-turn, left_end, place-within}
+use Rattle.engine.proofs.Splices.{Left}
 use Rattle.engine.proofs.list.answer_all.Given as goal
 
 abbrev pub invariant-loop-i : goal.invariant-loop-i

@@ -10,7 +10,6 @@ use Rattle.model.specs.Calls.{Called, called}
 use Rattle.ring.proofs.Telling.{told-list}
 use Rattle.engine.specs.Lists.{spliced}
 use Rattle.engine.proofs.Splices.{request-of}
-use borrow.Author.Rules.{rules}
 use Rattle.engine.proofs.list.answer_at.Goals as goal
 
 pub returns : goal.returns

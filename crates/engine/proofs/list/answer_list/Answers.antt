@@ -3,7 +3,6 @@
 use mathlib.Core.Path.{sym, ◌∙◌}
 use native.Mathlib.Omega.{arith}
 use lib.ListN.{length}
-use borrow.Author.Rules.{rules}
 use Rattle.checking.proofs.Verdicts.{done-good}
 use Rattle.engine.proofs.Splices.{list-fits}
 use Rattle.engine.proofs.Whole.{list-refused, list_done}

@@ -1,7 +1,6 @@
 -- A list of one request is one step, and its three words tell the answer.
 -- Assumes nothing.
 use mathlib.Core.Path.{◌∙◌, ap}
-use borrow.Author.Rules.{rules}
 use Rattle.model.specs.declared.Answer.{Answer}
 use Rattle.book.specs.Good.{answered}
 use Rattle.engine.proofs.Told.{one_told}

@@ -4,7 +4,6 @@ use mathlib.Core.Path.{sym, ◌∙◌}
 use lib.ListN.{drop}
 use lib.Seq.{get_or-drop}
 use Rattle.engine.proofs.Splices.{order-of, no-order}
-use borrow.Author.Rules.{rules}
 use Rattle.engine.proofs.list.order_at.Goals as goal
 
 pub returns-then-width-eq-REQUEST_WORDS : goal.returns-then-width-eq-REQUEST_WORDS

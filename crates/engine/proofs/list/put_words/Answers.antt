@@ -1,9 +1,8 @@
 -- `list::put_words`: three writes in a row.
 -- Assumes nothing.
-use Prim.Native.Nat.{◌*◌, ◌-◌}
+use Prim.Native.Nat.{◌*◌}
 use native.Mathlib.Omega.{arith}
 use lib.ListN.{length-set}
-use borrow.Author.Rules.{rules}
 use Rattle.engine.proofs.Splices.{write-three}
 use Rattle.engine.proofs.list.put_words.Goals as goal
 

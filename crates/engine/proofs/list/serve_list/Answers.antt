@@ -3,7 +3,6 @@
 use mathlib.Core.Path.{refl, sym, ◌∙◌, ap₂}
 use native.Mathlib.Omega.{arith}
 use lib.ListN.{length}
-use borrow.Author.Rules.{rules}
 use Rattle.book.specs.Good.{answered}
 use Rattle.engine.proofs.Splices.{list-fits}
 use Rattle.engine.proofs.Whole.{serve-refused, serve-laid, serve-done}

@@ -4,7 +4,6 @@ use native.Mathlib.Omega.{arith}
 use Rattle.framing.specs.Frame.{request_at}
 use Rattle.text.proofs.Hexes.{digits-part}
 use Rattle.framing.proofs.Framing.{digits_from}
-use borrow.Author.Rules.{rules}
 use Rattle.framing.proofs.frame.request_ahead.Goals as goal
 
 pub returns : goal.returns

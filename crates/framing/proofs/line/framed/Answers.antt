@@ -9,7 +9,6 @@ use Rattle.model.proofs.Search.{both}
 use Rattle.text.proofs.Hexes.{digits-part}
 use Rattle.framing.proofs.Framing.{digits_from}
 use Rattle.framing.proofs.Looking.{frame-by, none-by, request-call, order-call}
-use borrow.Author.Rules.{rules}
 use Rattle.framing.proofs.line.framed.Goals as goal
 
 pub returns-then-s-eq10 : goal.returns-then-s-eq10

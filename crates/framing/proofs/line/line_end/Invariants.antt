@@ -1,9 +1,7 @@
 -- `line::line_end`: no byte before i is 10.
 -- Assumes nothing.
-use borrow.Author.Rules.{rules}
 use Prim.Native.Nat.{ℕ, ◌≤◌, ◌<◌, ◌-◌}
 use mathlib.Core.Path.{◌≡◌}
-use borrow.Author.Count.{below_more}
 use lib.ListN.{length, get_or}
 use Rattle.framing.proofs.line.line_end.Given as goal
 

@@ -3,7 +3,7 @@
 use native.Mathlib.Omega.{arith}
 use lib.Seq.{take_all}
 use borrow.Author.Rules.{rules}
-use Prim.Native.Nat.{ℕ, ◌≤◌, ◌-◌, ◌+◌, ◌/◌}
+use Prim.Native.Nat.{ℕ, ◌+◌, ◌/◌}
 use mathlib.Core.Path.{◌≡◌, refl, sym, ◌∙◌, ap}
 use lib.ListN.{length, take, set}
 use Rattle.model.specs.Lines.{line_words}

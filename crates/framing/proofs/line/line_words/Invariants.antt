@@ -1,13 +1,9 @@
 -- `line::line_words`: the words before k are read.
 -- Assumes nothing.
-use native.Mathlib.Omega.{arith}
-use lib.Seq.{take_all}
-use borrow.Author.Rules.{rules}
-use Prim.Native.Nat.{ℕ, ◌≤◌, ◌-◌, ◌+◌, ◌/◌}
-use mathlib.Core.Path.{◌≡◌, refl, sym, ◌∙◌, ap}
-use lib.ListN.{length, take, set}
+use Prim.Native.Nat.{◌≤◌, ◌-◌}
+use mathlib.Core.Path.{◌≡◌}
+use lib.ListN.{length, take}
 use Rattle.model.specs.Lines.{line_words}
-use Rattle.framing.proofs.Framing.{words_more, words-length, digits_of}
 use Rattle.framing.proofs.line.line_words.Given as goal
 
 abbrev pub invariant-loop-k : goal.invariant-loop-k

@@ -2,7 +2,6 @@
 -- Assumes nothing.
 use Rattle.framing.specs.Front.{NoFrame}
 use Rattle.framing.proofs.Looking.{all-free, end-leads}
-use borrow.Author.Rules.{rules}
 use Rattle.framing.proofs.line.other.Goals as goal
 
 pub returns-then-n-s : goal.returns-then-n-s

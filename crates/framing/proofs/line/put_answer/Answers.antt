@@ -2,7 +2,6 @@
 -- Assumes nothing.
 use Rattle.text.proofs.Puts.{join-at}
 use Rattle.framing.proofs.Framing.{words-line}
-use borrow.Author.Rules.{rules}
 use Rattle.framing.proofs.line.put_answer.Goals as goal
 
 pub returns : goal.returns

@@ -2,7 +2,6 @@
 -- Assumes nothing.
 use Rattle.text.proofs.Puts.{join, put_as}
 use Rattle.framing.proofs.Framing.{done-line, refused-line}
-use borrow.Author.Rules.{rules}
 use Rattle.framing.proofs.line.put_words.Goals as goal
 
 pub returns-in-Done : goal.returns-in-Done

@@ -1,12 +1,9 @@
 -- `line::whole_words`: the words before k are digits.
 -- Assumes nothing.
-use Prim.Native.Nat.{◌+◌, ◌-◌, ◌*◌, ◌≤◌}
-use mathlib.Core.Path.{◌≡◌, refl, sym, ◌∙◌, ap}
-use native.Mathlib.Omega.{arith}
+use Prim.Native.Nat.{◌-◌, ◌*◌, ◌≤◌}
+use mathlib.Core.Path.{◌≡◌}
 use lib.ListN.{take}
-use borrow.Author.Rules.{rules}
 use Rattle.text.specs.Digits.{digits_only}
-use Rattle.framing.proofs.Framing.{digits_from, whole_by, not-whole}
 use Rattle.framing.proofs.line.whole_words.Given as goal
 
 abbrev pub invariant-loop-k : goal.invariant-loop-k

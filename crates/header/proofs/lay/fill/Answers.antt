@@ -1,10 +1,9 @@
 -- The words passed are in place.
 -- Assumes nothing.
-use Prim.Native.Nat.{◌-◌, ◌≤◌}
 use mathlib.Core.Path.{refl, sym}
 use native.Mathlib.Omega.{arith}
 use lib.ListN.{length, length-set, get_or-eq_default}
-use Rattle.header.proofs.Fills.{Filled, filled_none, filled_more, filled-all}
+use Rattle.header.proofs.Fills.{filled_none, filled_more, filled-all}
 use Rattle.header.proofs.lay.fill.Goals as goal
 
 pub loop-i-init : goal.loop-i-init

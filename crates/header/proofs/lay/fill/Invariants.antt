@@ -1,10 +1,8 @@
 -- The words passed are in place.
 -- Assumes nothing.
 use Prim.Native.Nat.{◌-◌, ◌≤◌}
-use mathlib.Core.Path.{refl, sym}
-use native.Mathlib.Omega.{arith}
-use lib.ListN.{length, length-set, get_or-eq_default}
-use Rattle.header.proofs.Fills.{Filled, filled_none, filled_more, filled-all}
+use lib.ListN.{length}
+use Rattle.header.proofs.Fills.{Filled}
 use Rattle.header.proofs.lay.fill.Given as goal
 
 abbrev pub invariant-loop-i : goal.invariant-loop-i

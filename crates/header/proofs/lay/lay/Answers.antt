@@ -4,7 +4,6 @@ use mathlib.Core.List.{List}
 use mathlib.Core.Path.{sym, ◌∙◌, ap, subst}
 use Prim.Native.Nat.{ℕ}
 use native.Mathlib.Omega.{arith}
-use borrow.Author.Tests.{not-true, not-false}
 use Rattle.model.specs.declared.Settings.{Settings}
 use Rattle.model.specs.declared.Answer.TheVariants.{Done}
 use Rattle.model.specs.Ledger.{book_length}
@@ -13,7 +12,6 @@ use Rattle.units.specs.Ranges.{Ranges}
 use Rattle.book.proofs.Goods.{ranges-by}
 use Rattle.header.proofs.Heads.{good-is}
 use Rattle.header.proofs.Fills.{lay-bad, lay-misfit, lay_done, lay-room}
-use borrow.Author.Rules.{rules}
 use Rattle.header.proofs.lay.lay.Goals as goal
 
 pub returns-then-not-settings_good : goal.returns-then-not-settings_good

@@ -1,13 +1,11 @@
 -- By question 24.
 -- Assumes nothing.
 use mathlib.Core.Path.{sym, ◌∙◌, ap, subst}
-use borrow.Author.Tests.{not-true, not-false}
 use Rattle.model.specs.declared.Settings.{Settings}
 use Rattle.model.specs.Ledger.{book_length}
 use Rattle.units.specs.Ranges.{Ranges}
 use Rattle.book.proofs.Goods.{ranges-by}
 use Rattle.header.proofs.Heads.{good-is, needed-none, needed-some}
-use borrow.Author.Rules.{rules}
 use Rattle.header.proofs.settings.book_len.Goals as goal
 
 pub returns-then-not-settings_good : goal.returns-then-not-settings_good

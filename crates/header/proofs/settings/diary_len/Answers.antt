@@ -7,7 +7,6 @@ use Rattle.book.specs.declared.grid.Grids.{Grids}
 use Rattle.book.specs.Grids.{Small, end}
 use Rattle.book.proofs.Regions.{small}
 use Rattle.header.proofs.Heads.{book-end}
-use borrow.Author.Rules.{rules}
 use Rattle.header.proofs.settings.diary_len.Goals as goal
 
 pub past-requires : goal.past-requires

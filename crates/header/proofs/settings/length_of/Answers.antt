@@ -4,7 +4,6 @@ use native.Mathlib.Omega.{arith}
 use Rattle.model.specs.Tail.{tail_length}
 use Rattle.model.specs.Ledger.{behind_length, book_length}
 use Rattle.book.proofs.Regions.{book-le}
-use borrow.Author.Rules.{rules}
 use Rattle.header.proofs.settings.length_of.Goals as goal
 
 pub overflow_add-result : goal.overflow_add-result

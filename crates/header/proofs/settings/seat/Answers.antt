@@ -6,7 +6,6 @@ use mathlib.Core.Bool.{Bool, cond}
 use native.Mathlib.Omega.{arith}
 use lib.ListN.{get_or}
 use borrow.Author.Tests.{lt-ltb, le-ltb}
-use borrow.Author.Rules.{rules}
 use Rattle.model.specs.Site.{fixed_words}
 use Rattle.header.proofs.settings.seat.Goals as goal
 

@@ -1,13 +1,9 @@
 -- The capacities passed are in place.
 -- Assumes nothing.
 use Prim.Native.Nat.{ℕ, ◌-◌, ◌≤◌, ◌<◌}
-use mathlib.Core.Path.{◌≡◌, refl, ◌∙◌}
-use native.Mathlib.Omega.{arith}
-use lib.ListN.{length, get_or, set, length-set}
-use lib.Seq.{get_or-set_same, get_or-set_other}
-use borrow.Author.Count.{below_none, below_more}
+use mathlib.Core.Path.{◌≡◌}
+use lib.ListN.{length, get_or}
 use Rattle.header.specs.Heads.{seat_of}
-use Rattle.header.proofs.Heads.{seats-by}
 use Rattle.header.proofs.settings.seats.Given as goal
 
 abbrev pub invariant-loop-g : goal.invariant-loop-g

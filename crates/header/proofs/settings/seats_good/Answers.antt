@@ -1,14 +1,11 @@
 -- The capacities passed are good.
 -- Assumes nothing.
-use Prim.Native.Nat.{ℕ, ◌-◌, ◌≤◌, ◌<◌}
-use mathlib.Core.Path.{◌≡◌, sym, ◌∙◌}
-use mathlib.Core.Bool.{true, cond}
+use mathlib.Core.Path.{sym, ◌∙◌}
 use native.Mathlib.Omega.{arith}
-use lib.Dec.{ltb, eqb}
+use lib.Dec.{ltb}
 use lib.ListN.{get_or}
 use borrow.Author.Count.{below_none, below_more}
 use borrow.Author.Tests.{not-false, not-true}
-use Rattle.model.specs.Bounded.{within}
 use Rattle.model.proofs.Search.{true-all}
 use Rattle.header.specs.Heads.{seat_good}
 use Rattle.header.proofs.Heads.{seat-flag, not-all}

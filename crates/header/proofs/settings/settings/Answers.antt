@@ -5,7 +5,6 @@ use mathlib.Core.Path.{◌∙◌, ap}
 use Rattle.model.specs.Bounded.{list}
 use Rattle.model.specs.Reading.{settings_of}
 use Rattle.header.specs.Heads.{seat_of}
-use borrow.Author.Rules.{rules}
 use Rattle.header.proofs.settings.settings.Goals as goal
 
 pub returns : goal.returns

@@ -3,7 +3,6 @@
 use mathlib.Core.Path.{sym, ◌∙◌}
 use native.Mathlib.Omega.{arith}
 use Rattle.header.proofs.Heads.{good-short, good_length, good-valid}
-use borrow.Author.Rules.{rules}
 use Rattle.header.proofs.settings.settings_good.Goals as goal
 
 pub returns-then-words-lt-FIXED_WORDS : goal.returns-then-words-lt-FIXED_WORDS

@@ -1,7 +1,6 @@
 -- The tests of the limits, joined.
 -- Assumes nothing.
 use Rattle.header.proofs.Heads.{valid-is}
-use borrow.Author.Rules.{rules}
 use Rattle.header.proofs.settings.valid.Goals as goal
 
 pub returns : goal.returns

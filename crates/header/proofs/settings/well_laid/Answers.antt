@@ -2,10 +2,8 @@
 -- Assumes nothing.
 use mathlib.Core.Path.{sym, ◌∙◌}
 use native.Mathlib.Omega.{arith}
-use borrow.Author.Tests.{not-true, not-false}
 use Rattle.book.proofs.Goods.{ranges-by}
 use Rattle.header.proofs.Heads.{laid-short, laid-bad, laid-good}
-use borrow.Author.Rules.{rules}
 use Rattle.header.proofs.settings.well_laid.Goals as goal
 
 pub returns-then-book-lt-FIXED_WORDS : goal.returns-then-book-lt-FIXED_WORDS

@@ -9,16 +9,15 @@ use Rattle.book.proofs.Regions.{group-lt}
 use Rattle.questions.proofs.Shown.{stands-fail}
 use Rattle.questions.proofs.Grounds.{ground}
 use Rattle.judge.specs.Chains.{attend_adds}
-use borrow.Author.Rules.{rules}
 use Rattle.judge.proofs.answers.add_attend.Goals as goal
 
 pub first_session_off_leave-requires : goal.first_session_off_leave-requires
 first_session_off_leave-requires c = record {
-      good = c.requires.good;
-      leave_value = (ap (λ (g : Grids). g.leave) c.requires.sited);
-      last_bound = c.requires.last_bound;
-      visitor_lt_visitors = c.requires.b_lt_visitors;
-    }
+  good = c.requires.good;
+  leave_value = (ap (λ (g : Grids). g.leave) c.requires.sited);
+  last_bound = c.requires.last_bound;
+  visitor_lt_visitors = c.requires.b_lt_visitors;
+}
 
 pub returns-in-At : goal.returns-in-At
 unfolding attend_adds
@@ -31,7 +30,7 @@ returns-in-At c =
 pub first_not_member-requires : goal.first_not_member-requires
 first_not_member-requires c =
     let a = c.args in
-    let both =    ground c.requires.good standings (ap (λ (g : Grids). g.standing) c.requires.sited) c.requires.last_bound (group-lt a.site.settings.meetings a.a c.requires.a_lt_meetings) in
+    let both = ground c.requires.good standings (ap (λ (g : Grids). g.standing) c.requires.sited) c.requires.last_bound (group-lt a.site.settings.meetings a.a c.requires.a_lt_meetings) in
     record { lies = both.0; last_lt_slots = both.1.0; v_bound = both.1.1 }
 
 pub returns-in-At-first_not_member : goal.returns-in-At-first_not_member
@@ -51,7 +50,7 @@ overflow_add-a c =
     omega (arith, (good-laid c.requires.good).ranges.meetings, c.requires.a_lt_meetings)
 
 pub first_with-requires : goal.first_with-requires
-first_with-requires c = let both =    ground c.requires.good attend_cells (ap (λ (g : Grids). g.attend) c.requires.sited) c.requires.last_bound c.requires.b_lt_visitors in
+first_with-requires c = let both = ground c.requires.good attend_cells (ap (λ (g : Grids). g.attend) c.requires.sited) c.requires.last_bound c.requires.b_lt_visitors in
     record { lies = both.0; last_lt_slots = both.1.0; item_lt_g = both.1.1 }
 
 pub returns-in-At-first_with : goal.returns-in-At-first_with
@@ -69,7 +68,7 @@ returns-in-At-first_with c =
     ) c.refused-in-At-first_with.ensures
 
 pub first_without-requires : goal.first_without-requires
-first_without-requires c = let both =    ground c.requires.good attend_cells (ap (λ (g : Grids). g.attend) c.requires.sited) c.requires.last_bound c.requires.b_lt_visitors in
+first_without-requires c = let both = ground c.requires.good attend_cells (ap (λ (g : Grids). g.attend) c.requires.sited) c.requires.last_bound c.requires.b_lt_visitors in
     record { lies = both.0; last_lt_slots = both.1.0; item_lt_g = both.1.1 }
 
 pub returns : goal.returns

@@ -9,13 +9,12 @@ use Rattle.book.proofs.Regions.{group-lt}
 use Rattle.questions.proofs.Shown.{leave-fail}
 use Rattle.questions.proofs.Grounds.{ground, row-ground}
 use Rattle.judge.specs.Chains.{add_stay}
-use borrow.Author.Rules.{rules}
 use Rattle.judge.proofs.answers.add_hotel.Goals as goal
 
 pub first_not_member-requires : goal.first_not_member-requires
 first_not_member-requires c =
     let a = c.args in
-    let both =    ground c.requires.good leaves (ap (λ (g : Grids). g.leave) c.requires.sited) c.requires.last_lt_dates (group-lt a.site.settings.visitors a.b c.requires.b_lt_visitors) in
+    let both = ground c.requires.good leaves (ap (λ (g : Grids). g.leave) c.requires.sited) c.requires.last_lt_dates (group-lt a.site.settings.visitors a.b c.requires.b_lt_visitors) in
     record { lies = both.0; last_lt_slots = both.1.0; v_bound = both.1.1 }
 
 pub returns-in-At : goal.returns-in-At
@@ -33,7 +32,7 @@ overflow_add-b c =
     omega (arith, (good-laid c.requires.good).ranges.visitors, c.requires.b_lt_visitors)
 
 pub first_with-requires : goal.first_with-requires
-first_with-requires c = let both =    ground c.requires.good hotel_cells (ap (λ (g : Grids). g.hotel) c.requires.sited) c.requires.last_lt_dates c.requires.a_lt_hotels in
+first_with-requires c = let both = ground c.requires.good hotel_cells (ap (λ (g : Grids). g.hotel) c.requires.sited) c.requires.last_lt_dates c.requires.a_lt_hotels in
     record { lies = both.0; last_lt_slots = both.1.0; item_lt_g = both.1.1 }
 
 pub returns-in-At-first_with : goal.returns-in-At-first_with
@@ -49,7 +48,7 @@ returns-in-At-first_with c =
     ) c.refused-in-At-first_with.ensures
 
 pub first_without-requires : goal.first_without-requires
-first_without-requires c = let both =    ground c.requires.good hotel_cells (ap (λ (g : Grids). g.hotel) c.requires.sited) c.requires.last_lt_dates c.requires.a_lt_hotels in
+first_without-requires c = let both = ground c.requires.good hotel_cells (ap (λ (g : Grids). g.hotel) c.requires.sited) c.requires.last_lt_dates c.requires.a_lt_hotels in
     record { lies = both.0; last_lt_slots = both.1.0; item_lt_g = both.1.1 }
 
 pub returns-in-At-first_without : goal.returns-in-At-first_without
@@ -71,7 +70,7 @@ overflow_add-b-2 c =
     omega (arith, (good-laid c.requires.good).ranges.visitors, c.requires.b_lt_visitors)
 
 pub first_row_with-requires : goal.first_row_with-requires
-first_row_with-requires c = let both =    row-ground c.requires.good hotel_cells (ap (λ (g : Grids). g.hotel) c.requires.sited) c.requires.last_lt_dates in
+first_row_with-requires c = let both = row-ground c.requires.good hotel_cells (ap (λ (g : Grids). g.hotel) c.requires.sited) c.requires.last_lt_dates in
     record { lies = both.0; last_lt_slots = both.1 }
 
 pub returns : goal.returns

@@ -7,16 +7,15 @@ use Rattle.book.proofs.Goods.{good-laid}
 use Rattle.model.specs.Words.{ride_cells}
 use Rattle.questions.proofs.Grounds.{ground, row-ground}
 use Rattle.judge.specs.Chains.{add_stay}
-use borrow.Author.Rules.{rules}
 use Rattle.judge.proofs.answers.add_ride.Goals as goal
 
 pub first_time_off_leave-requires : goal.first_time_off_leave-requires
 first_time_off_leave-requires c = record {
-      good = c.requires.good;
-      leave_value = (ap (λ (g : Grids). g.leave) c.requires.sited);
-      last_bound = c.requires.last_bound;
-      visitor_lt_visitors = c.requires.b_lt_visitors;
-    }
+  good = c.requires.good;
+  leave_value = (ap (λ (g : Grids). g.leave) c.requires.sited);
+  last_bound = c.requires.last_bound;
+  visitor_lt_visitors = c.requires.b_lt_visitors;
+}
 
 pub returns-in-At : goal.returns-in-At
 unfolding add_stay
@@ -31,7 +30,7 @@ overflow_add-b c =
     omega (arith, (good-laid c.requires.good).ranges.visitors, c.requires.b_lt_visitors)
 
 pub first_with-requires : goal.first_with-requires
-first_with-requires c = let both =    ground c.requires.good ride_cells (ap (λ (g : Grids). g.ride) c.requires.sited) c.requires.last_bound c.requires.a_lt_transports in
+first_with-requires c = let both = ground c.requires.good ride_cells (ap (λ (g : Grids). g.ride) c.requires.sited) c.requires.last_bound c.requires.a_lt_transports in
     record { lies = both.0; last_lt_slots = both.1.0; item_lt_g = both.1.1 }
 
 pub returns-in-At-first_with : goal.returns-in-At-first_with
@@ -45,7 +44,7 @@ returns-in-At-first_with c =
     ) c.refused-in-At-first_with.ensures
 
 pub first_without-requires : goal.first_without-requires
-first_without-requires c = let both =    ground c.requires.good ride_cells (ap (λ (g : Grids). g.ride) c.requires.sited) c.requires.last_bound c.requires.a_lt_transports in
+first_without-requires c = let both = ground c.requires.good ride_cells (ap (λ (g : Grids). g.ride) c.requires.sited) c.requires.last_bound c.requires.a_lt_transports in
     record { lies = both.0; last_lt_slots = both.1.0; item_lt_g = both.1.1 }
 
 pub returns-in-At-first_without : goal.returns-in-At-first_without
@@ -65,7 +64,7 @@ overflow_add-b-2 c =
     omega (arith, (good-laid c.requires.good).ranges.visitors, c.requires.b_lt_visitors)
 
 pub first_row_with-requires : goal.first_row_with-requires
-first_row_with-requires c = let both =    row-ground c.requires.good ride_cells (ap (λ (g : Grids). g.ride) c.requires.sited) c.requires.last_bound in
+first_row_with-requires c = let both = row-ground c.requires.good ride_cells (ap (λ (g : Grids). g.ride) c.requires.sited) c.requires.last_bound in
     record { lies = both.0; last_lt_slots = both.1 }
 
 pub returns : goal.returns

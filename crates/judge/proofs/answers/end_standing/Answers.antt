@@ -7,7 +7,6 @@ use Rattle.model.specs.Words.{standings}
 use Rattle.questions.proofs.Shown.{stands-fail}
 use Rattle.questions.proofs.Grounds.{ground}
 use Rattle.judge.specs.Chains.{standing_ends}
-use borrow.Author.Rules.{rules}
 use Rattle.judge.proofs.answers.end_standing.Goals as goal
 
 pub returns-in-At : goal.returns-in-At
@@ -21,7 +20,7 @@ returns-in-At c =
 pub first_not_member-requires : goal.first_not_member-requires
 first_not_member-requires c =
     let a = c.args in
-    let both =    ground c.requires.good standings (ap (λ (g : Grids). g.standing) c.requires.sited) c.requires.last_bound (group-lt a.site.settings.meetings a.a c.requires.a_lt_meetings) in
+    let both = ground c.requires.good standings (ap (λ (g : Grids). g.standing) c.requires.sited) c.requires.last_bound (group-lt a.site.settings.meetings a.a c.requires.a_lt_meetings) in
     record { lies = both.0; last_lt_slots = both.1.0; v_bound = both.1.1 }
 
 pub returns : goal.returns

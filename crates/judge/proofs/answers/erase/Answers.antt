@@ -1,7 +1,6 @@
 -- Question 15.
 -- Assumes nothing.
 use Rattle.judge.specs.Chains.{erase_pair}
-use borrow.Author.Rules.{rules}
 use Rattle.judge.proofs.answers.erase.Goals as goal
 
 pub returns : goal.returns

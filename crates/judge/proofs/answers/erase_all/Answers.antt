@@ -11,7 +11,6 @@ use Rattle.units.proofs.Slots.{date-lt}
 use Rattle.questions.proofs.Shown.{conf-fail, lunch-fail}
 use Rattle.questions.proofs.Grounds.{ground, row-ground}
 use Rattle.judge.specs.Chains.{erase_all}
-use borrow.Author.Rules.{rules}
 use Rattle.judge.proofs.answers.erase_all.Goals as goal
 
 pub overflow_add-b : goal.overflow_add-b
@@ -19,7 +18,7 @@ overflow_add-b c =
     omega (arith, (good-laid c.requires.good).ranges.meetings, c.requires.b_lt_meetings)
 
 pub first_row_without-requires : goal.first_row_without-requires
-first_row_without-requires c = let both =    row-ground c.requires.good conf_pairs (ap (λ (g : Grids). g.conf) c.requires.sited) c.requires.last_bound in
+first_row_without-requires c = let both = row-ground c.requires.good conf_pairs (ap (λ (g : Grids). g.conf) c.requires.sited) c.requires.last_bound in
     record { lies = both.0; last_lt_slots = both.1 }
 
 pub returns-in-At : goal.returns-in-At
@@ -43,7 +42,7 @@ first_with-requires c =
     let a = c.args in
     let d : c.date_of_session-to.result.0 < a.site.settings.dates =
     rw c.date_of_session-to.ensures (date-lt a.site.settings (good-laid c.requires.good).ranges sessions a.last.0 c.requires.last_bound) in
-    let both =    ground c.requires.good lunch_triples (ap (λ (g : Grids). g.lunch) c.requires.sited) d c.requires.b_lt_meetings in
+    let both = ground c.requires.good lunch_triples (ap (λ (g : Grids). g.lunch) c.requires.sited) d c.requires.b_lt_meetings in
     record { lies = both.0; last_lt_slots = both.1.0; item_lt_g = both.1.1 }
 
 pub returns : goal.returns

@@ -4,7 +4,6 @@ use borrow.Author.Tests.{le-leb, lt-leb}
 use Rattle.judge.specs.Chains.{lunch_fits}
 use Rattle.questions.proofs.Seats.{capacity-le}
 use native.Mathlib.Omega.{arith}
-use borrow.Author.Rules.{rules}
 use Rattle.judge.proofs.answers.lunch_fits.Goals as goal
 
 pub returns-then-n-lt1 : goal.returns-then-n-lt1
@@ -13,9 +12,9 @@ returns-then-n-lt1 c = rw (lt-leb _ _ c.if-n-lt1.true) c.refused.ensures
 
 pub capacity-requires : goal.capacity-requires
 capacity-requires c = record {
-      good = c.requires.good;
-      room_lt_dining = c.requires.a_lt_dining;
-    }
+  good = c.requires.good;
+  room_lt_dining = c.requires.a_lt_dining;
+}
 
 pub returns-then-capacity-n : goal.returns-then-capacity-n
 unfolding lunch_fits

@@ -2,14 +2,13 @@
 -- Assumes nothing.
 use native.Mathlib.Omega.{arith}
 use Rattle.questions.proofs.Seats.{reserved-le}
-use borrow.Author.Rules.{rules}
 use Rattle.judge.proofs.answers.seats_left.Goals as goal
 
 pub capacity-requires : goal.capacity-requires
 capacity-requires c = record {
-      good = c.requires.good;
-      room_lt_dining = c.requires.room_lt_dining;
-    }
+  good = c.requires.good;
+  room_lt_dining = c.requires.room_lt_dining;
+}
 
 pub overflow_sub-result : goal.overflow_sub-result
 overflow_sub-result c =

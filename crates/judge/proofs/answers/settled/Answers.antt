@@ -1,6 +1,5 @@
 -- By the case of what was found.
 -- Assumes nothing.
-use borrow.Author.Rules.{rules}
 use Rattle.judge.proofs.answers.settled.Goals as goal
 
 pub returns-in-At : goal.returns-in-At

@@ -2,7 +2,6 @@
 -- Assumes nothing.
 use mathlib.Core.Path.{◌∙◌, ap}
 use native.Mathlib.Omega.{arith}
-use borrow.Author.Rules.{rules}
 use Rattle.book.proofs.Goods.{good-laid}
 use Rattle.model.specs.Kinds.{kind_of, Kind.which_meeting}
 use Rattle.judge.specs.Chains.{found_or, in_words}

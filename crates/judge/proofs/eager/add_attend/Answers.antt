@@ -2,7 +2,6 @@
 -- Assumes nothing.
 use mathlib.Core.Path.{◌∙◌, ap}
 use native.Mathlib.Omega.{arith}
-use borrow.Author.Rules.{rules}
 use Rattle.book.proofs.Goods.{good-laid}
 use Rattle.book.proofs.Regions.{group-lt}
 use Rattle.book.specs.declared.grid.Grids.{Grids}
@@ -43,7 +42,7 @@ unfolding kind_of
 first_not_member-ended-requires c =
     let h = ready c.requires.good c.args.r add_attend (ap kind_of c.requires.kind_value) c.attend_row.ensures
     c.first_no-no.ensures c.if-no-ne0.false in
-    let both =    ground c.requires.good standings (ap (λ (g : Grids). g.standing) c.requires.sited) h.slot
+    let both = ground c.requires.good standings (ap (λ (g : Grids). g.standing) c.requires.sited) h.slot
     (group-lt c.args.site.settings.meetings c.args.r.a h.a) in
     record { lies = both.0; last_lt_slots = both.1.0; v_bound = both.1.1 }
 
@@ -59,7 +58,7 @@ unfolding kind_of
 first_with-there-requires c =
     let h = ready c.requires.good c.args.r add_attend (ap kind_of c.requires.kind_value) c.attend_row.ensures
     c.first_no-no.ensures c.if-no-ne0.false in
-    let both =    ground c.requires.good attend_cells (ap (λ (g : Grids). g.attend) c.requires.sited) h.slot h.b in
+    let both = ground c.requires.good attend_cells (ap (λ (g : Grids). g.attend) c.requires.sited) h.slot h.b in
     record { lies = both.0; last_lt_slots = both.1.0; item_lt_g = both.1.1 }
 
 pub first_without-elsewhere-requires : goal.first_without-elsewhere-requires
@@ -67,7 +66,7 @@ unfolding kind_of
 first_without-elsewhere-requires c =
     let h = ready c.requires.good c.args.r add_attend (ap kind_of c.requires.kind_value) c.attend_row.ensures
     c.first_no-no.ensures c.if-no-ne0.false in
-    let both =    ground c.requires.good attend_cells (ap (λ (g : Grids). g.attend) c.requires.sited) h.slot h.b in
+    let both = ground c.requires.good attend_cells (ap (λ (g : Grids). g.attend) c.requires.sited) h.slot h.b in
     record { lies = both.0; last_lt_slots = both.1.0; item_lt_g = both.1.1 }
 
 pub returns : goal.returns

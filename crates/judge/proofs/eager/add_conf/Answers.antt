@@ -2,7 +2,6 @@
 -- Assumes nothing.
 use mathlib.Core.Path.{◌∙◌, ap}
 use native.Mathlib.Omega.{arith}
-use borrow.Author.Rules.{rules}
 use Rattle.book.proofs.Goods.{good-laid}
 use Rattle.book.proofs.Regions.{group-lt}
 use Rattle.book.specs.declared.grid.Grids.{Grids}
@@ -31,7 +30,7 @@ unfolding kind_of
 first_not_member-ended-requires c =
     let h = ready c.requires.good c.args.r add_conf (ap kind_of c.requires.kind_value) c.add_conf_row.ensures
     c.first_no-no.ensures c.if-no-ne0.false in
-    let both =    ground c.requires.good standings (ap (λ (g : Grids). g.standing) c.requires.sited) h.slot
+    let both = ground c.requires.good standings (ap (λ (g : Grids). g.standing) c.requires.sited) h.slot
     (group-lt c.args.site.settings.meetings c.args.r.b h.b) in
     record { lies = both.0; last_lt_slots = both.1.0; v_bound = both.1.1 }
 
@@ -47,7 +46,7 @@ unfolding kind_of
 first_with-there-requires c =
     let h = ready c.requires.good c.args.r add_conf (ap kind_of c.requires.kind_value) c.add_conf_row.ensures
     c.first_no-no.ensures c.if-no-ne0.false in
-    let both =    ground c.requires.good conf_pairs (ap (λ (g : Grids). g.conf) c.requires.sited) h.slot h.a in
+    let both = ground c.requires.good conf_pairs (ap (λ (g : Grids). g.conf) c.requires.sited) h.slot h.a in
     record { lies = both.0; last_lt_slots = both.1.0; item_lt_g = both.1.1 }
 
 pub first_without-in_use-requires : goal.first_without-in_use-requires
@@ -55,7 +54,7 @@ unfolding kind_of
 first_without-in_use-requires c =
     let h = ready c.requires.good c.args.r add_conf (ap kind_of c.requires.kind_value) c.add_conf_row.ensures
     c.first_no-no.ensures c.if-no-ne0.false in
-    let both =    ground c.requires.good conf_pairs (ap (λ (g : Grids). g.conf) c.requires.sited) h.slot h.a in
+    let both = ground c.requires.good conf_pairs (ap (λ (g : Grids). g.conf) c.requires.sited) h.slot h.a in
     record { lies = both.0; last_lt_slots = both.1.0; item_lt_g = both.1.1 }
 
 pub returns : goal.returns

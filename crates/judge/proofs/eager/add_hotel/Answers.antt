@@ -2,7 +2,6 @@
 -- Assumes nothing.
 use mathlib.Core.Path.{◌∙◌, ap}
 use native.Mathlib.Omega.{arith}
-use borrow.Author.Rules.{rules}
 use Rattle.book.proofs.Goods.{good-laid}
 use Rattle.book.proofs.Regions.{group-lt}
 use Rattle.book.specs.declared.grid.Grids.{Grids}
@@ -28,7 +27,7 @@ unfolding kind_of
 first_not_member-away-requires c =
     let h = ready c.requires.good c.args.r add_hotel (ap kind_of c.requires.kind_value) c.hotel_row.ensures
     c.first_no-no.ensures c.if-no-ne0.false in
-    let both =    ground c.requires.good leaves (ap (λ (g : Grids). g.leave) c.requires.sited) h.slot
+    let both = ground c.requires.good leaves (ap (λ (g : Grids). g.leave) c.requires.sited) h.slot
     (group-lt c.args.site.settings.visitors c.args.r.b h.b) in
     record { lies = both.0; last_lt_slots = both.1.0; v_bound = both.1.1 }
 
@@ -44,7 +43,7 @@ unfolding kind_of
 first_with-there-requires c =
     let h = ready c.requires.good c.args.r add_hotel (ap kind_of c.requires.kind_value) c.hotel_row.ensures
     c.first_no-no.ensures c.if-no-ne0.false in
-    let both =    ground c.requires.good hotel_cells (ap (λ (g : Grids). g.hotel) c.requires.sited) h.slot h.a in
+    let both = ground c.requires.good hotel_cells (ap (λ (g : Grids). g.hotel) c.requires.sited) h.slot h.a in
     record { lies = both.0; last_lt_slots = both.1.0; item_lt_g = both.1.1 }
 
 pub first_without-taken-requires : goal.first_without-taken-requires
@@ -52,7 +51,7 @@ unfolding kind_of
 first_without-taken-requires c =
     let h = ready c.requires.good c.args.r add_hotel (ap kind_of c.requires.kind_value) c.hotel_row.ensures
     c.first_no-no.ensures c.if-no-ne0.false in
-    let both =    ground c.requires.good hotel_cells (ap (λ (g : Grids). g.hotel) c.requires.sited) h.slot h.a in
+    let both = ground c.requires.good hotel_cells (ap (λ (g : Grids). g.hotel) c.requires.sited) h.slot h.a in
     record { lies = both.0; last_lt_slots = both.1.0; item_lt_g = both.1.1 }
 
 pub overflow_add-r-2 : goal.overflow_add-r-2
@@ -67,7 +66,7 @@ unfolding kind_of
 first_row_with-elsewhere-requires c =
     let h = ready c.requires.good c.args.r add_hotel (ap kind_of c.requires.kind_value) c.hotel_row.ensures
     c.first_no-no.ensures c.if-no-ne0.false in
-    let both =    row-ground c.requires.good hotel_cells (ap (λ (g : Grids). g.hotel) c.requires.sited) h.slot in
+    let both = row-ground c.requires.good hotel_cells (ap (λ (g : Grids). g.hotel) c.requires.sited) h.slot in
     record { lies = both.0; last_lt_slots = both.1 }
 
 pub returns : goal.returns

@@ -2,7 +2,6 @@
 -- Assumes nothing.
 use mathlib.Core.Path.{◌∙◌, ap}
 use native.Mathlib.Omega.{arith}
-use borrow.Author.Rules.{rules}
 use Rattle.judge.proofs.Meanings.{answered-by}
 use Rattle.judge.proofs.Together.{no-seats, too-many-seats, seats-fit}
 use Rattle.judge.proofs.Whole.{refused-by, ready}

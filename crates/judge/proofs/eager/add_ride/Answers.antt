@@ -2,7 +2,6 @@
 -- Assumes nothing.
 use mathlib.Core.Path.{◌∙◌, ap}
 use native.Mathlib.Omega.{arith}
-use borrow.Author.Rules.{rules}
 use Rattle.book.proofs.Goods.{good-laid}
 use Rattle.book.specs.declared.grid.Grids.{Grids}
 use Rattle.judge.proofs.Meanings.{answered-by}
@@ -48,7 +47,7 @@ unfolding kind_of
 first_with-there-requires c =
     let h = ready c.requires.good c.args.r add_ride (ap kind_of c.requires.kind_value) c.ride_row.ensures
     c.first_no-no.ensures c.if-no-ne0.false in
-    let both =    ground c.requires.good ride_cells (ap (λ (g : Grids). g.ride) c.requires.sited) h.slot h.a in
+    let both = ground c.requires.good ride_cells (ap (λ (g : Grids). g.ride) c.requires.sited) h.slot h.a in
     record { lies = both.0; last_lt_slots = both.1.0; item_lt_g = both.1.1 }
 
 pub first_without-taken-requires : goal.first_without-taken-requires
@@ -56,7 +55,7 @@ unfolding kind_of
 first_without-taken-requires c =
     let h = ready c.requires.good c.args.r add_ride (ap kind_of c.requires.kind_value) c.ride_row.ensures
     c.first_no-no.ensures c.if-no-ne0.false in
-    let both =    ground c.requires.good ride_cells (ap (λ (g : Grids). g.ride) c.requires.sited) h.slot h.a in
+    let both = ground c.requires.good ride_cells (ap (λ (g : Grids). g.ride) c.requires.sited) h.slot h.a in
     record { lies = both.0; last_lt_slots = both.1.0; item_lt_g = both.1.1 }
 
 pub overflow_add-r-2 : goal.overflow_add-r-2
@@ -71,7 +70,7 @@ unfolding kind_of
 first_row_with-elsewhere-requires c =
     let h = ready c.requires.good c.args.r add_ride (ap kind_of c.requires.kind_value) c.ride_row.ensures
     c.first_no-no.ensures c.if-no-ne0.false in
-    let both =    row-ground c.requires.good ride_cells (ap (λ (g : Grids). g.ride) c.requires.sited) h.slot in
+    let both = row-ground c.requires.good ride_cells (ap (λ (g : Grids). g.ride) c.requires.sited) h.slot in
     record { lies = both.0; last_lt_slots = both.1 }
 
 pub returns : goal.returns

@@ -1,7 +1,6 @@
 -- Questions 4 to 7 by the kind's row, and past them all of the kind's own.
 -- Assumes nothing.
 use mathlib.Core.Path.{◌∙◌, ap}
-use borrow.Author.Rules.{rules}
 use Rattle.judge.proofs.Meanings.{answered-by}
 use Rattle.judge.proofs.Whole.{refused-by, ready}
 use Rattle.judge.specs.Chains.{asked, in_words}

@@ -1,7 +1,6 @@
 -- Questions 4 to 7 by the kind's row, and past them all of the kind's own.
 -- Assumes nothing.
 use mathlib.Core.Path.{◌∙◌, ap}
-use borrow.Author.Rules.{rules}
 use Rattle.book.proofs.Goods.{good-laid}
 use Rattle.book.proofs.Regions.{group-lt}
 use Rattle.book.specs.declared.grid.Grids.{Grids}
@@ -42,7 +41,7 @@ unfolding kind_of
 first_not_member-ended-requires c =
     let h = ready c.requires.good c.args.r end_standing (ap kind_of c.requires.kind_value) c.standing_row.ensures
     c.first_no-no.ensures c.if-no-ne0.false in
-    let both =    ground c.requires.good standings (ap (λ (g : Grids). g.standing) c.requires.sited) h.slot
+    let both = ground c.requires.good standings (ap (λ (g : Grids). g.standing) c.requires.sited) h.slot
     (group-lt c.args.site.settings.meetings c.args.r.a h.a) in
     record { lies = both.0; last_lt_slots = both.1.0; v_bound = both.1.1 }
 

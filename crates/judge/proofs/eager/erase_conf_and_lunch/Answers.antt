@@ -4,7 +4,6 @@ use Prim.Native.Nat.{◌<◌}
 use mathlib.Core.Path.{◌∙◌, ap}
 use mathlib.Core.Path.{ap₂}
 use native.Mathlib.Omega.{arith}
-use borrow.Author.Rules.{rules}
 use Rattle.book.proofs.Goods.{good-laid}
 use Rattle.book.specs.Lent.{reading}
 use Rattle.book.specs.declared.grid.Grids.{Grids}
@@ -51,7 +50,7 @@ unfolding kind_of
 first_row_without-roomless-requires c =
     let h = ready c.requires.good c.args.r erase_conf_and_lunch (ap kind_of c.requires.kind_value) c.meeting_row.ensures
     c.first_no-no.ensures c.if-no-ne0.false in
-    let both =    row-ground c.requires.good conf_pairs (ap (λ (g : Grids). g.conf) c.requires.sited) h.slot in
+    let both = row-ground c.requires.good conf_pairs (ap (λ (g : Grids). g.conf) c.requires.sited) h.slot in
     record { lies = both.0; last_lt_slots = both.1 }
 
 pub first_with-unfed-requires : goal.first_with-unfed-requires
@@ -61,7 +60,7 @@ first_with-unfed-requires c =
     c.first_no-no.ensures c.if-no-ne0.false in
     let d : c.date_of_session-to.result.0 < c.args.site.settings.dates =
     rw c.date_of_session-to.ensures (date-lt c.args.site.settings (good-laid c.requires.good).ranges sessions c.args.r.last h.slot) in
-    let both =    ground c.requires.good lunch_triples (ap (λ (g : Grids). g.lunch) c.requires.sited) d h.b in
+    let both = ground c.requires.good lunch_triples (ap (λ (g : Grids). g.lunch) c.requires.sited) d h.b in
     record { lies = both.0; last_lt_slots = both.1.0; item_lt_g = both.1.1 }
 
 pub returns : goal.returns

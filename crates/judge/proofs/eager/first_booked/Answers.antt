@@ -1,17 +1,15 @@
 -- Each date passed so far passes the test.
 -- Assumes nothing.
 -- a count that is the model's is 0 where that is
-use Prim.Native.Nat.{ℕ, suc, ◌-◌}
+use Prim.Native.Nat.{ℕ}
 use mathlib.Core.Path.{◌≡◌, ap}
 use mathlib.Core.Bool.{not}
 use lib.Dec.{eqb}
 use native.Mathlib.Omega.{arith}
 use borrow.Author.Tests.{eq-eqb, ne_eqb}
-use Rattle.model.specs.Reading.{state_of}
-use Rattle.book.specs.Lent.{reading}
 use Rattle.book.proofs.Goods.{good-laid}
-use Rattle.questions.specs.Asked.{NoBookings, holds_in}
-use Rattle.questions.proofs.Passed.{Passed, passed_none, passed-next, passed-at, passed-all}
+use Rattle.questions.specs.Asked.{holds_in}
+use Rattle.questions.proofs.Passed.{passed_none, passed-next, passed-at, passed-all}
 use Rattle.judge.proofs.eager.first_booked.Goals as goal
 
 counted : {n m : ℕ} → n ≡ m → eqb n 0 ≡ eqb m 0
@@ -22,12 +20,12 @@ loop-date-init c = passed_none _ _
 
 pub bookings-requires : goal.bookings-requires
 bookings-requires c = record {
-      good = c.requires.good;
-      sited = c.requires.sited;
-      visitor_lt_visitors = c.requires.visitor_lt_visitors;
-      first_le_last = omega arith;
-      last_lt_dates = omega (arith, c.requires.last_lt_dates, c.loop-date-test.true);
-    }
+  good = c.requires.good;
+  sited = c.requires.sited;
+  visitor_lt_visitors = c.requires.visitor_lt_visitors;
+  first_le_last = omega arith;
+  last_lt_dates = omega (arith, c.requires.last_lt_dates, c.loop-date-test.true);
+}
 
 pub returns-then-bookings-ne0 : goal.returns-then-bookings-ne0
 unfolding holds_in

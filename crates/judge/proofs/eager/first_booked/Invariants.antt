@@ -1,17 +1,11 @@
 -- Each date passed so far passes the test.
 -- Assumes nothing.
 -- a count that is the model's is 0 where that is
-use Prim.Native.Nat.{ℕ, suc, ◌-◌}
-use mathlib.Core.Path.{◌≡◌, ap}
-use mathlib.Core.Bool.{not}
-use lib.Dec.{eqb}
-use native.Mathlib.Omega.{arith}
-use borrow.Author.Tests.{eq-eqb, ne_eqb}
+use Prim.Native.Nat.{suc, ◌-◌}
 use Rattle.model.specs.Reading.{state_of}
 use Rattle.book.specs.Lent.{reading}
-use Rattle.book.proofs.Goods.{good-laid}
 use Rattle.questions.specs.Asked.{NoBookings, holds_in}
-use Rattle.questions.proofs.Passed.{Passed, passed_none, passed-next, passed-at, passed-all}
+use Rattle.questions.proofs.Passed.{Passed}
 use Rattle.judge.proofs.eager.first_booked.Given as goal
 
 abbrev pub invariant-loop-date : goal.invariant-loop-date

@@ -1,12 +1,9 @@
 -- Each date passed so far passes the test.
 -- Assumes nothing.
-use Prim.Native.Nat.{suc, ◌-◌}
 use native.Mathlib.Omega.{arith}
-use Rattle.model.specs.Reading.{state_of}
-use Rattle.book.specs.Lent.{reading}
 use Rattle.book.proofs.Goods.{good-laid}
-use Rattle.questions.specs.Asked.{StandsThatDate, holds_in}
-use Rattle.questions.proofs.Passed.{Passed, passed_none, passed-next, passed-at, passed-all}
+use Rattle.questions.specs.Asked.{holds_in}
+use Rattle.questions.proofs.Passed.{passed_none, passed-next, passed-at, passed-all}
 use mathlib.Core.Bool.{not}
 use mathlib.Core.Path.{ap}
 use Rattle.judge.proofs.eager.first_not_standing.Goals as goal
@@ -16,11 +13,11 @@ loop-date-init c = passed_none _ _
 
 pub stands_on-requires : goal.stands_on-requires
 stands_on-requires c = record {
-      good = c.requires.good;
-      sited = c.requires.sited;
-      meeting_lt_meetings = c.requires.meeting_lt_meetings;
-      date_lt_dates = omega (arith, c.requires.last_lt_dates, c.loop-date-test.true);
-    }
+  good = c.requires.good;
+  sited = c.requires.sited;
+  meeting_lt_meetings = c.requires.meeting_lt_meetings;
+  date_lt_dates = omega (arith, c.requires.last_lt_dates, c.loop-date-test.true);
+}
 
 pub returns-then-not-stands_on : goal.returns-then-not-stands_on
 unfolding holds_in

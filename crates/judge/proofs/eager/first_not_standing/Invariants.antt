@@ -1,14 +1,10 @@
 -- Each date passed so far passes the test.
 -- Assumes nothing.
 use Prim.Native.Nat.{suc, ◌-◌}
-use native.Mathlib.Omega.{arith}
 use Rattle.model.specs.Reading.{state_of}
 use Rattle.book.specs.Lent.{reading}
-use Rattle.book.proofs.Goods.{good-laid}
 use Rattle.questions.specs.Asked.{StandsThatDate, holds_in}
-use Rattle.questions.proofs.Passed.{Passed, passed_none, passed-next, passed-at, passed-all}
-use mathlib.Core.Bool.{not}
-use mathlib.Core.Path.{ap}
+use Rattle.questions.proofs.Passed.{Passed}
 use Rattle.judge.proofs.eager.first_not_standing.Given as goal
 
 abbrev pub invariant-loop-date : goal.invariant-loop-date

@@ -1,6 +1,5 @@
 -- By the cases of what the first question found.
 -- Assumes nothing.
-use borrow.Author.Rules.{rules}
 use Rattle.judge.proofs.eager.first_of_four.Goals as goal
 
 pub returns-in-At : goal.returns-in-At

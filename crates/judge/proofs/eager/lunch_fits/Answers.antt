@@ -2,7 +2,6 @@
 -- Assumes nothing.
 use mathlib.Core.Path.{◌∙◌, ap}
 use native.Mathlib.Omega.{arith}
-use borrow.Author.Rules.{rules}
 use Rattle.book.proofs.Goods.{good-laid}
 use Rattle.book.specs.declared.grid.Grids.{Grids}
 use Rattle.judge.proofs.Together.{four}
@@ -14,32 +13,32 @@ use Rattle.judge.proofs.eager.lunch_fits.Goals as goal
 
 pub first_not_standing-ended-requires : goal.first_not_standing-ended-requires
 first_not_standing-ended-requires c = record {
-      good = c.requires.good;
-      sited = c.requires.sited;
-      last_lt_dates = c.requires.last_lt_dates;
-      meeting_lt_meetings = c.requires.b_lt_meetings;
-    }
+  good = c.requires.good;
+  sited = c.requires.sited;
+  last_lt_dates = c.requires.last_lt_dates;
+  meeting_lt_meetings = c.requires.b_lt_meetings;
+}
 
 pub overflow_add-a : goal.overflow_add-a
 overflow_add-a c =
     omega (arith, (good-laid c.requires.good).ranges.dining, c.requires.a_lt_dining)
 
 pub first_with-there-requires : goal.first_with-there-requires
-first_with-there-requires c = let both =    ground c.requires.good lunch_triples (ap (λ (g : Grids). g.lunch) c.requires.sited) c.requires.last_lt_dates c.requires.b_lt_meetings in
+first_with-there-requires c = let both = ground c.requires.good lunch_triples (ap (λ (g : Grids). g.lunch) c.requires.sited) c.requires.last_lt_dates c.requires.b_lt_meetings in
     record { lies = both.0; last_lt_slots = both.1.0; item_lt_g = both.1.1 }
 
 pub first_without-elsewhere-requires : goal.first_without-elsewhere-requires
-first_without-elsewhere-requires c = let both =    ground c.requires.good lunch_triples (ap (λ (g : Grids). g.lunch) c.requires.sited) c.requires.last_lt_dates c.requires.b_lt_meetings in
+first_without-elsewhere-requires c = let both = ground c.requires.good lunch_triples (ap (λ (g : Grids). g.lunch) c.requires.sited) c.requires.last_lt_dates c.requires.b_lt_meetings in
     record { lies = both.0; last_lt_slots = both.1.0; item_lt_g = both.1.1 }
 
 pub first_over-over-requires : goal.first_over-over-requires
 first_over-over-requires c = record {
-      good = c.requires.good;
-      sited = c.requires.sited;
-      last_lt_dates = c.requires.last_lt_dates;
-      room_lt_dining = c.requires.a_lt_dining;
-      n_bound = c.requires.n_bound;
-    }
+  good = c.requires.good;
+  sited = c.requires.sited;
+  last_lt_dates = c.requires.last_lt_dates;
+  room_lt_dining = c.requires.a_lt_dining;
+  n_bound = c.requires.n_bound;
+}
 
 pub returns : goal.returns
 unfolding lunch_adds holds_in

@@ -11,18 +11,18 @@ use Rattle.judge.proofs.eager.stands_on.Goals as goal
 
 pub sessions_on-run-requires : goal.sessions_on-run-requires
 sessions_on-run-requires c = record {
-      ranges = (good-laid c.requires.good).ranges;
-      first_le_last = omega arith;
-      last_lt_dates = c.requires.date_lt_dates;
-    }
+  ranges = (good-laid c.requires.good).ranges;
+  first_le_last = omega arith;
+  last_lt_dates = c.requires.date_lt_dates;
+}
 
 pub member_between-requires : goal.member_between-requires
 member_between-requires c = record {
-      lies = rw c.requires.sited (good-lies c.requires.good standings);
-      hi_le_slots = rw c.requires.sited c.sessions_on-run.ensures.ends.most;
-      v_bound = rw c.requires.sited
-            (group-lt c.args.site.settings.meetings c.args.meeting c.requires.meeting_lt_meetings);
-    }
+  lies = rw c.requires.sited (good-lies c.requires.good standings);
+  hi_le_slots = rw c.requires.sited c.sessions_on-run.ensures.ends.most;
+  v_bound = rw c.requires.sited
+      (group-lt c.args.site.settings.meetings c.args.meeting c.requires.meeting_lt_meetings);
+}
 
 pub returns : goal.returns
 returns c =

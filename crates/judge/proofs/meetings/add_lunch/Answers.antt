@@ -1,7 +1,6 @@
 -- Questions 4 to 7 by the kind's row, and past them the kind's own.
 -- Assumes nothing.
 use mathlib.Core.Path.{◌∙◌, ap}
-use borrow.Author.Rules.{rules}
 use Rattle.model.specs.Kinds.{kind_of, Kind.add_lunch}
 use Rattle.judge.specs.Chains.{in_words}
 use Rattle.judge.proofs.Whole.{refused-by, ready}

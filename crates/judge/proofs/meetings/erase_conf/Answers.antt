@@ -2,7 +2,6 @@
 -- Assumes nothing.
 use mathlib.Core.Path.{◌∙◌, ap}
 use native.Mathlib.Omega.{arith}
-use borrow.Author.Rules.{rules}
 use Rattle.book.specs.declared.grid.Grids.{Grids}
 use Rattle.book.proofs.Goods.{good-laid}
 use Rattle.model.specs.declared.Answer.TheVariants.{Done}
@@ -37,7 +36,7 @@ unfolding kind_of
 first_row_without-requires c =
     let h = ready c.requires.good c.args.r erase_conf (ap kind_of c.requires.kind_value) c.meeting_row.ensures c.first_no-no.ensures
     c.if-no-ne0.false in
-    let both =    row-ground c.requires.good conf_pairs (ap (λ (g : Grids). g.conf) c.requires.sited) (omega (arith, h.slot)) in
+    let both = row-ground c.requires.good conf_pairs (ap (λ (g : Grids). g.conf) c.requires.sited) (omega (arith, h.slot)) in
     record { lies = both.0; last_lt_slots = both.1 }
 
 pub returns : goal.returns

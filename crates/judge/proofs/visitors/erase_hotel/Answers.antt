@@ -2,7 +2,6 @@
 -- Assumes nothing.
 use mathlib.Core.Path.{◌∙◌, ap}
 use native.Mathlib.Omega.{arith}
-use borrow.Author.Rules.{rules}
 use Rattle.book.specs.declared.grid.Grids.{Grids}
 use Rattle.book.proofs.Goods.{good-laid}
 use Rattle.model.specs.Kinds.{kind_of, Kind.erase_hotel}
@@ -32,7 +31,7 @@ unfolding kind_of
 erase-requires c =
     let h = ready c.requires.good c.args.r erase_hotel (ap kind_of c.requires.kind_value) c.hotel_row.ensures c.first_no-no.ensures
     c.if-no-ne0.false in
-    let both =    ground c.requires.good hotel_cells (ap (λ (g : Grids). g.hotel) c.requires.sited) (omega (arith, h.order, h.slot)) h.a in
+    let both = ground c.requires.good hotel_cells (ap (λ (g : Grids). g.hotel) c.requires.sited) (omega (arith, h.order, h.slot)) h.a in
     record { lies = both.0; last_lt_slots = both.1.0; item_lt_cells = both.1.1 }
 
 pub returns : goal.returns

@@ -1,9 +1,7 @@
 -- Question by question.
 -- Assumes nothing.
 use mathlib.Core.Path.{sym, ◌∙◌}
-use borrow.Author.Tests.{not-true, not-false}
 use Rattle.kinds.specs.Rows.{fields_no}
-use borrow.Author.Rules.{rules}
 use Rattle.kinds.proofs.fields.first_no.Goals as goal
 
 pub returns-then-not-unused_zero : goal.returns-then-not-unused_zero

@@ -1,6 +1,5 @@
 -- By whether the field is used.
 -- Assumes nothing.
-use borrow.Author.Tests.{not-true, not-false}
 use Rattle.kinds.specs.Rows.{below}
 use Rattle.kinds.proofs.fields.is_below.Goals as goal
 

@@ -1,7 +1,6 @@
 -- The sum of what is left over is 0 exactly when each word is.
 -- Assumes nothing.
 use Rattle.kinds.proofs.Limits.{unused-by}
-use borrow.Author.Rules.{rules}
 use Rattle.kinds.proofs.fields.unused_zero.Goals as goal
 
 pub returns : goal.returns

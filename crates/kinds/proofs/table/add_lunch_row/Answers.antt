@@ -1,6 +1,5 @@
 -- The fields are as named.
 -- Assumes nothing.
-use borrow.Author.Rules.{rules}
 use Rattle.kinds.proofs.table.add_lunch_row.Goals as goal
 
 pub returns : goal.returns

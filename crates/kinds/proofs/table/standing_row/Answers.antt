@@ -2,7 +2,6 @@
 -- Assumes nothing.
 use native.Mathlib.Omega.{arith}
 use Rattle.units.proofs.Slots.{all-sessions}
-use borrow.Author.Rules.{rules}
 use Rattle.kinds.proofs.table.standing_row.Goals as goal
 
 pub overflow_mul-s : goal.overflow_mul-s

@@ -1,6 +1,6 @@
 -- The sessions before i are counted.
 -- Assumes nothing.
-use Prim.Native.Nat.{ℕ, ◌*◌, ◌-◌, ◌≤◌}
+use Prim.Native.Nat.{ℕ, ◌-◌}
 use mathlib.Core.Path.{◌≡◌, ◌∙◌, ap}
 use native.Mathlib.Omega.{arith}
 use lib.ListN.{length, length-append}
@@ -25,10 +25,10 @@ loop-i-init c =
 
 pub lines_in-n-requires : goal.lines_in-n-requires
 lines_in-n-requires c = record {
-      good = c.requires.good;
-      sited = c.requires.sited;
-      session_bound = omega (arith, c.requires.from_le_to);
-    }
+  good = c.requires.good;
+  sited = c.requires.sited;
+  session_bound = omega (arith, c.requires.from_le_to);
+}
 
 pub overflow_add-n : goal.overflow_add-n
 overflow_add-n c =

@@ -1,16 +1,11 @@
 -- The sessions before i are counted.
 -- Assumes nothing.
-use Prim.Native.Nat.{ℕ, ◌*◌, ◌-◌, ◌≤◌}
-use mathlib.Core.Path.{◌≡◌, ◌∙◌, ap}
-use native.Mathlib.Omega.{arith}
-use lib.ListN.{length, length-append}
+use Prim.Native.Nat.{◌*◌, ◌-◌, ◌≤◌}
+use mathlib.Core.Path.{◌≡◌}
+use lib.ListN.{length}
 use Rattle.model.specs.Reading.{state_of}
 use Rattle.model.specs.Page.{join_from, session_lines}
 use Rattle.book.specs.Lent.{reading}
-use Rattle.book.proofs.Goods.{good-laid}
-use Rattle.units.proofs.Slots.{all-sessions}
-use Rattle.pages.specs.Pages.{between}
-use Rattle.pages.proofs.Joins.{join-next, join-start}
 use Rattle.pages.proofs.counts.lines_between.Given as goal
 
 abbrev pub invariant-loop-i : goal.invariant-loop-i

@@ -1,12 +1,11 @@
 -- The rooms before `room` are counted.
 -- Assumes nothing.
-use Prim.Native.Nat.{ℕ, ◌-◌, ◌≤◌}
-use mathlib.Core.Path.{◌≡◌, refl, ◌∙◌, ap}
+use Prim.Native.Nat.{ℕ}
+use mathlib.Core.Path.{refl, ◌∙◌, ap}
 use mathlib.Core.Bool.{not}
 use native.Mathlib.Omega.{arith}
 use lib.Dec.{eqb}
 use lib.ListN.{length, length-append}
-use borrow.Author.Rules.{rules}
 use Rattle.model.specs.Bounded.{one}
 use Rattle.model.specs.Words.{conf_pairs}
 use Rattle.model.specs.Reading.{state_of}
@@ -23,10 +22,10 @@ loop-room-init c = (omega arith, refl, omega arith)
 
 pub cell-requires : goal.cell-requires
 cell-requires c = record {
-      lies = rw c.requires.sited (good-lies c.requires.good conf_pairs);
-      slot_lt_slots = rw c.requires.sited c.requires.session_bound;
-      item_lt_g = rw c.requires.sited (omega arith);
-    }
+  lies = rw c.requires.sited (good-lies c.requires.good conf_pairs);
+  slot_lt_slots = rw c.requires.sited c.requires.session_bound;
+  item_lt_g = rw c.requires.sited (omega arith);
+}
 
 pub overflow_add-n : goal.overflow_add-n
 overflow_add-n c = omega (

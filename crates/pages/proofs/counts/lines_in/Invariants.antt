@@ -1,21 +1,11 @@
 -- The rooms before `room` are counted.
 -- Assumes nothing.
-use Prim.Native.Nat.{ℕ, ◌-◌, ◌≤◌}
-use mathlib.Core.Path.{◌≡◌, refl, ◌∙◌, ap}
-use mathlib.Core.Bool.{not}
-use native.Mathlib.Omega.{arith}
-use lib.Dec.{eqb}
-use lib.ListN.{length, length-append}
-use borrow.Author.Rules.{rules}
-use Rattle.model.specs.Bounded.{one}
-use Rattle.model.specs.Words.{conf_pairs}
+use Prim.Native.Nat.{◌-◌, ◌≤◌}
+use mathlib.Core.Path.{◌≡◌}
+use lib.ListN.{length}
 use Rattle.model.specs.Reading.{state_of}
 use Rattle.model.specs.Page.{join_from, room_line}
-use Rattle.model.proofs.ReadBack.{one-le}
 use Rattle.book.specs.Lent.{reading}
-use Rattle.book.proofs.Goods.{good-lies, good-laid}
-use Rattle.pages.proofs.Joins.{join-upto}
-use Rattle.pages.proofs.Shows.{line-count, session-rooms}
 use Rattle.pages.proofs.counts.lines_in.Given as goal
 
 abbrev pub invariant-loop-room : goal.invariant-loop-room

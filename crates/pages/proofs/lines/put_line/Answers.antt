@@ -1,7 +1,6 @@
 -- Five fields and byte 10.
 -- Assumes nothing.
 use Rattle.pages.proofs.Joins.{line-by}
-use borrow.Author.Rules.{rules}
 use Rattle.pages.proofs.lines.put_line.Goals as goal
 
 pub returns : goal.returns

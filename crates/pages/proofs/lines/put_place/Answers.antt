@@ -2,7 +2,6 @@
 -- Assumes nothing.
 use Rattle.text.proofs.Decimals.{field-length}
 use Rattle.pages.proofs.Joins.{join-two}
-use borrow.Author.Rules.{rules}
 use Rattle.pages.proofs.lines.put_place.Goals as goal
 
 pub returns : goal.returns

@@ -2,21 +2,19 @@
 -- Assumes nothing.
 use mathlib.Core.Path.{sym, ◌∙◌}
 use native.Mathlib.Omega.{arith}
-use Prim.Native.Nat.{◌-◌}
 use Rattle.model.specs.Words.{conf_pairs}
 use Rattle.book.specs.Lent.{reading}
 use Rattle.book.proofs.Goods.{good-lies}
 use Rattle.pages.proofs.Joins.{written_none, written_one}
 use Rattle.pages.proofs.Shows.{no_line, table-line, line-one, full-few}
-use borrow.Author.Rules.{rules}
 use Rattle.pages.proofs.lines.put_room.Goals as goal
 
 pub cell-w-requires : goal.cell-w-requires
 cell-w-requires c = record {
-      lies = rw c.requires.sited (good-lies c.requires.good conf_pairs);
-      slot_lt_slots = rw c.requires.sited c.requires.session_bound.0;
-      item_lt_g = rw c.requires.sited c.requires.session_bound.1;
-    }
+  lies = rw c.requires.sited (good-lies c.requires.good conf_pairs);
+  slot_lt_slots = rw c.requires.sited c.requires.session_bound.0;
+  item_lt_g = rw c.requires.sited c.requires.session_bound.1;
+}
 
 pub returns-then-w-eq0 : goal.returns-then-w-eq0
 returns-then-w-eq0 c =
@@ -27,11 +25,11 @@ returns-then-w-eq0 c =
 
 pub word-info-requires : goal.word-info-requires
 word-info-requires c = record {
-      lies = rw c.requires.sited (good-lies c.requires.good conf_pairs);
-      slot_lt_slots = rw c.requires.sited c.requires.session_bound.0;
-      item_lt_g = rw c.requires.sited c.requires.session_bound.1;
-      k_lt_width = rw c.requires.sited (omega arith);
-    }
+  lies = rw c.requires.sited (good-lies c.requires.good conf_pairs);
+  slot_lt_slots = rw c.requires.sited c.requires.session_bound.0;
+  item_lt_g = rw c.requires.sited c.requires.session_bound.1;
+  k_lt_width = rw c.requires.sited (omega arith);
+}
 
 pub bounds-table-w : goal.bounds-table-w
 bounds-table-w c =

@@ -1,11 +1,10 @@
 -- The rooms before `room` have their lines.
 -- Assumes nothing.
-use Prim.Native.Nat.{◌-◌, ◌≤◌}
 use mathlib.Core.Path.{refl, sym, subst}
 use mathlib.Core.List.{List}
 use native.Mathlib.Omega.{arith}
 use Rattle.model.specs.Reading.{state_of}
-use Rattle.model.specs.Page.{PageLine, join_from, room_line}
+use Rattle.model.specs.Page.{PageLine, room_line}
 use Rattle.book.specs.Lent.{reading}
 use Rattle.book.proofs.Goods.{good-laid}
 use Rattle.pages.specs.Pages.{Written}
@@ -15,10 +14,10 @@ use Rattle.pages.proofs.lines.put_session.Goals as goal
 
 pub tally-table-requires : goal.tally-table-requires
 tally-table-requires c = record {
-      good = c.requires.good;
-      sited = c.requires.sited;
-      session_bound = c.requires.session_bound;
-    }
+  good = c.requires.good;
+  sited = c.requires.sited;
+  session_bound = c.requires.session_bound;
+}
 
 pub loop-room-init : goal.loop-room-init
 loop-room-init c = let a = c.args in (omega arith, written_none a.page.now a.at refl)
@@ -49,8 +48,7 @@ loop-room-smaller c = omega arith
 
 pub loop-room-preserved : goal.loop-room-preserved
 loop-room-preserved c =
-    let a = c.args in
-    (
+    let a = c.args in (
       omega arith,
       written-more (join-upto (room_line (state_of (reading a.diary.now)) a.session.0) c.loop-room.room) c.loop-room.invariant.1
           c.put_room-next.ensures,

@@ -1,16 +1,10 @@
 -- The rooms before `room` have their lines.
 -- Assumes nothing.
 use Prim.Native.Nat.{◌-◌, ◌≤◌}
-use mathlib.Core.Path.{refl, sym, subst}
-use mathlib.Core.List.{List}
-use native.Mathlib.Omega.{arith}
 use Rattle.model.specs.Reading.{state_of}
-use Rattle.model.specs.Page.{PageLine, join_from, room_line}
+use Rattle.model.specs.Page.{join_from, room_line}
 use Rattle.book.specs.Lent.{reading}
-use Rattle.book.proofs.Goods.{good-laid}
 use Rattle.pages.specs.Pages.{Written}
-use Rattle.pages.proofs.Joins.{join-upto, room-upto, written_none, written-more}
-use Rattle.pages.proofs.Shows.{session-rooms}
 use Rattle.pages.proofs.lines.put_session.Given as goal
 
 abbrev pub invariant-loop-room : goal.invariant-loop-room

@@ -1,6 +1,6 @@
 -- The sessions before i have their lines.
 -- Assumes nothing.
-use Prim.Native.Nat.{ℕ, ◌-◌, ◌≤◌}
+use Prim.Native.Nat.{ℕ, ◌-◌}
 use mathlib.Core.Path.{◌≡◌, subst}
 use native.Mathlib.Omega.{arith}
 use Rattle.model.specs.Reading.{state_of}
@@ -9,7 +9,7 @@ use Rattle.book.specs.Lent.{reading}
 use Rattle.book.proofs.Goods.{good-laid}
 use Rattle.units.proofs.Slots.{all-sessions}
 use Rattle.text.specs.Put.{Put}
-use Rattle.pages.specs.Pages.{Written, between}
+use Rattle.pages.specs.Pages.{between}
 use Rattle.pages.proofs.Joins.{join-next, join-start, still-room, written_none, written-more}
 use Rattle.pages.proofs.lines.put_sessions.Goals as goal
 
@@ -44,8 +44,7 @@ loop-i-smaller c = omega (arith, c.loop-i-test.true)
 
 pub loop-i-preserved : goal.loop-i-preserved
 loop-i-preserved c =
-    let a = c.args in
-    (
+    let a = c.args in (
       omega (arith, c.loop-i.invariant.0),
       omega (arith, c.loop-i-test.true),
       written-more (join-next (session_lines (state_of (reading a.diary.now))) a.from.0 c.loop-i.i c.loop-i.invariant.0) c.loop-i.invariant.2

@@ -1,16 +1,10 @@
 -- The sessions before i have their lines.
 -- Assumes nothing.
-use Prim.Native.Nat.{ℕ, ◌-◌, ◌≤◌}
-use mathlib.Core.Path.{◌≡◌, subst}
-use native.Mathlib.Omega.{arith}
+use Prim.Native.Nat.{◌-◌, ◌≤◌}
 use Rattle.model.specs.Reading.{state_of}
-use Rattle.model.specs.Page.{join_from, session_lines, page_bytes}
+use Rattle.model.specs.Page.{join_from, session_lines}
 use Rattle.book.specs.Lent.{reading}
-use Rattle.book.proofs.Goods.{good-laid}
-use Rattle.units.proofs.Slots.{all-sessions}
-use Rattle.text.specs.Put.{Put}
-use Rattle.pages.specs.Pages.{Written, between}
-use Rattle.pages.proofs.Joins.{join-next, join-start, still-room, written_none, written-more}
+use Rattle.pages.specs.Pages.{Written}
 use Rattle.pages.proofs.lines.put_sessions.Given as goal
 
 abbrev pub invariant-loop-i : goal.invariant-loop-i

@@ -1,13 +1,12 @@
 -- The cells before v are counted.
 -- Assumes nothing.
-use Prim.Native.Nat.{◌-◌, ◌≤◌}
 use mathlib.Core.Path.{refl}
 use native.Mathlib.Omega.{arith}
 use lib.ListN.{get_or-replicate}
 use Rattle.model.specs.Words.{attend_cells}
 use Rattle.book.specs.Lent.{reading}
 use Rattle.book.proofs.Goods.{good-lies, good-laid}
-use Rattle.pages.proofs.Shows.{Tallied, tallied-none, tallied-more, tallied-few, tally-all, cell-few}
+use Rattle.pages.proofs.Shows.{tallied-none, tallied-more, tallied-few, tally-all, cell-few}
 use Rattle.pages.proofs.tally.tally.Goals as goal
 
 pub loop-v-init : goal.loop-v-init
@@ -17,10 +16,10 @@ loop-v-init c =
 
 pub cell-w-requires : goal.cell-w-requires
 cell-w-requires c = record {
-      lies = rw c.requires.sited (good-lies c.requires.good attend_cells);
-      slot_lt_slots = rw c.requires.sited c.requires.session_bound;
-      item_lt_g = rw c.requires.sited (omega arith);
-    }
+  lies = rw c.requires.sited (good-lies c.requires.good attend_cells);
+  slot_lt_slots = rw c.requires.sited c.requires.session_bound;
+  item_lt_g = rw c.requires.sited (omega arith);
+}
 
 pub overflow_cast-w : goal.overflow_cast-w
 overflow_cast-w c = omega arith

@@ -1,13 +1,8 @@
 -- The cells before v are counted.
 -- Assumes nothing.
 use Prim.Native.Nat.{◌-◌, ◌≤◌}
-use mathlib.Core.Path.{refl}
-use native.Mathlib.Omega.{arith}
-use lib.ListN.{get_or-replicate}
-use Rattle.model.specs.Words.{attend_cells}
 use Rattle.book.specs.Lent.{reading}
-use Rattle.book.proofs.Goods.{good-lies, good-laid}
-use Rattle.pages.proofs.Shows.{Tallied, tallied-none, tallied-more, tallied-few, tally-all, cell-few}
+use Rattle.pages.proofs.Shows.{Tallied}
 use Rattle.pages.proofs.tally.tally.Given as goal
 
 abbrev pub invariant-loop-v : goal.invariant-loop-v

@@ -1,7 +1,7 @@
 -- After the dates before `date`, n is their entries.
 -- Assumes nothing.
 use Rattle.book.specs.Lent.{reading}
-use Prim.Native.Nat.{ℕ, suc, ◌+◌, ◌-◌, ◌≤◌}
+use Prim.Native.Nat.{ℕ, ◌+◌, ◌-◌}
 use mathlib.Core.Path.{◌≡◌, sym, ◌∙◌, ap, ap₂}
 use native.Mathlib.Omega.{arith}
 use Rattle.model.specs.Bounded.{sum_from}
@@ -19,11 +19,11 @@ loop-date-init c =
 
 pub entries_on-n-requires : goal.entries_on-n-requires
 entries_on-n-requires c = record {
-      good = c.requires.good;
-      sited = c.requires.sited;
-      visitor_lt_visitors = c.requires.visitor_lt_visitors;
-      date_lt_dates = omega (arith, c.requires.last_lt_dates, c.loop-date-test.true);
-    }
+  good = c.requires.good;
+  sited = c.requires.sited;
+  visitor_lt_visitors = c.requires.visitor_lt_visitors;
+  date_lt_dates = omega (arith, c.requires.last_lt_dates, c.loop-date-test.true);
+}
 
 pub overflow_add-n : goal.overflow_add-n
 overflow_add-n c =
@@ -45,8 +45,7 @@ pub loop-date-preserved : goal.loop-date-preserved
 loop-date-preserved c =
     let a = c.args in
     let d = c.loop-date.date.0 in
-    let k = sum-next (λ d. bookings (state_of (reading a.book.now)) a.visitor d d) a.first.0 d c.loop-date.invariant.0 in
-    (
+    let k = sum-next (λ d. bookings (state_of (reading a.book.now)) a.visitor d d) a.first.0 d c.loop-date.invariant.0 in (
       omega (arith, c.after-date.ensures, c.loop-date.invariant.0),
       omega (arith, c.after-date.ensures, c.loop-date-test.true),
       ap₂ ◌+◌ c.loop-date.invariant.2 c.entries_on-n.ensures ∙ sym k

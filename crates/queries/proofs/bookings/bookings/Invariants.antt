@@ -1,15 +1,11 @@
 -- After the dates before `date`, n is their entries.
 -- Assumes nothing.
 use Rattle.book.specs.Lent.{reading}
-use Prim.Native.Nat.{ℕ, suc, ◌+◌, ◌-◌, ◌≤◌}
-use mathlib.Core.Path.{◌≡◌, sym, ◌∙◌, ap, ap₂}
-use native.Mathlib.Omega.{arith}
+use Prim.Native.Nat.{suc, ◌+◌, ◌-◌, ◌≤◌}
+use mathlib.Core.Path.{◌≡◌}
 use Rattle.model.specs.Bounded.{sum_from}
 use Rattle.model.specs.Questions.{bookings}
 use Rattle.model.specs.Reading.{state_of}
-use Rattle.book.proofs.Goods.{good-laid}
-use Rattle.queries.proofs.Runs.{sum-start, sum-next}
-use Rattle.queries.proofs.Spans.{bookings-sum, bookings-few}
 use Rattle.queries.proofs.bookings.bookings.Given as goal
 
 abbrev pub invariant-loop-date : goal.invariant-loop-date

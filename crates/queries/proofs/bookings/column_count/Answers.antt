@@ -1,7 +1,7 @@
 -- After the slots before i, n is their count.
 -- Assumes nothing.
 use Rattle.book.specs.Lent.{reading}
-use Prim.Native.Nat.{ℕ, ◌+◌, ◌-◌, ◌≤◌}
+use Prim.Native.Nat.{ℕ, ◌+◌, ◌-◌}
 use mathlib.Core.Path.{◌≡◌, sym, ◌∙◌, ap, ap₂}
 use mathlib.Core.Bool.{not}
 use native.Mathlib.Omega.{arith}
@@ -26,10 +26,10 @@ loop-i-init c =
 
 pub cell-requires : goal.cell-requires
 cell-requires c = record {
-      lies = c.requires.lies;
-      slot_lt_slots = omega (arith, c.requires.lo_le_hi);
-      item_lt_g = c.requires.item_lt_g;
-    }
+  lies = c.requires.lies;
+  slot_lt_slots = omega (arith, c.requires.lo_le_hi);
+  item_lt_g = c.requires.item_lt_g;
+}
 
 pub overflow_add-n : goal.overflow_add-n
 overflow_add-n c = omega (arith, c.requires.lo_le_hi, c.full-n.ensures, one-le (not (eqb c.cell.result 0)))
@@ -42,8 +42,7 @@ loop-i-smaller c = omega arith
 
 pub loop-i-preserved : goal.loop-i-preserved
 loop-i-preserved c =
-    let a = c.args in
-    (
+    let a = c.args in (
       omega arith,
       omega arith,
       ap₂ ◌+◌ c.loop-i.invariant.2 (c.full-n.ensures ∙ ap (λ (w : ℕ). one (not (eqb w 0))) c.cell.ensures)

@@ -1,17 +1,12 @@
 -- After the slots before i, n is their count.
 -- Assumes nothing.
 use Rattle.book.specs.Lent.{reading}
-use Prim.Native.Nat.{ℕ, ◌+◌, ◌-◌, ◌≤◌}
-use mathlib.Core.Path.{◌≡◌, sym, ◌∙◌, ap, ap₂}
+use Prim.Native.Nat.{◌-◌, ◌≤◌}
+use mathlib.Core.Path.{◌≡◌}
 use mathlib.Core.Bool.{not}
-use native.Mathlib.Omega.{arith}
 use lib.Dec.{eqb}
-use borrow.Author.Rules.{rules}
 use Rattle.model.specs.Bounded.{one, sum_from}
 use Rattle.book.specs.Grids.{cell_at}
-use Rattle.model.proofs.ReadBack.{one-le}
-use Rattle.queries.specs.Shown.{column_count}
-use Rattle.queries.proofs.Runs.{sum-start, sum-next}
 use Rattle.queries.proofs.bookings.column_count.Given as goal
 
 abbrev pub invariant-loop-i : goal.invariant-loop-i

@@ -1,9 +1,9 @@
 -- The cells of the slots before i are empty.
 -- Assumes nothing.
 use Rattle.book.specs.Lent.{reading}
-use Prim.Native.Nat.{ℕ, ◌-◌, ◌≤◌, ◌<◌}
+use Prim.Native.Nat.{ℕ, ◌-◌}
 use mathlib.Core.Path.{◌≡◌, sym, ◌∙◌, ap}
-use mathlib.Core.Bool.{Bool, true, false, not}
+use mathlib.Core.Bool.{Bool, true, not}
 use native.Mathlib.Omega.{arith}
 use lib.Dec.{eqb}
 use borrow.Author.Tests.{eq-eqb, ne_eqb}
@@ -19,10 +19,10 @@ loop-i-init c = (omega arith, λ k l h. absurd (omega (arith, l, h)))
 
 pub cell-requires : goal.cell-requires
 cell-requires c = record {
-      lies = c.requires.lies;
-      slot_lt_slots = omega (arith, c.requires.hi_le_slots, c.loop-i-test.true);
-      item_lt_g = c.requires.item_lt_g;
-    }
+  lies = c.requires.lies;
+  slot_lt_slots = omega (arith, c.requires.hi_le_slots, c.loop-i-test.true);
+  item_lt_g = c.requires.item_lt_g;
+}
 
 pub returns-then-cell-ne0 : goal.returns-then-cell-ne0
 unfolding column_count

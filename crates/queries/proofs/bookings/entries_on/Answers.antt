@@ -3,8 +3,6 @@
 use Rattle.book.specs.Lent.{reading}
 use mathlib.Core.Path.{refl, sym, ◌∙◌}
 use native.Mathlib.Omega.{arith}
-use borrow.Author.Tests.{not-true}
-use borrow.Author.Rules.{rules}
 use Rattle.model.specs.Kinds.{sessions, times}
 use Rattle.model.specs.Words.{attend_cells, hotel_cells, ride_cells}
 use Rattle.units.proofs.Slots.{all-sessions}
@@ -19,38 +17,38 @@ returns-then-not-on_leave c =
 
 pub sessions_on-sessions-requires : goal.sessions_on-sessions-requires
 sessions_on-sessions-requires c = record {
-      ranges = (good-laid c.requires.good).ranges;
-      first_le_last = omega arith;
-      last_lt_dates = c.requires.date_lt_dates;
-    }
+  ranges = (good-laid c.requires.good).ranges;
+  first_le_last = omega arith;
+  last_lt_dates = c.requires.date_lt_dates;
+}
 
 pub times_on-times-requires : goal.times_on-times-requires
 times_on-times-requires c = record {
-      ranges = (good-laid c.requires.good).ranges;
-      first_le_last = omega arith;
-      last_lt_dates = c.requires.date_lt_dates;
-    }
+  ranges = (good-laid c.requires.good).ranges;
+  first_le_last = omega arith;
+  last_lt_dates = c.requires.date_lt_dates;
+}
 
 pub overflow_add-visitor : goal.overflow_add-visitor
 overflow_add-visitor c = omega (arith, (good-laid c.requires.good).ranges.visitors, c.requires.visitor_lt_visitors)
 
 pub row_count-nights-requires : goal.row_count-nights-requires
 row_count-nights-requires c = record {
-      lies = rw c.requires.sited (good-lies c.requires.good hotel_cells);
-      slot_lt_slots = rw c.requires.sited c.requires.date_lt_dates;
-    }
+  lies = rw c.requires.sited (good-lies c.requires.good hotel_cells);
+  slot_lt_slots = rw c.requires.sited c.requires.date_lt_dates;
+}
 
 pub column_count-meetings-requires : goal.column_count-meetings-requires
 column_count-meetings-requires c = record {
-      lies = rw c.requires.sited (good-lies c.requires.good attend_cells);
-      item_lt_g = rw c.requires.sited c.requires.visitor_lt_visitors;
-      lo_le_hi = rw c.requires.sited (
-          run-order c.args.site.settings sessions _ _ _ _ c.sessions_on-sessions.ensures (omega arith),
-          c.sessions_on-sessions.ensures.ends.most,
-          omega
-              (arith, all-sessions c.args.site.settings (good-laid c.requires.good).ranges),
-        );
-    }
+  lies = rw c.requires.sited (good-lies c.requires.good attend_cells);
+  item_lt_g = rw c.requires.sited c.requires.visitor_lt_visitors;
+  lo_le_hi = rw c.requires.sited (
+    run-order c.args.site.settings sessions _ _ _ _ c.sessions_on-sessions.ensures (omega arith),
+    c.sessions_on-sessions.ensures.ends.most,
+    omega
+        (arith, all-sessions c.args.site.settings (good-laid c.requires.good).ranges),
+  );
+}
 
 pub overflow_add-visitor-2 : goal.overflow_add-visitor-2
 overflow_add-visitor-2 c =
@@ -58,10 +56,10 @@ overflow_add-visitor-2 c =
 
 pub rows_count-rides-requires : goal.rows_count-rides-requires
 rows_count-rides-requires c = record {
-      lies = rw c.requires.sited (good-lies c.requires.good ride_cells);
-      width_value = rw c.requires.sited refl;
-      lo_le_hi = rw c.requires.sited (run-order c.args.site.settings times _ _ _ _ c.times_on-times.ensures (omega arith), c.times_on-times.ensures.ends.most);
-    }
+  lies = rw c.requires.sited (good-lies c.requires.good ride_cells);
+  width_value = rw c.requires.sited refl;
+  lo_le_hi = rw c.requires.sited (run-order c.args.site.settings times _ _ _ _ c.times_on-times.ensures (omega arith), c.times_on-times.ensures.ends.most);
+}
 
 pub overflow_add-result : goal.overflow_add-result
 overflow_add-result c =

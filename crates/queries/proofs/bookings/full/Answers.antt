@@ -1,6 +1,5 @@
 -- By the test.
 -- Assumes nothing.
-use Prim.Native.Nat.{◌-◌}
 use borrow.Author.Tests.{eq-eqb, ne_eqb}
 use Rattle.queries.proofs.bookings.full.Goals as goal
 

@@ -6,9 +6,8 @@ use mathlib.Core.Path.{◌≡◌, refl, sym, ◌∙◌, ap}
 use mathlib.Core.Bool.{true, not, false≢true}
 use native.Mathlib.Omega.{arith}
 use lib.Dec.{eqb}
-use borrow.Author.Tests.{eqb-true, eq-eqb, ne_eqb, not-true, not-false}
-use borrow.Author.Rules.{rules}
-use Rattle.model.specs.Kinds.{sessions, times}
+use borrow.Author.Tests.{eqb-true, eq-eqb, ne_eqb, not-false}
+use Rattle.model.specs.Kinds.{times}
 use Rattle.model.specs.Words.{attend_cells, hotel_cells, ride_cells}
 use Rattle.model.specs.Questions.{bookings}
 use Rattle.model.specs.Reading.{state_of}
@@ -27,17 +26,17 @@ returns-then-not-on_leave c =
 
 pub sessions_on-sessions-requires : goal.sessions_on-sessions-requires
 sessions_on-sessions-requires c = record {
-      ranges = (good-laid c.requires.good).ranges;
-      first_le_last = omega arith;
-      last_lt_dates = c.requires.date_lt_dates;
-    }
+  ranges = (good-laid c.requires.good).ranges;
+  first_le_last = omega arith;
+  last_lt_dates = c.requires.date_lt_dates;
+}
 
 pub column_has-requires : goal.column_has-requires
 column_has-requires c = record {
-      lies = rw c.requires.sited (good-lies c.requires.good attend_cells);
-      item_lt_g = rw c.requires.sited c.requires.visitor_lt_visitors;
-      hi_le_slots = rw c.requires.sited c.sessions_on-sessions.ensures.ends.most;
-    }
+  lies = rw c.requires.sited (good-lies c.requires.good attend_cells);
+  item_lt_g = rw c.requires.sited c.requires.visitor_lt_visitors;
+  hi_le_slots = rw c.requires.sited c.sessions_on-sessions.ensures.ends.most;
+}
 
 pub returns-then-column_has : goal.returns-then-column_has
 returns-then-column_has c =
@@ -54,9 +53,9 @@ overflow_add-visitor c =
 
 pub row_count-requires : goal.row_count-requires
 row_count-requires c = record {
-      lies = rw c.requires.sited (good-lies c.requires.good hotel_cells);
-      slot_lt_slots = rw c.requires.sited c.requires.date_lt_dates;
-    }
+  lies = rw c.requires.sited (good-lies c.requires.good hotel_cells);
+  slot_lt_slots = rw c.requires.sited c.requires.date_lt_dates;
+}
 
 pub returns-then-row_count-ne0 : goal.returns-then-row_count-ne0
 returns-then-row_count-ne0 c =
@@ -68,10 +67,10 @@ returns-then-row_count-ne0 c =
 
 pub times_on-times-requires : goal.times_on-times-requires
 times_on-times-requires c = record {
-      ranges = (good-laid c.requires.good).ranges;
-      first_le_last = omega arith;
-      last_lt_dates = c.requires.date_lt_dates;
-    }
+  ranges = (good-laid c.requires.good).ranges;
+  first_le_last = omega arith;
+  last_lt_dates = c.requires.date_lt_dates;
+}
 
 pub overflow_add-visitor-2 : goal.overflow_add-visitor-2
 overflow_add-visitor-2 c =
@@ -79,10 +78,10 @@ overflow_add-visitor-2 c =
 
 pub rows_have-requires : goal.rows_have-requires
 rows_have-requires c = record {
-      lies = rw c.requires.sited (good-lies c.requires.good ride_cells);
-      width_value = rw c.requires.sited refl;
-      lo_le_hi = rw c.requires.sited (run-order c.args.site.settings times _ _ _ _ c.times_on-times.ensures (omega arith), c.times_on-times.ensures.ends.most);
-    }
+  lies = rw c.requires.sited (good-lies c.requires.good ride_cells);
+  width_value = rw c.requires.sited refl;
+  lo_le_hi = rw c.requires.sited (run-order c.args.site.settings times _ _ _ _ c.times_on-times.ensures (omega arith), c.times_on-times.ensures.ends.most);
+}
 
 pub returns : goal.returns
 returns c =

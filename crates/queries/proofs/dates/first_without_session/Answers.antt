@@ -1,18 +1,11 @@
 -- The meeting stands on each date passed, and the next one begins at `from`.
 -- Assumes nothing.
 use Rattle.book.specs.Lent.{reading}
-use Prim.Native.Nat.{ℕ, suc, ◌-◌, ◌≤◌, ◌<◌}
-use mathlib.Core.Path.{◌≡◌, sym, ◌∙◌, ap}
-use mathlib.Core.Bool.{true}
+use mathlib.Core.Path.{sym, ◌∙◌, ap}
 use native.Mathlib.Omega.{arith}
-use borrow.Author.Tests.{not-true, not-false}
-use Rattle.model.specs.Questions.{stands_on}
-use Rattle.model.specs.Reading.{state_of}
 use Rattle.model.specs.Words.{standings}
-use Rattle.model.specs.Kinds.{sessions}
 use Rattle.model.proofs.Search.{failing-at, passed-more, none-failing}
 use Rattle.book.specs.Founds.{found_of}
-use Rattle.units.specs.Units.{Cut}
 use Rattle.book.proofs.Goods.{good-laid, good-lies}
 use Rattle.book.proofs.Regions.{group-lt}
 use Rattle.queries.proofs.Free.{date-bits}
@@ -20,9 +13,9 @@ use Rattle.queries.proofs.dates.first_without_session.Goals as goal
 
 pub first_session-from-requires : goal.first_session-from-requires
 first_session-from-requires c = record {
-      ranges = (good-laid c.requires.good).ranges;
-      d_le_dates = omega (arith, c.requires.first_le_last, c.requires.last_lt_dates);
-    }
+  ranges = (good-laid c.requires.good).ranges;
+  d_le_dates = omega (arith, c.requires.first_le_last, c.requires.last_lt_dates);
+}
 
 pub loop-date-init : goal.loop-date-init
 loop-date-init c = (omega arith, c.first_session-from.ensures, λ d l h. absurd (omega (arith, l, h)))
@@ -33,17 +26,17 @@ after-next-requires c =
 
 pub first_session-to-requires : goal.first_session-to-requires
 first_session-to-requires c = record {
-      ranges = (good-laid c.requires.good).ranges;
-      d_le_dates = omega (arith, c.after-next.ensures, c.requires.first_le_last, c.requires.last_lt_dates, c.loop-date-test.true);
-    }
+  ranges = (good-laid c.requires.good).ranges;
+  d_le_dates = omega (arith, c.after-next.ensures, c.requires.first_le_last, c.requires.last_lt_dates, c.loop-date-test.true);
+}
 
 pub member_between-requires : goal.member_between-requires
 member_between-requires c = record {
-      lies = rw c.requires.sited (good-lies c.requires.good standings);
-      hi_le_slots = rw c.requires.sited c.first_session-to.ensures.most;
-      v_bound = rw c.requires.sited
-            (group-lt c.args.site.settings.meetings c.args.meeting c.requires.meeting_lt_meetings);
-    }
+  lies = rw c.requires.sited (good-lies c.requires.good standings);
+  hi_le_slots = rw c.requires.sited c.first_session-to.ensures.most;
+  v_bound = rw c.requires.sited
+      (group-lt c.args.site.settings.meetings c.args.meeting c.requires.meeting_lt_meetings);
+}
 
 pub returns-then-not-member_between : goal.returns-then-not-member_between
 returns-then-not-member_between c =

@@ -2,20 +2,12 @@
 -- Assumes nothing.
 use Rattle.book.specs.Lent.{reading}
 use Prim.Native.Nat.{ℕ, suc, ◌-◌, ◌≤◌, ◌<◌}
-use mathlib.Core.Path.{◌≡◌, sym, ◌∙◌, ap}
+use mathlib.Core.Path.{◌≡◌}
 use mathlib.Core.Bool.{true}
-use native.Mathlib.Omega.{arith}
-use borrow.Author.Tests.{not-true, not-false}
 use Rattle.model.specs.Questions.{stands_on}
 use Rattle.model.specs.Reading.{state_of}
-use Rattle.model.specs.Words.{standings}
 use Rattle.model.specs.Kinds.{sessions}
-use Rattle.model.proofs.Search.{failing-at, passed-more, none-failing}
-use Rattle.book.specs.Founds.{found_of}
 use Rattle.units.specs.Units.{Cut}
-use Rattle.book.proofs.Goods.{good-laid, good-lies}
-use Rattle.book.proofs.Regions.{group-lt}
-use Rattle.queries.proofs.Free.{date-bits}
 use Rattle.queries.proofs.dates.first_without_session.Given as goal
 
 abbrev pub invariant-loop-date : goal.invariant-loop-date

@@ -13,9 +13,9 @@ overflow_add-meeting c = omega (arith, (good-laid c.requires.good).ranges.meetin
 
 pub row_has-requires : goal.row_has-requires
 row_has-requires c = record {
-      lies = rw c.requires.sited (good-lies c.requires.good conf_pairs);
-      slot_lt_slots = rw c.requires.sited c.requires.session_bound;
-    }
+  lies = rw c.requires.sited (good-lies c.requires.good conf_pairs);
+  slot_lt_slots = rw c.requires.sited c.requires.session_bound;
+}
 
 pub returns : goal.returns
 returns c =

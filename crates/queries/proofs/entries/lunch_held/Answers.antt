@@ -12,10 +12,10 @@ use Rattle.queries.proofs.entries.lunch_held.Goals as goal
 
 pub cell-requires : goal.cell-requires
 cell-requires c = record {
-      lies = rw c.requires.sited (good-lies c.requires.good lunch_triples);
-      slot_lt_slots = rw c.requires.sited c.requires.date_lt_dates;
-      item_lt_g = rw c.requires.sited c.requires.meeting_lt_meetings;
-    }
+  lies = rw c.requires.sited (good-lies c.requires.good lunch_triples);
+  slot_lt_slots = rw c.requires.sited c.requires.date_lt_dates;
+  item_lt_g = rw c.requires.sited c.requires.meeting_lt_meetings;
+}
 
 pub returns : goal.returns
 returns c =

@@ -2,7 +2,6 @@
 -- Assumes nothing.
 use Rattle.book.specs.Lent.{reading}
 use mathlib.Core.Path.{sym, ◌∙◌, ap}
-use borrow.Author.Rules.{rules}
 use Rattle.model.specs.Words.{attend_cells}
 use Rattle.book.proofs.Goods.{good-lies}
 use Rattle.book.specs.Founds.{found_of}
@@ -11,10 +10,10 @@ use Rattle.queries.proofs.entries.meeting_of.Goals as goal
 
 pub cell-w-requires : goal.cell-w-requires
 cell-w-requires c = record {
-      lies = rw c.requires.sited (good-lies c.requires.good attend_cells);
-      slot_lt_slots = rw c.requires.sited c.requires.session_bound;
-      item_lt_g = rw c.requires.sited c.requires.visitor_lt_visitors;
-    }
+  lies = rw c.requires.sited (good-lies c.requires.good attend_cells);
+  slot_lt_slots = rw c.requires.sited c.requires.session_bound;
+  item_lt_g = rw c.requires.sited c.requires.visitor_lt_visitors;
+}
 
 pub returns-then-w-eq0 : goal.returns-then-w-eq0
 returns-then-w-eq0 c =

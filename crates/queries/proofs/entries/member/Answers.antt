@@ -1,6 +1,5 @@
 -- The bit of the word that holds it.
 -- Assumes nothing.
-use borrow.Author.Rules.{rules}
 use Rattle.queries.proofs.entries.member.Goals as goal
 
 pub returns : goal.returns

@@ -1,9 +1,8 @@
 -- No slot before i has the bit.
 -- Assumes nothing.
 use Rattle.book.specs.Lent.{reading}
-use Prim.Native.Nat.{ℕ, ◌/◌, ◌%◌, ◌-◌, ◌≤◌, ◌<◌}
-use mathlib.Core.Path.{◌≡◌, sym, ◌∙◌}
-use mathlib.Core.Bool.{false}
+use Prim.Native.Nat.{◌/◌, ◌%◌}
+use mathlib.Core.Path.{sym, ◌∙◌}
 use native.Mathlib.Omega.{arith}
 use Rattle.model.specs.Bounded.{bit}
 use Rattle.book.specs.Grids.{cell_at}
@@ -16,10 +15,10 @@ loop-i-init c = (omega arith, λ k l h. absurd (omega (arith, l, h)))
 
 pub member-requires : goal.member-requires
 member-requires c = record {
-      lies = c.requires.lies;
-      slot_lt_slots = omega (arith, c.requires.hi_le_slots, c.loop-i-test.true);
-      v_bound = c.requires.v_bound;
-    }
+  lies = c.requires.lies;
+  slot_lt_slots = omega (arith, c.requires.hi_le_slots, c.loop-i-test.true);
+  v_bound = c.requires.v_bound;
+}
 
 pub returns-then-member : goal.returns-then-member
 returns-then-member c =

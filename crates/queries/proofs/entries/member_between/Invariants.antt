@@ -2,13 +2,10 @@
 -- Assumes nothing.
 use Rattle.book.specs.Lent.{reading}
 use Prim.Native.Nat.{ℕ, ◌/◌, ◌%◌, ◌-◌, ◌≤◌, ◌<◌}
-use mathlib.Core.Path.{◌≡◌, sym, ◌∙◌}
+use mathlib.Core.Path.{◌≡◌}
 use mathlib.Core.Bool.{false}
-use native.Mathlib.Omega.{arith}
 use Rattle.model.specs.Bounded.{bit}
 use Rattle.book.specs.Grids.{cell_at}
-use Rattle.queries.proofs.Free.{between-yes, between-no}
-use Rattle.model.proofs.Search.{passed-more}
 use Rattle.queries.proofs.entries.member_between.Given as goal
 
 abbrev pub invariant-loop-i : goal.invariant-loop-i

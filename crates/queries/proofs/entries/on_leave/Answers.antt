@@ -10,10 +10,10 @@ use Rattle.queries.proofs.entries.on_leave.Goals as goal
 
 pub member-requires : goal.member-requires
 member-requires c = record {
-      lies = rw c.requires.sited (good-lies c.requires.good leaves);
-      slot_lt_slots = rw c.requires.sited c.requires.date_lt_dates;
-      v_bound = rw c.requires.sited (group-lt c.args.site.settings.visitors c.args.visitor c.requires.visitor_lt_visitors);
-    }
+  lies = rw c.requires.sited (good-lies c.requires.good leaves);
+  slot_lt_slots = rw c.requires.sited c.requires.date_lt_dates;
+  v_bound = rw c.requires.sited (group-lt c.args.site.settings.visitors c.args.visitor c.requires.visitor_lt_visitors);
+}
 
 pub returns : goal.returns
 returns c =

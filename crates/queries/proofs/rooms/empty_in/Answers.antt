@@ -1,6 +1,5 @@
 -- The three cells, each by its own read.
 -- Assumes nothing.
-use borrow.Author.Rules.{rules}
 use Rattle.queries.specs.Shown.{empty_in}
 use Rattle.queries.proofs.rooms.empty_in.Goals as goal
 

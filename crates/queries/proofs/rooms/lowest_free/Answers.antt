@@ -3,9 +3,7 @@
 use Rattle.book.specs.Lent.{reading}
 use Prim.Native.Nat.{◌+◌, ◌≤◌}
 use mathlib.Core.Path.{◌∙◌}
-use mathlib.Core.Logic.{⊎_elim}
 use native.Mathlib.Omega.{arith}
-use borrow.Author.Rules.{rules}
 use Rattle.model.specs.Words.{conf_pairs}
 use Rattle.book.proofs.Goods.{good-lies}
 use Rattle.queries.proofs.Free.{lowest-soon}
@@ -33,7 +31,7 @@ returns-then-to-from-le2 c =
     let d = c.if-to-from-le2.true in
     let h : (a.first.0 ≤ m) × (m ≤ a.last.0) × (m ≤ a.first.0 + 1) × (a.last.0 ≤ m + 1)
     = elim c.if-from-to.branch [
-        then-from-to w ↦ (omega arith, omega arith, omega arith, omega (arith, d))
+      | then-from-to w ↦ (omega arith, omega arith, omega arith, omega (arith, d))
       | else-from-to w ↦ (omega arith, omega arith, omega arith, omega arith)
-      ] in
+    ] in
     e ∙ lowest-soon a.site.settings (reading a.book.now) c.requires.good a.first.0 m a.last.0 h.0 h.1 c.requires.last_bound h.2 h.3

@@ -1,9 +1,8 @@
 -- The rooms below `next` are taken in some session, and the room in hand is free before `slot`.
 -- Assumes nothing.
 use Rattle.book.specs.Lent.{reading}
-use Prim.Native.Nat.{ℕ, ◌-◌, ◌≤◌, ◌<◌}
 use mathlib.Core.Path.{◌≡◌, ◌∙◌, ap}
-use mathlib.Core.Bool.{false, not}
+use mathlib.Core.Bool.{not}
 use native.Mathlib.Omega.{arith}
 use borrow.Author.Tests.{eq-eqb, ne_eqb}
 use borrow.Author.Rules.{rules}
@@ -11,8 +10,7 @@ use Rattle.model.specs.State.{State}
 use Rattle.model.specs.Reading.{state_of, read_state}
 use Rattle.model.specs.Words.{conf_pairs}
 use Rattle.book.proofs.Goods.{good-state, good-lies}
-use Rattle.queries.specs.Shown.{room_taken}
-use Rattle.queries.proofs.Free.{free_in, free-yes, free-no, lowest-none, lowest-at}
+use Rattle.queries.proofs.Free.{free-yes, free-no, lowest-none, lowest-at}
 use Rattle.queries.proofs.Shows.{room-taken-is}
 use Rattle.model.proofs.Search.{passed_first, passed-more}
 use Rattle.queries.proofs.rooms.lowest_in.Goals as goal
@@ -28,10 +26,10 @@ loop-slot-init c = (search rules, omega arith, λ k h g. absurd (omega (arith, h
 
 pub cell-requires : goal.cell-requires
 cell-requires c = record {
-      lies = rw c.requires.sited (good-lies c.requires.good conf_pairs);
-      slot_lt_slots = rw c.requires.sited (omega (arith, c.requires.last_bound));
-      item_lt_g = rw c.requires.sited (omega arith);
-    }
+  lies = rw c.requires.sited (good-lies c.requires.good conf_pairs);
+  slot_lt_slots = rw c.requires.sited (omega (arith, c.requires.last_bound));
+  item_lt_g = rw c.requires.sited (omega arith);
+}
 
 pub rooms-smaller : goal.rooms-smaller
 rooms-smaller c = omega arith

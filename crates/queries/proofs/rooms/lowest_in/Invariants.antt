@@ -2,19 +2,11 @@
 -- Assumes nothing.
 use Rattle.book.specs.Lent.{reading}
 use Prim.Native.Nat.{ℕ, ◌-◌, ◌≤◌, ◌<◌}
-use mathlib.Core.Path.{◌≡◌, ◌∙◌, ap}
-use mathlib.Core.Bool.{false, not}
-use native.Mathlib.Omega.{arith}
-use borrow.Author.Tests.{eq-eqb, ne_eqb}
-use borrow.Author.Rules.{rules}
-use Rattle.model.specs.State.{State}
-use Rattle.model.specs.Reading.{state_of, read_state}
-use Rattle.model.specs.Words.{conf_pairs}
-use Rattle.book.proofs.Goods.{good-state, good-lies}
+use mathlib.Core.Path.{◌≡◌}
+use mathlib.Core.Bool.{false}
+use Rattle.model.specs.Reading.{state_of}
 use Rattle.queries.specs.Shown.{room_taken}
-use Rattle.queries.proofs.Free.{free_in, free-yes, free-no, lowest-none, lowest-at}
-use Rattle.queries.proofs.Shows.{room-taken-is}
-use Rattle.model.proofs.Search.{passed_first, passed-more}
+use Rattle.queries.proofs.Free.{free_in}
 use Rattle.queries.proofs.rooms.lowest_in.Given as goal
 
 abbrev pub invariant-loop-slot : goal.invariant-loop-slot

@@ -1,9 +1,7 @@
 -- Of the items below `item` none is empty in all three slots.
 -- Assumes nothing.
 use Rattle.book.specs.Lent.{reading}
-use Prim.Native.Nat.{ℕ, ◌-◌, ◌≤◌, ◌<◌}
-use mathlib.Core.Path.{◌≡◌, sym, ◌∙◌}
-use mathlib.Core.Bool.{false}
+use mathlib.Core.Path.{sym, ◌∙◌}
 use native.Mathlib.Omega.{arith}
 use Rattle.model.proofs.Search.{passed_first}
 use Rattle.book.proofs.Founds.{found_at, found_none}
@@ -15,9 +13,9 @@ loop-item-init c = (omega arith, λ k h. absurd (omega (arith, h)))
 
 pub empty_in-requires : goal.empty_in-requires
 empty_in-requires c = record {
-      lies = c.requires.lies;
-      first_lt_slots = (c.requires.first_lt_slots.0, c.requires.first_lt_slots.1, c.requires.first_lt_slots.2, omega (arith, c.requires.first_lt_slots.3));
-    }
+  lies = c.requires.lies;
+  first_lt_slots = (c.requires.first_lt_slots.0, c.requires.first_lt_slots.1, c.requires.first_lt_slots.2, omega (arith, c.requires.first_lt_slots.3));
+}
 
 pub returns-then-empty_in : goal.returns-then-empty_in
 returns-then-empty_in c =
@@ -34,8 +32,7 @@ loop-item-smaller c = omega arith
 
 pub loop-item-preserved : goal.loop-item-preserved
 loop-item-preserved c =
-    let a = c.args in
-    (
+    let a = c.args in (
       omega arith,
       passed_first (empty_in a.g (reading a.book.now) a.first a.middle a.last) c.loop-item.item c.loop-item.invariant.1
           (sym c.empty_in.ensures ∙ c.if-empty_in.false),

@@ -2,11 +2,8 @@
 -- Assumes nothing.
 use Rattle.book.specs.Lent.{reading}
 use Prim.Native.Nat.{ℕ, ◌-◌, ◌≤◌, ◌<◌}
-use mathlib.Core.Path.{◌≡◌, sym, ◌∙◌}
+use mathlib.Core.Path.{◌≡◌}
 use mathlib.Core.Bool.{false}
-use native.Mathlib.Omega.{arith}
-use Rattle.model.proofs.Search.{passed_first}
-use Rattle.book.proofs.Founds.{found_at, found_none}
 use Rattle.queries.specs.Shown.{empty_in}
 use Rattle.queries.proofs.rooms.lowest_soon.Given as goal
 

@@ -1,7 +1,7 @@
 -- After m meetings the sum is theirs.
 -- Assumes nothing.
 use Rattle.book.specs.Lent.{reading}
-use Prim.Native.Nat.{ℕ, ◌+◌, ◌*◌, ◌-◌, ◌≤◌}
+use Prim.Native.Nat.{ℕ, ◌+◌}
 use mathlib.Core.Path.{◌≡◌, refl, sym, ◌∙◌, ap, ap₂}
 use native.Mathlib.Omega.{arith}
 use borrow.Author.Rules.{rules}
@@ -31,18 +31,18 @@ loop-m-init c = (omega arith, refl, omega arith)
 
 pub cell-at-requires : goal.cell-at-requires
 cell-at-requires c = record {
-      lies = rw c.requires.sited (good-lies c.requires.good lunch_triples);
-      slot_lt_slots = rw c.requires.sited c.requires.date_lt_dates;
-      item_lt_g = rw c.requires.sited c.loop-m-test.true;
-    }
+  lies = rw c.requires.sited (good-lies c.requires.good lunch_triples);
+  slot_lt_slots = rw c.requires.sited c.requires.date_lt_dates;
+  item_lt_g = rw c.requires.sited c.loop-m-test.true;
+}
 
 pub word-requires : goal.word-requires
 word-requires c = record {
-      lies = rw c.requires.sited (good-lies c.requires.good lunch_triples);
-      slot_lt_slots = rw c.requires.sited c.requires.date_lt_dates;
-      item_lt_g = rw c.requires.sited c.loop-m-test.true;
-      k_lt_width = rw c.requires.sited (omega arith);
-    }
+  lies = rw c.requires.sited (good-lies c.requires.good lunch_triples);
+  slot_lt_slots = rw c.requires.sited c.requires.date_lt_dates;
+  item_lt_g = rw c.requires.sited c.loop-m-test.true;
+  k_lt_width = rw c.requires.sited (omega arith);
+}
 
 pub bounds-weights-at : goal.bounds-weights-at
 bounds-weights-at c =
@@ -78,8 +78,7 @@ loop-m-preserved c =
     let e = rw c.requires.sited at c.cell-at.ensures in
     let w = rw c.requires.sited at c.word.ensures in
     let t = weighed a.site.settings (reading a.book.now) c.requires.good a.date.0 a.room c.loop-m.m
-    c.requires.date_lt_dates c.requires.room_lt_dining c.loop-m-test.true _ _ w e in
-    (
+    c.requires.date_lt_dates c.requires.room_lt_dining c.loop-m-test.true _ _ w e in (
       search rules,
       ap₂ ◌+◌ c.loop-m.invariant.1 t.is
           ∙ sym (sum_more (λ k. seats_of ((state_of (reading a.book.now)).lunch a.date.0 a.room k)) c.loop-m.m),

@@ -11,10 +11,10 @@ use Rattle.queries.proofs.rooms.seats_at.Goals as goal
 
 pub cell-requires : goal.cell-requires
 cell-requires c = record {
-      lies = rw c.requires.sited (good-lies c.requires.good lunch_triples);
-      slot_lt_slots = rw c.requires.sited c.requires.date_lt_dates;
-      item_lt_g = rw c.requires.sited c.requires.meeting_lt_meetings;
-    }
+  lies = rw c.requires.sited (good-lies c.requires.good lunch_triples);
+  slot_lt_slots = rw c.requires.sited c.requires.date_lt_dates;
+  item_lt_g = rw c.requires.sited c.requires.meeting_lt_meetings;
+}
 
 pub overflow_add-room : goal.overflow_add-room
 overflow_add-room c = omega (arith, (good-laid c.requires.good).ranges.dining)
@@ -29,11 +29,11 @@ returns-then-cell-room c =
 
 pub word-requires : goal.word-requires
 word-requires c = record {
-      lies = rw c.requires.sited (good-lies c.requires.good lunch_triples);
-      slot_lt_slots = rw c.requires.sited c.requires.date_lt_dates;
-      item_lt_g = rw c.requires.sited c.requires.meeting_lt_meetings;
-      k_lt_width = rw c.requires.sited (omega arith);
-    }
+  lies = rw c.requires.sited (good-lies c.requires.good lunch_triples);
+  slot_lt_slots = rw c.requires.sited c.requires.date_lt_dates;
+  item_lt_g = rw c.requires.sited c.requires.meeting_lt_meetings;
+  k_lt_width = rw c.requires.sited (omega arith);
+}
 
 pub returns : goal.returns
 returns c =

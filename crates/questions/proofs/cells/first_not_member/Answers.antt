@@ -1,12 +1,7 @@
 -- Each slot passed so far passes the test.
 -- Assumes nothing.
-use Prim.Native.Nat.{suc, ◌-◌, ◌/◌, ◌%◌}
-use Rattle.book.specs.Grids.{cell_at}
-use Rattle.model.specs.Bounded.{bit}
-use Rattle.book.specs.Lent.{reading}
 use Rattle.questions.specs.Asked.{first_not_member}
-use Rattle.questions.proofs.Passed.{Passed, passed_none, passed-next, passed-at, passed-all}
-use borrow.Author.Rules.{rules}
+use Rattle.questions.proofs.Passed.{passed_none, passed-next, passed-at, passed-all}
 use mathlib.Core.Bool.{not}
 use mathlib.Core.Path.{ap}
 use Rattle.questions.proofs.cells.first_not_member.Goals as goal

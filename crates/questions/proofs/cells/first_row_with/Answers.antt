@@ -1,13 +1,9 @@
 -- Each slot passed so far passes the test.
 -- Assumes nothing.
-use Prim.Native.Nat.{suc, ◌-◌}
 use mathlib.Core.Path.{ap}
 use mathlib.Core.Bool.{Bool, not}
-use Rattle.book.specs.Rows.{row_has}
-use Rattle.book.specs.Lent.{reading}
 use Rattle.questions.specs.Asked.{first_row_with}
-use Rattle.questions.proofs.Passed.{Passed, passed_none, passed-next, passed-at, passed-all}
-use borrow.Author.Rules.{rules}
+use Rattle.questions.proofs.Passed.{passed_none, passed-next, passed-at, passed-all}
 use Rattle.questions.proofs.cells.first_row_with.Goals as goal
 
 pub loop-i-init : goal.loop-i-init

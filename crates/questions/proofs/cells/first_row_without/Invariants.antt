@@ -3,11 +3,7 @@
 use Prim.Native.Nat.{suc, ◌-◌}
 use Rattle.book.specs.Rows.{row_has}
 use Rattle.book.specs.Lent.{reading}
-use Rattle.questions.specs.Asked.{first_row_without}
-use Rattle.questions.proofs.Passed.{Passed, passed_none, passed-next, passed-at, passed-all}
-use borrow.Author.Rules.{rules}
-use mathlib.Core.Bool.{not}
-use mathlib.Core.Path.{ap}
+use Rattle.questions.proofs.Passed.{Passed}
 use Rattle.questions.proofs.cells.first_row_without.Given as goal
 
 abbrev pub invariant-loop-i : goal.invariant-loop-i

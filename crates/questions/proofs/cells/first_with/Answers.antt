@@ -1,15 +1,12 @@
 -- Each slot passed so far passes the test.
 -- Assumes nothing.
-use Prim.Native.Nat.{ℕ, suc, ◌-◌}
+use Prim.Native.Nat.{ℕ}
 use mathlib.Core.Path.{ap}
 use mathlib.Core.Bool.{Bool, not}
 use lib.Dec.{eqb}
 use borrow.Author.Tests.{eq-eqb, ne_eqb}
-use Rattle.book.specs.Grids.{cell_at}
-use Rattle.book.specs.Lent.{reading}
 use Rattle.questions.specs.Asked.{first_with}
-use Rattle.questions.proofs.Passed.{Passed, passed_none, passed-next, passed-at, passed-all}
-use borrow.Author.Rules.{rules}
+use Rattle.questions.proofs.Passed.{passed_none, passed-next, passed-at, passed-all}
 use Rattle.questions.proofs.cells.first_with.Goals as goal
 
 pub loop-i-init : goal.loop-i-init

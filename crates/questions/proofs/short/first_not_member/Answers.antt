@@ -7,7 +7,6 @@ use Rattle.book.specs.Lent.{reading}
 use Rattle.model.specs.Bounded.{bit}
 use Rattle.questions.specs.Asked.{first_not_member}
 use Rattle.questions.proofs.Shorts.{middle-is, short-without}
-use borrow.Author.Rules.{rules}
 use mathlib.Core.Bool.{not}
 use mathlib.Core.Path.{ap}
 use Rattle.questions.proofs.short.first_not_member.Goals as goal

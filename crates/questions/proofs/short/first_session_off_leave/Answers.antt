@@ -1,13 +1,11 @@
 -- Three slots, and the first on whose date there is no leave.
 -- Assumes nothing.
-use Prim.Native.Nat.{ℕ}
 use native.Mathlib.Omega.{arith}
 use Rattle.book.specs.Lent.{reading}
 use Rattle.model.specs.Kinds.{sessions}
 use Rattle.model.specs.Reading.{state_of}
 use Rattle.questions.specs.Asked.{OnLeave, holds_in}
 use Rattle.questions.proofs.Shorts.{middle-is, short-without}
-use borrow.Author.Rules.{rules}
 use mathlib.Core.Bool.{not}
 use mathlib.Core.Path.{ap}
 use Rattle.questions.proofs.short.first_session_off_leave.Goals as goal
@@ -34,11 +32,11 @@ leave_in-y-requires c =
 
 pub leave_in-z-requires : goal.leave_in-z-requires
 leave_in-z-requires c = record {
-      good = c.requires.good;
-      leave_value = c.requires.leave_value;
-      session_bound = c.requires.last_bound;
-      visitor_lt_visitors = c.requires.visitor_lt_visitors;
-    }
+  good = c.requires.good;
+  leave_value = c.requires.leave_value;
+  session_bound = c.requires.last_bound;
+  visitor_lt_visitors = c.requires.visitor_lt_visitors;
+}
 
 pub returns : goal.returns
 returns c =

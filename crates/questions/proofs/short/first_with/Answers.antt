@@ -8,7 +8,6 @@ use Rattle.book.specs.Grids.{cell_at}
 use Rattle.book.specs.Lent.{reading}
 use Rattle.questions.specs.Asked.{first_with}
 use Rattle.questions.proofs.Shorts.{middle-is, short-with}
-use borrow.Author.Rules.{rules}
 use mathlib.Core.Path.{ap}
 use Rattle.questions.proofs.short.first_with.Goals as goal
 

@@ -15,7 +15,7 @@ date_of_session-date-requires c = (good-laid c.requires.good).ranges
 pub member-requires : goal.member-requires
 member-requires c =
     let d = slot-date c.requires.good sessions {i = c.args.session} (omega arith) c.requires.session_bound in
-    let both =    ground c.requires.good leaves c.requires.leave_value (omega (arith, c.date_of_session-date.ensures, d)) (group-lt c.args.s.visitors c.args.visitor c.requires.visitor_lt_visitors) in
+    let both = ground c.requires.good leaves c.requires.leave_value (omega (arith, c.date_of_session-date.ensures, d)) (group-lt c.args.s.visitors c.args.visitor c.requires.visitor_lt_visitors) in
     record { lies = both.0; slot_lt_slots = both.1.0; v_bound = both.1.1 }
 
 pub returns : goal.returns

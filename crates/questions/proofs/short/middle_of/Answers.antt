@@ -1,6 +1,5 @@
 -- Test by test.
 -- Assumes nothing.
-use borrow.Author.Rules.{rules}
 use borrow.Author.Tests.{le-leb, lt-leb}
 use Rattle.questions.specs.Short.{middle_of}
 use Rattle.questions.proofs.short.middle_of.Goals as goal

@@ -1,14 +1,11 @@
 -- Each slot passed so far passes the test.
 -- Assumes nothing.
-use Prim.Native.Nat.{suc, ◌-◌}
 use mathlib.Core.Path.{◌≡◌, ap}
 use mathlib.Core.Bool.{Bool, true, false, not}
 use native.Mathlib.Omega.{arith}
-use Rattle.model.specs.Reading.{state_of}
-use Rattle.book.specs.Lent.{reading}
 use Rattle.book.proofs.Goods.{good-laid}
-use Rattle.questions.specs.Asked.{NoBookings, holds_in}
-use Rattle.questions.proofs.Passed.{Passed, passed_none, passed-next, passed-at, passed-all}
+use Rattle.questions.specs.Asked.{holds_in}
+use Rattle.questions.proofs.Passed.{passed_none, passed-next, passed-at, passed-all}
 use Rattle.questions.proofs.slots.first_booked.Goals as goal
 
 turned : (r b : Bool) → r ≡ not b → not r ≡ b
@@ -20,11 +17,11 @@ loop-date-init c = passed_none _ _
 
 pub has_bookings-requires : goal.has_bookings-requires
 has_bookings-requires c = record {
-      good = c.requires.good;
-      sited = c.requires.sited;
-      visitor_lt_visitors = c.requires.visitor_lt_visitors;
-      date_lt_dates = omega (arith, c.requires.last_lt_dates, c.loop-date-test.true);
-    }
+  good = c.requires.good;
+  sited = c.requires.sited;
+  visitor_lt_visitors = c.requires.visitor_lt_visitors;
+  date_lt_dates = omega (arith, c.requires.last_lt_dates, c.loop-date-test.true);
+}
 
 pub returns-then-has_bookings : goal.returns-then-has_bookings
 unfolding holds_in

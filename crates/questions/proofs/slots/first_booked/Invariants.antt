@@ -1,14 +1,10 @@
 -- Each slot passed so far passes the test.
 -- Assumes nothing.
 use Prim.Native.Nat.{suc, ◌-◌}
-use mathlib.Core.Path.{◌≡◌, ap}
-use mathlib.Core.Bool.{Bool, true, false, not}
-use native.Mathlib.Omega.{arith}
 use Rattle.model.specs.Reading.{state_of}
 use Rattle.book.specs.Lent.{reading}
-use Rattle.book.proofs.Goods.{good-laid}
 use Rattle.questions.specs.Asked.{NoBookings, holds_in}
-use Rattle.questions.proofs.Passed.{Passed, passed_none, passed-next, passed-at, passed-all}
+use Rattle.questions.proofs.Passed.{Passed}
 use Rattle.questions.proofs.slots.first_booked.Given as goal
 
 abbrev pub invariant-loop-date : goal.invariant-loop-date

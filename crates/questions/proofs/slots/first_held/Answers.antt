@@ -1,14 +1,10 @@
 -- Each slot passed so far passes the test.
 -- Assumes nothing.
-use Prim.Native.Nat.{suc, ◌-◌}
 use native.Mathlib.Omega.{arith}
-use Rattle.model.specs.Reading.{state_of}
-use Rattle.book.specs.Lent.{reading}
 use Rattle.book.proofs.Goods.{good-laid}
 use Rattle.units.proofs.Slots.{all-sessions}
-use Rattle.questions.specs.Asked.{NotHeld, holds_in}
-use Rattle.questions.proofs.Passed.{Passed, passed_none, passed-next, passed-at, passed-all}
-use borrow.Author.Rules.{rules}
+use Rattle.questions.specs.Asked.{holds_in}
+use Rattle.questions.proofs.Passed.{passed_none, passed-next, passed-at, passed-all}
 use mathlib.Core.Bool.{not}
 use mathlib.Core.Path.{ap}
 use Rattle.questions.proofs.slots.first_held.Goals as goal
@@ -18,11 +14,11 @@ loop-i-init c = passed_none _ _
 
 pub not_held-requires : goal.not_held-requires
 not_held-requires c = record {
-      good = c.requires.good;
-      sited = c.requires.sited;
-      session_bound = omega (arith, c.requires.last_bound, c.loop-i-test.true);
-      meeting_lt_meetings = c.requires.meeting_lt_meetings;
-    }
+  good = c.requires.good;
+  sited = c.requires.sited;
+  session_bound = omega (arith, c.requires.last_bound, c.loop-i-test.true);
+  meeting_lt_meetings = c.requires.meeting_lt_meetings;
+}
 
 pub returns-then-not-not_held : goal.returns-then-not-not_held
 unfolding holds_in

@@ -1,12 +1,9 @@
 -- Each slot passed so far passes the test.
 -- Assumes nothing.
-use Prim.Native.Nat.{suc, ◌-◌}
 use native.Mathlib.Omega.{arith}
-use Rattle.model.specs.Reading.{state_of}
-use Rattle.book.specs.Lent.{reading}
 use Rattle.book.proofs.Goods.{good-laid}
-use Rattle.questions.specs.Asked.{RoomLeft, holds_in}
-use Rattle.questions.proofs.Passed.{Passed, passed_none, passed-next, passed-at, passed-all}
+use Rattle.questions.specs.Asked.{holds_in}
+use Rattle.questions.proofs.Passed.{passed_none, passed-next, passed-at, passed-all}
 use mathlib.Core.Bool.{not}
 use mathlib.Core.Path.{ap}
 use Rattle.questions.proofs.slots.first_over.Goals as goal
@@ -16,12 +13,12 @@ loop-date-init c = passed_none _ _
 
 pub room_left-requires : goal.room_left-requires
 room_left-requires c = record {
-      good = c.requires.good;
-      sited = c.requires.sited;
-      date_lt_dates = omega (arith, c.requires.last_lt_dates, c.loop-date-test.true);
-      room_lt_dining = c.requires.room_lt_dining;
-      n_bound = c.requires.n_bound;
-    }
+  good = c.requires.good;
+  sited = c.requires.sited;
+  date_lt_dates = omega (arith, c.requires.last_lt_dates, c.loop-date-test.true);
+  room_lt_dining = c.requires.room_lt_dining;
+  n_bound = c.requires.n_bound;
+}
 
 pub returns-then-not-room_left : goal.returns-then-not-room_left
 unfolding holds_in

@@ -1,19 +1,14 @@
 -- Each slot passed so far passes the test.
 -- Assumes nothing.
-use Prim.Native.Nat.{suc, ◌-◌}
 use native.Mathlib.Omega.{arith}
 use Rattle.model.specs.Kinds.{sessions}
-use Rattle.model.specs.Reading.{state_of}
 use Rattle.model.specs.Words.{leaves}
-use Rattle.book.specs.Lent.{reading}
 use Rattle.book.proofs.Goods.{good-laid}
 use Rattle.book.proofs.Regions.{group-lt}
 use Rattle.units.proofs.Slots.{unit-le}
-use Rattle.questions.specs.Asked.{OnLeave, holds_in}
-use Rattle.questions.proofs.Passed.{Passed, passed_none, passed-next, passed-at, passed-all}
+use Rattle.questions.proofs.Passed.{passed_none, passed-next, passed-at, passed-all}
 use Rattle.questions.proofs.Grounds.{ground}
 use Rattle.questions.proofs.Shown.{slot-date, leave-at}
-use borrow.Author.Rules.{rules}
 use mathlib.Core.Bool.{not}
 use mathlib.Core.Path.{ap}
 use Rattle.questions.proofs.slots.first_session_off_leave.Goals as goal
@@ -27,7 +22,7 @@ date_of_session-date-requires c = (good-laid c.requires.good).ranges
 pub member-requires : goal.member-requires
 member-requires c =
     let d = slot-date c.requires.good sessions c.loop-i-test.true c.requires.last_bound in
-    let both =    ground c.requires.good leaves c.requires.leave_value (omega (arith, c.date_of_session-date.ensures, d)) (group-lt c.args.s.visitors c.args.visitor c.requires.visitor_lt_visitors) in
+    let both = ground c.requires.good leaves c.requires.leave_value (omega (arith, c.date_of_session-date.ensures, d)) (group-lt c.args.s.visitors c.args.visitor c.requires.visitor_lt_visitors) in
     record { lies = both.0; slot_lt_slots = both.1.0; v_bound = both.1.1 }
 
 pub returns-then-not-member : goal.returns-then-not-member

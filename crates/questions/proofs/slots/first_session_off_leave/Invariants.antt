@@ -1,21 +1,11 @@
 -- Each slot passed so far passes the test.
 -- Assumes nothing.
 use Prim.Native.Nat.{suc, ◌-◌}
-use native.Mathlib.Omega.{arith}
 use Rattle.model.specs.Kinds.{sessions}
 use Rattle.model.specs.Reading.{state_of}
-use Rattle.model.specs.Words.{leaves}
 use Rattle.book.specs.Lent.{reading}
-use Rattle.book.proofs.Goods.{good-laid}
-use Rattle.book.proofs.Regions.{group-lt}
-use Rattle.units.proofs.Slots.{unit-le}
 use Rattle.questions.specs.Asked.{OnLeave, holds_in}
-use Rattle.questions.proofs.Passed.{Passed, passed_none, passed-next, passed-at, passed-all}
-use Rattle.questions.proofs.Grounds.{ground}
-use Rattle.questions.proofs.Shown.{slot-date, leave-at}
-use borrow.Author.Rules.{rules}
-use mathlib.Core.Bool.{not}
-use mathlib.Core.Path.{ap}
+use Rattle.questions.proofs.Passed.{Passed}
 use Rattle.questions.proofs.slots.first_session_off_leave.Given as goal
 
 abbrev pub invariant-loop-i : goal.invariant-loop-i

@@ -5,7 +5,6 @@ use Rattle.model.specs.Kinds.{sessions}
 use Rattle.book.proofs.Goods.{good-laid}
 use Rattle.units.proofs.Slots.{date-lt}
 use Rattle.questions.specs.Asked.{not_held}
-use borrow.Author.Rules.{rules}
 use Rattle.questions.proofs.slots.not_held.Goals as goal
 
 pub date_of_session-date-requires : goal.date_of_session-date-requires

@@ -3,7 +3,6 @@
 use Rattle.questions.specs.Asked.{room_left}
 use Rattle.questions.proofs.Seats.{reserved-le, capacity-le}
 use native.Mathlib.Omega.{arith}
-use borrow.Author.Rules.{rules}
 use Rattle.questions.proofs.slots.room_left.Goals as goal
 
 pub overflow_add-result : goal.overflow_add-result
@@ -19,9 +18,9 @@ overflow_add-result c =
 
 pub capacity-requires : goal.capacity-requires
 capacity-requires c = record {
-      good = c.requires.good;
-      room_lt_dining = c.requires.room_lt_dining;
-    }
+  good = c.requires.good;
+  room_lt_dining = c.requires.room_lt_dining;
+}
 
 pub returns : goal.returns
 unfolding room_left

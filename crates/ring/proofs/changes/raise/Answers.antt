@@ -6,7 +6,6 @@ use mathlib.Core.Bool.{Bool, true, false}
 use native.Mathlib.Omega.{arith}
 use lib.Dec.{ltb, eqb}
 use borrow.Author.Tests.{ltb-true, ltb-false, eqb-false}
-use borrow.Author.Rules.{rules}
 use Rattle.ring.proofs.changes.raise.Goals as goal
 
 below : (n : ℕ) → n < 4294967296 → eqb n 4294967295 ≡ false → n < 4294967295

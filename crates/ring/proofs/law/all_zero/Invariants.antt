@@ -1,16 +1,10 @@
 -- The words passed so far are zeros.
 -- Assumes nothing.
 use Prim.Native.Nat.{ℕ, ◌+◌, ◌-◌, ◌≤◌, ◌<◌}
-use mathlib.Core.Path.{◌≡◌, sym}
+use mathlib.Core.Path.{◌≡◌}
 use mathlib.Core.Bool.{true}
-use native.Mathlib.Omega.{arith}
 use lib.Dec.{eqb}
 use lib.ListN.{get_or}
-use borrow.Author.Tests.{eq-eqb, ne_eqb}
-use borrow.Author.Rules.{rules}
-use Rattle.model.specs.Tail.{entry_length}
-use Rattle.model.proofs.Search.{true-all, passed_first}
-use Rattle.ring.proofs.Entries.{one-fails}
 use Rattle.ring.proofs.law.all_zero.Given as goal
 
 abbrev pub invariant-loop-j : goal.invariant-loop-j

@@ -8,7 +8,6 @@ use mathlib.Core.Path.{sym, ◌∙◌, ap}
 use native.Mathlib.Omega.{arith}
 use Rattle.model.specs.Tail.{tail_length}
 use Rattle.ring.proofs.Entries.{kept-empty, kept-twice, kept-once}
-use borrow.Author.Rules.{rules}
 use Rattle.ring.proofs.law.entry_kept.Goals as goal
 
 pub bounds-tail-at : goal.bounds-tail-at

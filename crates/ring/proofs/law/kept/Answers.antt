@@ -1,12 +1,8 @@
 -- The entries passed so far keep the law.
 -- Assumes nothing.
-use Prim.Native.Nat.{ℕ, ◌-◌, ◌≤◌, ◌<◌}
-use mathlib.Core.Path.{◌≡◌, sym, ◌∙◌}
-use mathlib.Core.Bool.{true}
+use mathlib.Core.Path.{sym, ◌∙◌}
 use native.Mathlib.Omega.{arith}
-use borrow.Author.Tests.{not-true, not-false}
-use borrow.Author.Rules.{rules}
-use Rattle.model.specs.Tail.{entry_kept, tail_length}
+use Rattle.model.specs.Tail.{tail_length}
 use Rattle.model.proofs.Search.{passed_first}
 use Rattle.ring.proofs.Entries.{tail-fails, tail-passes}
 use Rattle.ring.proofs.law.kept.Goals as goal
@@ -16,9 +12,9 @@ loop-i-init c = (omega arith, λ k h. absurd (omega (arith, h)))
 
 pub entry_kept-requires : goal.entry_kept-requires
 entry_kept-requires c = record {
-      tail_len = c.requires;
-      i_lt_ring_places = c.loop-i-test.true;
-    }
+  tail_len = c.requires;
+  i_lt_ring_places = c.loop-i-test.true;
+}
 
 pub returns-then-not-entry_kept : goal.returns-then-not-entry_kept
 returns-then-not-entry_kept c = tail-fails c.args.tail.now c.loop-i.i c.loop-i-test.true

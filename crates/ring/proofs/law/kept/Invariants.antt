@@ -1,14 +1,9 @@
 -- The entries passed so far keep the law.
 -- Assumes nothing.
 use Prim.Native.Nat.{ℕ, ◌-◌, ◌≤◌, ◌<◌}
-use mathlib.Core.Path.{◌≡◌, sym, ◌∙◌}
+use mathlib.Core.Path.{◌≡◌}
 use mathlib.Core.Bool.{true}
-use native.Mathlib.Omega.{arith}
-use borrow.Author.Tests.{not-true, not-false}
-use borrow.Author.Rules.{rules}
-use Rattle.model.specs.Tail.{entry_kept, tail_length}
-use Rattle.model.proofs.Search.{passed_first}
-use Rattle.ring.proofs.Entries.{tail-fails, tail-passes}
+use Rattle.model.specs.Tail.{entry_kept}
 use Rattle.ring.proofs.law.kept.Given as goal
 
 abbrev pub invariant-loop-i : goal.invariant-loop-i

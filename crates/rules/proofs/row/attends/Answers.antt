@@ -1,9 +1,7 @@
 -- The bounds are asked first, so that each cell has an entry.
 -- Assumes nothing.
 use native.Mathlib.Omega.{arith}
-use borrow.Author.Tests.{not-true, not-false}
 use Rattle.rules.proofs.Answers.{said-true, said-false, relay}
-use borrow.Author.Rules.{rules}
 use Rattle.rules.proofs.row.attends.Goals as goal
 
 pub returns-then-not-bounded : goal.returns-then-not-bounded

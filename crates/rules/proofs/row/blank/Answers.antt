@@ -1,10 +1,10 @@
 -- The words passed are 0.
 -- Assumes nothing.
-use Prim.Native.Nat.{ℕ, ◌+◌, ◌-◌, ◌≤◌, ◌<◌}
-use mathlib.Core.Path.{◌≡◌, sym, ◌∙◌}
+use Prim.Native.Nat.{◌+◌, ◌-◌}
+use mathlib.Core.Path.{sym, ◌∙◌}
 use mathlib.Core.Bool.{false≢true}
 use native.Mathlib.Omega.{arith}
-use lib.ListN.{length, get_or}
+use lib.ListN.{length}
 use borrow.Author.Count.{below_none}
 use borrow.Author.Tests.{eqb-true}
 use Rattle.rules.proofs.Zeros.{zeros-more, blank-by}
@@ -29,12 +29,11 @@ pub loop-i-smaller : goal.loop-i-smaller
 loop-i-smaller c = omega arith
 
 pub loop-i-preserved : goal.loop-i-preserved
-loop-i-preserved c =
-    (
-      omega arith,
-      zeros-more c.args.row.now c.loop-i.i 128 c.loop-i.invariant.1
-          (sym c.joined.ensures ∙ c.if-joined-ne0.false),
-    )
+loop-i-preserved c = (
+  omega arith,
+  zeros-more c.args.row.now c.loop-i.i 128 c.loop-i.invariant.1
+      (sym c.joined.ensures ∙ c.if-joined-ne0.false),
+)
 
 pub overflow_sub-n-2 : goal.overflow_sub-n-2
 overflow_sub-n-2 c = omega arith

@@ -1,13 +1,8 @@
 -- The words passed are 0.
 -- Assumes nothing.
-use Prim.Native.Nat.{ℕ, ◌+◌, ◌-◌, ◌≤◌, ◌<◌}
-use mathlib.Core.Path.{◌≡◌, sym, ◌∙◌}
-use mathlib.Core.Bool.{false≢true}
-use native.Mathlib.Omega.{arith}
-use lib.ListN.{length, get_or}
-use borrow.Author.Count.{below_none}
-use borrow.Author.Tests.{eqb-true}
-use Rattle.rules.proofs.Zeros.{zeros-more, blank-by}
+use Prim.Native.Nat.{ℕ, ◌-◌, ◌≤◌, ◌<◌}
+use mathlib.Core.Path.{◌≡◌}
+use lib.ListN.{get_or}
 use Rattle.rules.proofs.row.blank.Given as goal
 
 abbrev pub invariant-loop-i : goal.invariant-loop-i

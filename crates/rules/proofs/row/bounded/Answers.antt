@@ -1,11 +1,10 @@
 -- The flag says whether the cells passed are within bounds.
 -- Assumes nothing.
-use Prim.Native.Nat.{ℕ, ◌-◌, ◌≤◌, ◌<◌}
+use Prim.Native.Nat.{◌≤◌}
 use mathlib.Core.Bool.{not}
 use native.Mathlib.Omega.{arith}
-use lib.ListN.{length, get_or}
+use lib.ListN.{get_or}
 use borrow.Author.Count.{below_none}
-use Rattle.rules.specs.Rows.{Decides}
 use Rattle.rules.proofs.Answers.{relay, more, over-said}
 use Rattle.rules.proofs.row.bounded.Goals as goal
 

@@ -2,11 +2,8 @@
 -- Assumes nothing.
 use Prim.Native.Nat.{ℕ, ◌-◌, ◌≤◌, ◌<◌}
 use mathlib.Core.Bool.{not}
-use native.Mathlib.Omega.{arith}
 use lib.ListN.{length, get_or}
-use borrow.Author.Count.{below_none}
 use Rattle.rules.specs.Rows.{Decides}
-use Rattle.rules.proofs.Answers.{relay, more, over-said}
 use Rattle.rules.proofs.row.bounded.Given as goal
 
 abbrev pub invariant-loop-i : goal.invariant-loop-i

@@ -1,9 +1,8 @@
 -- Up to the limit the entries passed are the table's, and past it both are barred.
 -- Assumes nothing.
-use Prim.Native.Nat.{◌+◌, ◌-◌, ◌≤◌}
 use native.Mathlib.Omega.{arith}
 use borrow.Author.Count.{below_none}
-use Rattle.rules.proofs.Copying.{Copied, copied_more, copied_all}
+use Rattle.rules.proofs.Copying.{copied_more, copied_all}
 use Rattle.rules.proofs.row.copy.Goals as goal
 
 pub loop-i-init : goal.loop-i-init

@@ -1,9 +1,7 @@
 -- Up to the limit the entries passed are the table's, and past it both are barred.
 -- Assumes nothing.
 use Prim.Native.Nat.{◌+◌, ◌-◌, ◌≤◌}
-use native.Mathlib.Omega.{arith}
-use borrow.Author.Count.{below_none}
-use Rattle.rules.proofs.Copying.{Copied, copied_more, copied_all}
+use Rattle.rules.proofs.Copying.{Copied}
 use Rattle.rules.proofs.row.copy.Given as goal
 
 abbrev pub invariant-loop-i : goal.invariant-loop-i

@@ -5,7 +5,6 @@ use mathlib.Core.Bool.{Bool, false}
 use mathlib.Core.List.{List}
 use native.Mathlib.Omega.{arith}
 use lib.ListN.{length, get_or}
-use borrow.Author.Rules.{rules}
 use Rattle.rules.specs.Rows.{Free, Marked}
 use Rattle.rules.proofs.Answers.{relay}
 use Rattle.rules.proofs.Zeros.{blank-guests}
@@ -14,22 +13,22 @@ use Rattle.rules.proofs.row.guest_row.Goals as goal
 
 pub returns-then-all-eq0 : goal.returns-then-all-eq0
 returns-then-all-eq0 c = record {
-      decides = blank-guests _ _ _ c.requires.none (all-zero c.args.row.now (sym c.joined-all.ensures ∙ c.if-all-eq0.true));
-      past = c.requires.kept;
-    }
+  decides = blank-guests _ _ _ c.requires.none (all-zero c.args.row.now (sym c.joined-all.ensures ∙ c.if-all-eq0.true));
+  past = c.requires.kept;
+}
 
 pub returns-then-all-gt1023 : goal.returns-then-all-gt1023
 returns-then-all-gt1023 c = record {
-      decides = λ g. all-low c.args.row.now _ _ c.requires.few g (omega (arith, c.joined-all.ensures));
-      past = c.requires.kept;
-    }
+  decides = λ g. all-low c.args.row.now _ _ c.requires.few g (omega (arith, c.joined-all.ensures));
+  past = c.requires.kept;
+}
 
 pub copy-requires : goal.copy-requires
 copy-requires c = record {
-      limit_in_bounds = (omega (arith, c.requires.few, c.requires.size), c.requires.same ∙ sym c.requires.size);
-      past = c.requires.past;
-      past_2 = c.requires.kept;
-    }
+  limit_in_bounds = (omega (arith, c.requires.few, c.requires.size), c.requires.same ∙ sym c.requires.size);
+  past = c.requires.past;
+  past_2 = c.requires.kept;
+}
 
 pub guests-requires : goal.guests-requires
 guests-requires c =
@@ -38,7 +37,7 @@ guests-requires c =
       by_index = λ i h. omega (arith, low i h, c.copy.auto.seen, c.requires.same);
       seen_nonzero = omega (arith, c.copy.auto.seen, c.requires.same);
       false_value = ap (λ (s : List Bool). get_or s 0 false)
-            c.copy.ensures ∙ c.requires.none;
+          c.copy.ensures ∙ c.requires.none;
     }
 
 pub returns : goal.returns

@@ -1,12 +1,11 @@
 -- The rest of the pass gives the answer.
 -- Assumes nothing.
-use Prim.Native.Nat.{◌+◌, ◌-◌, ◌≤◌}
+use Prim.Native.Nat.{◌+◌}
 use mathlib.Core.List.{List}
-use mathlib.Core.Path.{◌≡◌, refl, sym, ◌∙◌, ap}
+use mathlib.Core.Path.{refl, sym, ◌∙◌, ap}
 use mathlib.Core.Bool.{Bool, false, not, ◌||◌}
 use native.Mathlib.Omega.{arith}
 use lib.ListN.{length, drop, length-set, get_or}
-use Rattle.rules.specs.Rows.{Marked}
 use Rattle.rules.proofs.Answers.{decide}
 use Rattle.rules.proofs.Passing.{pass, mark-is, mark-none, mark-more, pass-more, pass-end, says, said}
 use Rattle.rules.proofs.row.guests.Goals as goal

@@ -1,14 +1,11 @@
 -- The rest of the pass gives the answer.
 -- Assumes nothing.
-use Prim.Native.Nat.{◌+◌, ◌-◌, ◌≤◌}
-use mathlib.Core.List.{List}
-use mathlib.Core.Path.{◌≡◌, refl, sym, ◌∙◌, ap}
-use mathlib.Core.Bool.{Bool, false, not, ◌||◌}
-use native.Mathlib.Omega.{arith}
-use lib.ListN.{length, drop, length-set, get_or}
+use Prim.Native.Nat.{◌-◌, ◌≤◌}
+use mathlib.Core.Path.{◌≡◌}
+use mathlib.Core.Bool.{false}
+use lib.ListN.{length, drop, get_or}
 use Rattle.rules.specs.Rows.{Marked}
-use Rattle.rules.proofs.Answers.{decide}
-use Rattle.rules.proofs.Passing.{pass, mark-is, mark-none, mark-more, pass-more, pass-end, says, said}
+use Rattle.rules.proofs.Passing.{pass}
 use Rattle.rules.proofs.row.guests.Given as goal
 
 abbrev pub invariant-loop-i : goal.invariant-loop-i

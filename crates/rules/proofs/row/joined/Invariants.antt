@@ -1,12 +1,9 @@
 -- The words or-ed so far.
 -- Assumes nothing.
-use Prim.Native.Nat.{ℕ, ◌+◌, ◌-◌, ◌≤◌}
-use mathlib.Core.Path.{◌≡◌, ◌∙◌, ap}
-use native.Mathlib.Omega.{arith}
+use Prim.Native.Nat.{◌+◌, ◌-◌, ◌≤◌}
+use mathlib.Core.Path.{◌≡◌}
 use lib.ListN.{get_or}
-use lib.Bits.{bit_or}
 use Rattle.rules.specs.Rows.{ors}
-use Rattle.rules.proofs.Barring.{ors-none, ors-more}
 use Rattle.rules.proofs.row.joined.Given as goal
 
 abbrev pub invariant-loop-k : goal.invariant-loop-k

@@ -7,7 +7,6 @@ use Rattle.rules.specs.Rows.{Padded}
 use borrow.Author.Tests.{eqb-true, eq-eqb}
 use Rattle.rules.proofs.Answers.{decide}
 use Rattle.rules.proofs.Cells.{pad-none, pad-by, pad-is}
-use borrow.Author.Rules.{rules}
 use Rattle.rules.proofs.row.padded.Goals as goal
 
 pub returns-then-used-eq0 : goal.returns-then-used-eq0

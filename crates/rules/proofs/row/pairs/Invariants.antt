@@ -1,14 +1,9 @@
 -- The flag says whether the pairs passed are good.
 -- Assumes nothing.
 use Prim.Native.Nat.{ℕ, ◌+◌, ◌*◌, ◌-◌, ◌≤◌, ◌<◌}
-use mathlib.Core.Path.{◌≡◌, subst}
 use mathlib.Core.Bool.{not}
-use native.Mathlib.Omega.{arith}
 use lib.ListN.{get_or}
-use borrow.Author.Count.{below_none}
 use Rattle.rules.specs.Rows.{Pair, Decides}
-use Rattle.rules.proofs.Answers.{more}
-use Rattle.rules.proofs.Cells.{pair-said}
 use Rattle.rules.proofs.row.pairs.Given as goal
 
 abbrev pub invariant-loop-j : goal.invariant-loop-j

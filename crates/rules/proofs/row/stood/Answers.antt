@@ -1,12 +1,10 @@
 -- The flag says whether the meetings passed stand.
 -- Assumes nothing.
-use Prim.Native.Nat.{ℕ, ◌-◌, ◌≤◌, ◌<◌}
 use mathlib.Core.Path.{◌≡◌}
 use mathlib.Core.Bool.{false, not}
 use native.Mathlib.Omega.{arith}
-use lib.ListN.{length, get_or}
+use lib.ListN.{get_or}
 use borrow.Author.Count.{below_none}
-use Rattle.rules.specs.Rows.{Decides}
 use Rattle.rules.proofs.Answers.{relay, more, bar-said}
 use Rattle.rules.proofs.row.stood.Goals as goal
 

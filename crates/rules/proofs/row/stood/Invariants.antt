@@ -3,11 +3,8 @@
 use Prim.Native.Nat.{ℕ, ◌-◌, ◌≤◌, ◌<◌}
 use mathlib.Core.Path.{◌≡◌}
 use mathlib.Core.Bool.{false, not}
-use native.Mathlib.Omega.{arith}
 use lib.ListN.{length, get_or}
-use borrow.Author.Count.{below_none}
 use Rattle.rules.specs.Rows.{Decides}
-use Rattle.rules.proofs.Answers.{relay, more, bar-said}
 use Rattle.rules.proofs.row.stood.Given as goal
 
 abbrev pub invariant-loop-i : goal.invariant-loop-i

@@ -1,15 +1,7 @@
 -- The triples passed are good, and their seats are added up.
 -- Assumes nothing.
-use Rattle.model.specs.Bounded.{sum}
-use Prim.Native.Nat.{◌+◌, ◌*◌, ◌-◌, ◌≤◌}
-use mathlib.Core.Path.{◌≡◌, ap}
-use mathlib.Core.Bool.{false}
-use native.Mathlib.Omega.{arith}
-use lib.ListN.{get_or}
-use Rattle.rules.specs.Rows.{seats_in}
-use Rattle.rules.proofs.Seating.{Sofar, sofar-none, sofar-more}
-use Rattle.rules.proofs.Cells.{triple-by, triple-is}
-use Rattle.rules.proofs.Answers.{relay, either}
+use Prim.Native.Nat.{◌-◌, ◌≤◌}
+use Rattle.rules.proofs.Seating.{Sofar}
 use Rattle.rules.proofs.row.triples.Given as goal
 
 abbrev pub invariant-loop-j : goal.invariant-loop-j

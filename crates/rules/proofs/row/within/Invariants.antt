@@ -1,9 +1,7 @@
 -- The sums passed are within their capacities.
 -- Assumes nothing.
 use Prim.Native.Nat.{ℕ, ◌-◌, ◌≤◌, ◌<◌}
-use native.Mathlib.Omega.{arith}
 use lib.ListN.{get_or}
-use borrow.Author.Count.{below_none, below_more}
 use Rattle.rules.proofs.row.within.Given as goal
 
 abbrev pub invariant-loop-g : goal.invariant-loop-g

@@ -1,12 +1,9 @@
 -- The bits passed have their entries.
 -- Assumes nothing.
-use Prim.Native.Nat.{ℕ, ◌+◌, ◌-◌, ◌*◌, ◌≤◌}
-use mathlib.Core.Path.{◌≡◌, refl, ◌∙◌, subst, ap}
-use mathlib.Core.Bool.{not, false}
-use native.Mathlib.Omega.{arith}
-use lib.ListN.{length, length-set}
+use Prim.Native.Nat.{◌+◌, ◌-◌, ◌*◌, ◌≤◌}
+use mathlib.Core.Path.{◌≡◌}
+use lib.ListN.{length}
 use Rattle.rules.specs.Rows.{Barred}
-use Rattle.rules.proofs.Barring.{table_none, table-bit}
 use Rattle.rules.proofs.tables.bar.Given as goal
 
 abbrev pub invariant-loop-k : goal.invariant-loop-k

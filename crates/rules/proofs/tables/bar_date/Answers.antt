@@ -5,7 +5,6 @@ use mathlib.Core.Path.{◌∙◌, ap}
 use mathlib.Core.Bool.{not}
 use native.Mathlib.Omega.{arith}
 use lib.ListN.{get_or}
-use borrow.Author.Rules.{rules}
 use Rattle.model.specs.Bounded.{bit}
 use Rattle.rules.proofs.Barring.{bit-ors}
 use Rattle.rules.proofs.tables.bar_date.Goals as goal

@@ -1,11 +1,8 @@
 -- The entries passed are barred, and the row's own stay.
 -- Assumes nothing.
-use Prim.Native.Nat.{ℕ, ◌-◌, ◌≤◌, ◌<◌}
-use mathlib.Core.Path.{◌≡◌, refl, ◌∙◌}
-use mathlib.Core.Bool.{true, false}
+use mathlib.Core.Path.{refl, ◌∙◌}
 use native.Mathlib.Omega.{arith}
-use lib.ListN.{length, get_or, length-set}
-use Rattle.rules.specs.Rows.{Barred}
+use lib.ListN.{length-set}
 use Rattle.rules.proofs.Barring.{table-less, past_more}
 use Rattle.rules.proofs.tables.bar_past.Goals as goal
 

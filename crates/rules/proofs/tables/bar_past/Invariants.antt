@@ -1,12 +1,10 @@
 -- The entries passed are barred, and the row's own stay.
 -- Assumes nothing.
 use Prim.Native.Nat.{ℕ, ◌-◌, ◌≤◌, ◌<◌}
-use mathlib.Core.Path.{◌≡◌, refl, ◌∙◌}
+use mathlib.Core.Path.{◌≡◌}
 use mathlib.Core.Bool.{true, false}
-use native.Mathlib.Omega.{arith}
-use lib.ListN.{length, get_or, length-set}
+use lib.ListN.{length, get_or}
 use Rattle.rules.specs.Rows.{Barred}
-use Rattle.rules.proofs.Barring.{table-less, past_more}
 use Rattle.rules.proofs.tables.bar_past.Given as goal
 
 abbrev pub invariant-loop-v : goal.invariant-loop-v

@@ -1,12 +1,11 @@
 -- The bounds made so far.
 -- Assumes nothing.
-use Prim.Native.Nat.{ℕ, suc, ◌+◌, ◌-◌, ◌≤◌}
+use Prim.Native.Nat.{ℕ, suc, ◌+◌}
 use mathlib.Core.Path.{◌≡◌, refl, sym, ◌∙◌, subst, ap}
 use mathlib.Core.Bool.{Bool, true, false, cond}
-use mathlib.Core.Logic.{⊎_elim}
 use native.Mathlib.Numerals.{add-one}
 use native.Mathlib.Omega.{arith}
-use lib.ListN.{length, get_or, length-set}
+use lib.ListN.{get_or, length-set}
 use Rattle.rules.specs.Rows.{Most}
 use Rattle.rules.proofs.Barring.{most-more}
 use Rattle.rules.proofs.tables.bound.Goals as goal
@@ -43,8 +42,8 @@ loop-v-preserved c =
       length-set c.loop-v.bounds c.loop-v.v _ ∙ c.loop-v.invariant.1,
       most-more a.table.now c.loop-v.v a.limit c.loop-v.bounds _ (omega arith) c.loop-v.invariant.2
           (elim c.if-table-v.branch [
-            then-table-v w ↦ w.bounds-is ∙ back true w.if-table-v.true
-          | else-table-v w ↦ w.bounds-is ∙ back false w.if-table-v.false
+            | then-table-v w ↦ w.bounds-is ∙ back true w.if-table-v.true
+            | else-table-v w ↦ w.bounds-is ∙ back false w.if-table-v.false
           ]),
     )
 

@@ -1,6 +1,6 @@
 -- The capacities so far, behind the 0 of no room.
 -- Assumes nothing.
-use Prim.Native.Nat.{ℕ, ◌-◌, ◌≤◌}
+use Prim.Native.Nat.{ℕ}
 use mathlib.Core.Path.{◌≡◌, subst}
 use native.Mathlib.Omega.{arith}
 use Rattle.rules.proofs.Seating.{caps-more, CapsTo, caps-none, caps-by}

@@ -1,9 +1,7 @@
 -- The capacities so far, behind the 0 of no room.
 -- Assumes nothing.
-use Prim.Native.Nat.{ℕ, ◌-◌, ◌≤◌}
-use mathlib.Core.Path.{◌≡◌, subst}
-use native.Mathlib.Omega.{arith}
-use Rattle.rules.proofs.Seating.{caps-more, CapsTo, caps-none, caps-by}
+use Prim.Native.Nat.{◌-◌, ◌≤◌}
+use Rattle.rules.proofs.Seating.{CapsTo}
 use Rattle.rules.proofs.tables.caps_of.Given as goal
 
 abbrev pub invariant-loop-g : goal.invariant-loop-g

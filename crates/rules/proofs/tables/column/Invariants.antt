@@ -1,13 +1,9 @@
 -- The words of the column or-ed so far.
 -- Assumes nothing.
-use Prim.Native.Nat.{ℕ, ◌+◌, ◌-◌, ◌*◌, ◌≤◌}
-use mathlib.Core.Path.{◌≡◌, ◌∙◌, ap}
-use native.Mathlib.Omega.{arith}
-use lib.Bits.{bit_or}
+use Prim.Native.Nat.{◌+◌, ◌-◌, ◌*◌, ◌≤◌}
+use mathlib.Core.Path.{◌≡◌}
 use lib.ListN.{get_or}
 use Rattle.rules.specs.Rows.{ors}
-use Rattle.rules.proofs.Parts.{row_inside}
-use Rattle.rules.proofs.Barring.{ors-none, ors-more}
 use Rattle.rules.proofs.tables.column.Given as goal
 
 abbrev pub invariant-loop-p : goal.invariant-loop-p

@@ -1,10 +1,7 @@
 -- The columns made so far.
 -- Assumes nothing.
-use Prim.Native.Nat.{ℕ, ◌-◌, ◌≤◌}
-use mathlib.Core.Path.{◌≡◌, refl, subst}
-use native.Mathlib.Omega.{arith}
+use Prim.Native.Nat.{◌-◌, ◌≤◌}
 use Rattle.rules.specs.Rows.{Columns}
-use Rattle.rules.proofs.Barring.{column-more}
 use Rattle.rules.proofs.tables.columns.Given as goal
 
 abbrev pub invariant-loop-k : goal.invariant-loop-k

@@ -12,10 +12,10 @@ site_of-requires c = (good-laid c.requires.good).ranges
 
 pub count_leave-requires : goal.count_leave-requires
 count_leave-requires c = rw c.site_of.ensures (record {
-      good = c.requires.good;
-      sited = refl;
-      kind_value = c.requires.kind_value;
-    })
+  good = c.requires.good;
+  sited = refl;
+  kind_value = c.requires.kind_value;
+})
 
 pub returns : goal.returns
 unfolding kind_of change

@@ -12,10 +12,10 @@ site_of-requires c = (good-laid c.requires.good).ranges
 
 pub free_room-requires : goal.free_room-requires
 free_room-requires c = rw c.site_of.ensures (record {
-      good = c.requires.good;
-      sited = refl;
-      kind_value = c.requires.kind_value;
-    })
+  good = c.requires.good;
+  sited = refl;
+  kind_value = c.requires.kind_value;
+})
 
 pub returns : goal.returns
 unfolding kind_of change

@@ -1,7 +1,6 @@
 -- Kind 5: judged, and written where it is done.
 -- Assumes nothing.
 use mathlib.Core.Path.{refl, sym, ◌∙◌, ap, ap₂}
-use borrow.Author.Rules.{rules}
 use Rattle.book.specs.Good.{answered}
 use Rattle.book.proofs.Goods.{good-laid}
 use Rattle.apply.specs.Accepted.{accepted}
@@ -13,10 +12,10 @@ site_of-site-requires c = (good-laid c.requires.good).ranges
 
 pub erase_hotel-answer-requires : goal.erase_hotel-answer-requires
 erase_hotel-answer-requires c = rw c.site_of-site.ensures (record {
-      good = c.requires.good;
-      sited = refl;
-      kind_value = c.requires.kind_value;
-    })
+  good = c.requires.good;
+  sited = refl;
+  kind_value = c.requires.kind_value;
+})
 
 pub returns-in-Refused : goal.returns-in-Refused
 returns-in-Refused c =

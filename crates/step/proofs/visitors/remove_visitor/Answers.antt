@@ -1,7 +1,6 @@
 -- Kind 3: refused by the first no of questions 4 to 7, and else the removal's words and its count.
 -- Assumes nothing.
 use mathlib.Core.Path.{refl, sym, ap}
-use borrow.Author.Rules.{rules}
 use Rattle.book.specs.Lent.{reading}
 use Rattle.book.proofs.Goods.{good-laid}
 use Rattle.model.specs.Kinds.{kind_of, Kind.remove_visitor}

@@ -1,6 +1,5 @@
 -- `decimal::place_byte`: a space before the number, or a digit.
 -- Assumes nothing.
-use borrow.Author.Rules.{rules}
 use Rattle.text.proofs.decimal.place_byte.Goals as goal
 
 pub returns-then-p-left : goal.returns-then-p-left

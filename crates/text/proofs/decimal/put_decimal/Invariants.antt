@@ -1,15 +1,9 @@
 -- `decimal::put_decimal`: the last p places are written, and `left` is the number without them.
 -- Assumes nothing.
 use Prim.Native.Nat.{◌+◌, ◌-◌, ◌/◌, ◌^◌, ◌≤◌}
-use mathlib.Core.Path.{◌≡◌, sym, ◌∙◌, ap}
-use native.Mathlib.Nat.{div-one}
-use native.Mathlib.Numerals.{add-one}
-use native.Mathlib.Omega.{arith}
-use borrow.Author.Rules.{rules}
+use mathlib.Core.Path.{◌≡◌}
 use Rattle.model.specs.Text.{decimal_field}
 use Rattle.text.specs.Put.{Put}
-use Rattle.text.proofs.Places.{next-left}
-use Rattle.text.proofs.Decimals.{put-nothing, put-place, put-field}
 use Rattle.text.proofs.decimal.put_decimal.Given as goal
 
 abbrev pub invariant-loop-p : goal.invariant-loop-p

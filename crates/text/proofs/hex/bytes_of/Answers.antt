@@ -1,11 +1,10 @@
 -- `hex::bytes_of`: each byte is a quotient's rest.
 -- Assumes nothing.
 use mathlib.Core.Path.{sym, ap}
-use mathlib.Core.List.{List, [], ◌∷◌}
+use mathlib.Core.List.{[], ◌∷◌}
 use Prim.Native.Nat.{ℕ, ◌%◌}
 use native.Mathlib.Nat.{div-one}
 use Rattle.text.specs.Digits.{byte_at}
-use borrow.Author.Rules.{rules}
 use Rattle.text.proofs.hex.bytes_of.Goals as goal
 
 pub returns : goal.returns

@@ -1,7 +1,6 @@
 -- `hex::digits_of`: each byte is the digit of its value.
 -- Assumes nothing.
 use native.Mathlib.Omega.{arith}
-use borrow.Author.Rules.{rules}
 use Rattle.text.specs.Digits.{nibble}
 use Rattle.text.proofs.Together.{values-by, digits-shown}
 use Rattle.text.proofs.hex.digits_of.Goals as goal

@@ -3,7 +3,6 @@
 use native.Mathlib.Omega.{arith}
 use Prim.Native.Nat.{◌+◌}
 use Rattle.text.proofs.Together.{bytes-joined}
-use borrow.Author.Rules.{rules}
 use Rattle.text.proofs.hex.eight_at.Goals as goal
 
 pub returns : goal.returns

@@ -2,7 +2,6 @@
 -- Assumes nothing.
 use native.Mathlib.Omega.{arith}
 use lib.Bits.{or_shifted}
-use borrow.Author.Rules.{rules}
 use Rattle.text.proofs.hex.joined.Goals as goal
 
 pub returns : goal.returns

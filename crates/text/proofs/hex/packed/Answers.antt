@@ -2,7 +2,6 @@
 -- Assumes nothing.
 use native.Mathlib.Omega.{arith}
 use lib.Bits.{and_le_r}
-use borrow.Author.Rules.{rules}
 use Rattle.text.specs.Digits.{Values}
 use Rattle.text.proofs.Together.{bytes_together, packed-is}
 use Rattle.text.proofs.hex.packed.Goals as goal

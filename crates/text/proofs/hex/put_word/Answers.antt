@@ -1,7 +1,6 @@
 -- `hex::put_word`: the word's eight digits are put.
 -- Assumes nothing.
 use mathlib.Core.Path.{◌∙◌}
-use borrow.Author.Rules.{rules}
 use Rattle.text.proofs.Puts.{put_as}
 use Rattle.text.proofs.hex.put_word.Goals as goal
 

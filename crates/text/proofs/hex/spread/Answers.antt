@@ -2,7 +2,6 @@
 -- Assumes nothing.
 use native.Mathlib.Omega.{arith}
 use lib.Bits.{and_le_r}
-use borrow.Author.Rules.{rules}
 use Rattle.text.proofs.Together.{halves_apart, bytes_apart, spread-is}
 use Rattle.text.proofs.hex.spread.Goals as goal
 

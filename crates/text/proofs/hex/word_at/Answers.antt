@@ -1,6 +1,5 @@
 -- `hex::word_at`: the word of these bytes.
 -- Assumes nothing.
-use borrow.Author.Rules.{rules}
 use Rattle.text.proofs.hex.word_at.Goals as goal
 
 pub returns : goal.returns

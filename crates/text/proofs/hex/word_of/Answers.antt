@@ -1,7 +1,6 @@
 -- `hex::word_of`: digits are bytes that come back when their values are written.
 -- Assumes nothing.
 use native.Mathlib.Omega.{arith}
-use borrow.Author.Rules.{rules}
 use Rattle.text.specs.Digits.{byte_at, value_in}
 use Rattle.text.proofs.Together.{values-by, read_is}
 use Rattle.text.proofs.hex.word_of.Goals as goal

@@ -2,9 +2,6 @@
 -- Assumes nothing.
 use native.Mathlib.Omega.{arith}
 use borrow.Author.Rules.{rules}
-use Prim.Native.Nat.{◌≤◌, ◌-◌}
-use lib.ListN.{length, take}
-use Rattle.text.specs.Put.{Put}
 use Rattle.text.proofs.Puts.{put-none, put-more, put_all}
 use Rattle.text.proofs.store.put.Goals as goal
 

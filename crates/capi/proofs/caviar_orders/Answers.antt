@@ -1,0 +1,13 @@
+-- `caviar_orders`: the list's own, with the answer in words.
+-- Assumes nothing.
+use mathlib.Core.Path.{◌∙◌, ap}
+use Rattle.model.specs.Messages.{answer_words}
+use Rattle.capi.proofs.caviar_orders.Goals as goal
+
+pub returns : goal.returns
+returns c =
+    record {
+      answer = c.told.ensures ∙ ap (λ x. answer_words x.answer) c.orders.ensures;
+      book = ap (λ x. x.book) c.orders.ensures;
+      answers = ap (λ x. x.answers) c.orders.ensures;
+    }

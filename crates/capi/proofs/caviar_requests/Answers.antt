@@ -1,0 +1,13 @@
+-- `caviar_requests`: the list's own, with the answer in words.
+-- Assumes nothing.
+use mathlib.Core.Path.{◌∙◌, ap}
+use Rattle.model.specs.Messages.{answer_words}
+use Rattle.capi.proofs.caviar_requests.Goals as goal
+
+pub returns : goal.returns
+returns c =
+    record {
+      answer = c.told.ensures ∙ ap (λ x. answer_words x.answer) c.requests.ensures;
+      book = ap (λ x. x.book) c.requests.ensures;
+      answers = ap (λ x. x.answers) c.requests.ensures;
+    }
