@@ -175,6 +175,12 @@ fn send<W: Write>(output: &mut W, bytes: &[u8]) -> Sent
             }
         }
     }
+    if sent == handed {
+        return Sent {
+            handed,
+            put: Ok(()),
+        };
+    }
     Sent {
         handed,
         put: Err(not_taken()),

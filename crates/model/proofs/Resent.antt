@@ -504,13 +504,13 @@ resent-listed l ss k all-o once-o m n e a c =
     }
 
 -- on a book that passes questions 1 and 2, and on a book laid anew
-module _ (w v a c : List ℕ) (ss : List Sending) (All-words : calls_of order_length (answerable order_length w a) w ≡ all_sent ss)
+module _ (w v a c : List ℕ) (ss : List Sending) (all-words : calls_of order_length (answerable order_length w a) w ≡ all_sent ss)
     (once-words : calls_of order_length (answerable order_length v c) v ≡ once_sent ss) where
   count : length (once_sent ss) ≡ answerable order_length v c
   count = sym (ap length once-words) ∙ list-long order_length (answerable order_length v c) v
 
   sent-orders : AllOrders (all_sent ss)
-  sent-orders = subst AllOrders All-words (all-orders order_length (answerable order_length w a) w)
+  sent-orders = subst AllOrders all-words (all-orders order_length (answerable order_length w a) w)
 
   once-orders : AllOrders (once_sent ss)
   once-orders = subst AllOrders once-words (all-orders order_length (answerable order_length v c) v)
@@ -520,12 +520,12 @@ module _ (w v a c : List ℕ) (ss : List Sending) (All-words : calls_of order_le
   unfolding call_list
   orders-resent b p k =
       let h : Shows b (ledger_of b) = passes-shows b p in
-      rw (p.one, p.two, All-words, once-words, shown-calls b (ledger_of b) h (all_sent ss), shown-calls b (ledger_of b) h (once_sent ss))
+      rw (p.one, p.two, all-words, once-words, shown-calls b (ledger_of b) h (all_sent ss), shown-calls b (ledger_of b) h (once_sent ss))
       (resent-listed (ledger_of b) ss k sent-orders once-orders (answerable order_length w a) (answerable order_length v c) count a c)
 
   pub served-resent : (s b : List ℕ) → settings_good s ≡ true → length b ≡ book_length (settings_of s) → WhileKept (empty_ledger (settings_of s)) ss
       → ResentWords ss (answerable order_length v c) (serve_list order_length s b w a) (serve_list order_length s b v c)
   unfolding serve_list
   served-resent s b g f k =
-      rw (g, eq-eqb (length b) (book_length (settings_of s)) f, All-words, once-words)
+      rw (g, eq-eqb (length b) (book_length (settings_of s)) f, all-words, once-words)
       (resent-listed (empty_ledger (settings_of s)) ss k sent-orders once-orders (answerable order_length w a) (answerable order_length v c) count a c)
