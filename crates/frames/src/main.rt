@@ -154,16 +154,10 @@ fn send<W: Write>(output: &mut W, bytes: &[u8]) -> Sent
     let mut sent = 0;
     for _ in 0..u64::MAX {
         if sent == handed {
-            return Sent {
-                handed,
-                put: Ok(()),
-            };
+            break;
         }
         match output.write(&bytes[sent..]) {
-            Ok(0) => return Sent {
-                handed,
-                put: Err(not_taken()),
-            },
+            Ok(0) => break,
             Ok(n) => sent += n,
             Err(e) => {
                 if !is_interrupted(&e) {
@@ -175,20 +169,22 @@ fn send<W: Write>(output: &mut W, bytes: &[u8]) -> Sent
             }
         }
     }
-    if sent == handed {
+    if sent < handed {
         return Sent {
             handed,
-            put: Ok(()),
+            put: Err(not_taken()),
         };
     }
     Sent {
         handed,
-        put: Err(not_taken()),
+        put: Ok(()),
     }
 }
 
 // Bytes were handed to `write`, and it took none of them.
-fn not_taken() -> Error {
+fn not_taken() -> Error
+    ensures { error_kind result ≡ ErrorKind.WriteZero }
+{
     Error::new(ErrorKind::WriteZero, "failed to write whole buffer")
 }
 
