@@ -3,7 +3,8 @@
 use Prim.Native.Nat.{ℕ, zero, suc, ◌+◌, ◌<◌}
 use mathlib.Core.Path.{◌≡◌, refl, sym, ◌∙◌, ap, ap₂}
 use mathlib.Core.Bool.{Bool, true, false, not, ◌&&◌, ◌||◌, cond, true≢false, and-true as and_one}
-use mathlib.Core.Option.{Option, none, some}
+use Rattle.std.specs.Prelude.{Option, None, Some}
+use Rattle.std.proofs.Math.Bool.{and_assoc, and_comm}
 use mathlib.Core.List.{List, ◌++◌}
 use native.Mathlib.Omega.{arith}
 use lib.Dec.{eqb}
@@ -60,21 +61,14 @@ module _ (r : Request) (p q : ℕ → ℕ → ℕ → Bool) (n : ℕ) (f h : ℕ
       out e u true z = rw (z, eq-eqb u B (only i u (mine i j e).0 (rw (mine i j e).1 at z)))
 
 swap : (s e c : Bool) → s && e && c ≡ s && c && e
-swap true true true = refl
-swap true true false = refl
-swap true false true = refl
-swap true false false = refl
-swap false e c = refl
-
-one_more : (v : ℕ) → suc v ≡ v + 1
-one_more v = omega arith
+swap s e c = and_assoc s e c ∙ ap (λ (t : Bool). s && t) (and_comm e c) ∙ sym (and_assoc s c e)
 
 module _ (x : State) (s : Sound x) (r : Request) (b : List ℕ) (a : Carries x.settings x b) where
   abbrev S : Settings
   S = x.settings
 
   -- b has no a at all in the set
-  alone : (k : Kind) (p : Pairs) → ask x r k (absent p) ≡ none → ask x r k (elsewhere p) ≡ none → (i c : ℕ) → slot r i ≡ true
+  alone : (k : Kind) (p : Pairs) → ask x r k (absent p) ≡ None → ask x r k (elsewhere p) ≡ None → (i c : ℕ) → slot r i ≡ true
       → booked x p i c r.b ≡ true → ⊥
   unfolding test
   alone k p e f i c h q =
@@ -94,7 +88,7 @@ module _ (x : State) (s : Sound x) (r : Request) (b : List ℕ) (a : Carries x.s
     put_one is hb free =
         column a g (slot r) r.first (r.last + 1) (rw unit (last-slot x r k y)) (λ i _. in-slots r i) z frame A (full B 0 0) item
         (λ i j m c. after i j m
-        ∙ pair-added r p q n (λ i j. suc) (λ i j. suc) A B (λ i j _ u. refl) is hb (B + 1) (λ i _. one_more B) free i j
+        ∙ pair-added r p q n (λ i j. suc) (λ i j. suc) A B (λ i j _ u. refl) is hb (B + 1) (λ i _. omega arith) free i j
         ∙ ap₂ (cond (slot r i && eqb j A)) (sym (only-word (full B 0 0) m c.word)) (sym (before i j m)))
 
     take-one : ((i j u : ℕ) → q i j u ≡ p i j u && not (slot r i && eqb j A && eqb u B)) → ((i u : ℕ) → slot r i ≡ true → p i A u ≡ true → u ≡ B)
@@ -172,12 +166,12 @@ module _ (x : State) (s : Sound x) (r : Request) (b : List ℕ) (a : Carries x.s
       hb = ltb-true _ _ (yes x r add_conf b_below refl (said x r add_conf 6 y))
 
       C : ℕ → ℕ → ℕ → Option ℕ
-      C i j m = cond (slot r i && eqb j r.a && eqb m r.b) (some r.info) (x.conf i j m)
+      C i j m = cond (slot r i && eqb j r.a && eqb m r.b) (Some r.info) (x.conf i j m)
 
       off : (i j : ℕ) → slot r i && eqb j r.a ≡ false → (u : ℕ) → C i j u ≡ x.conf i j u
       off i j e u = rw e
 
-      new : (i : ℕ) → slot r i ≡ true → C i r.a r.b ≡ some r.info
+      new : (i : ℕ) → slot r i ≡ true → C i r.a r.b ≡ Some r.info
       new i e = rw (e, eq-eqb r.a r.a refl, eq-eqb r.b r.b refl)
 
       free : (i u : ℕ) → slot r i ≡ true → is_some (x.conf i r.a u) ≡ true → ⊥
@@ -188,7 +182,7 @@ module _ (x : State) (s : Sound x) (r : Request) (b : List ℕ) (a : Carries x.s
       here i j zero c =
           pair-added r (λ i j m. is_some (x.conf i j m)) (λ i j m. is_some (C i j m)) S.meetings (λ i j. suc) (λ i j. suc) r.a r.b
           (λ i j _ u. refl)
-          (λ i j u. some_or _ r.info (x.conf i j u)) hb (r.b + 1) (λ i _. one_more r.b) free i j
+          (λ i j u. some_or _ r.info (x.conf i j u)) hb (r.b + 1) (λ i _. omega arith) free i j
       here i j (suc zero) c =
           pair-added r (λ i j m. is_some (x.conf i j m)) (λ i j m. is_some (C i j m)) S.meetings (λ i j m. info_of (x.conf i j m))
           (λ i j m. info_of (C i j m)) r.a r.b
@@ -233,11 +227,11 @@ module _ (x : State) (s : Sound x) (r : Request) (b : List ℕ) (a : Carries x.s
   unfolding change test
   write-add_lunch y =
       lunch-column add_lunch y refl hb new _
-      (pair-added r p q S.dining (λ i j. suc) (λ i j. suc) r.b r.a (λ i j _ u. refl) is ha (r.a + 1) (λ i _. one_more r.a) free)
+      (pair-added r p q S.dining (λ i j. suc) (λ i j. suc) r.b r.a (λ i j _ u. refl) is ha (r.a + 1) (λ i _. omega arith) free)
       (beside seats_of r.n refl) (beside lunch_info r.info refl)
     where
       new : Option Lunch
-      new = some (record { seats = r.n; info = r.info })
+      new = Some (record { seats = r.n; info = r.info })
 
       hb : r.b < S.meetings
       hb = ltb-true _ _ (yes x r add_lunch b_below refl (said x r add_lunch 6 y))
@@ -268,7 +262,7 @@ module _ (x : State) (s : Sound x) (r : Request) (b : List ℕ) (a : Carries x.s
       → Carries S (change x r erase_lunch) (filled (grid_of S lunch_triples) r.b empty r.first (r.last + 1) b)
   unfolding change test
   write-erase_lunch y =
-      lunch-column erase_lunch y refl hb none _
+      lunch-column erase_lunch y refl hb None _
       (pair-erased r p q S.dining (λ i j. suc) (λ i j. suc) r.b r.a (λ i j _ u. refl) is only) (beside seats_of) (beside lunch_info)
     where
       hb : r.b < S.meetings
@@ -278,7 +272,7 @@ module _ (x : State) (s : Sound x) (r : Request) (b : List ℕ) (a : Carries x.s
       p i j g = is_some (x.lunch i g j)
 
       q : ℕ → ℕ → ℕ → Bool
-      q i j g = is_some (U erase_lunch y refl hb none i g j)
+      q i j g = is_some (U erase_lunch y refl hb None i g j)
 
       is : (i j u : ℕ) → q i j u ≡ p i j u && not (slot r i && eqb j r.b && eqb u r.a)
       is i j u = some-less (slot r i && eqb u r.a && eqb j r.b) (x.lunch i u j)
@@ -287,8 +281,8 @@ module _ (x : State) (s : Sound x) (r : Request) (b : List ℕ) (a : Carries x.s
       only : (i u : ℕ) → slot r i ≡ true → p i r.b u ≡ true → u ≡ r.a
       only i u h e = s.one_a lunches refl i r.b u r.a e (was-present x r erase_lunch lunches (said x r erase_lunch 15 y) i h)
 
-      beside : (f : Option Lunch → ℕ) (i j : ℕ) → found (lowest (q i j) 0 S.dining) (λ g. f (U erase_lunch y refl hb none i g j))
+      beside : (f : Option Lunch → ℕ) (i j : ℕ) → found (lowest (q i j) 0 S.dining) (λ g. f (U erase_lunch y refl hb None i g j))
           ≡ cond (slot r i && eqb j r.b) 0 (found (lowest (p i j) 0 S.dining) (λ g. f (x.lunch i g j)))
       beside f =
-          pair-erased r p q S.dining (λ i j g. f (x.lunch i g j)) (λ i j g. f (U erase_lunch y refl hb none i g j)) r.b r.a
-          (λ i j e u. ap f (U-off erase_lunch y refl hb none i j e u)) is only
+          pair-erased r p q S.dining (λ i j g. f (x.lunch i g j)) (λ i j g. f (U erase_lunch y refl hb None i g j)) r.b r.a
+          (λ i j e u. ap f (U-off erase_lunch y refl hb None i j e u)) is only

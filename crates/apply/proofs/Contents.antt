@@ -4,9 +4,10 @@
 use Prim.Native.Nat.{ℕ, suc, ◌+◌, ◌*◌, ◌/◌, ◌%◌, ◌<◌}
 use mathlib.Core.Path.{◌≡◌, refl, sym, ◌∙◌, ap}
 use mathlib.Core.Bool.{Bool, true, false, not, ◌&&◌, ◌||◌, cond, true≢false, false≢true, or-false, or-true, and-false, and-true as and_one}
-use mathlib.Core.Option.{Option, none, some}
+use Rattle.std.specs.Prelude.{Option, None, Some}
 use native.Mathlib.Omega.{arith}
 use lib.Dec.{eqb}
+use Rattle.std.proofs.lemmas.Bool.{false_from_ne_true}
 use borrow.Author.Tests.{eqb-true, eqb-false, eq-eqb, ne_eqb}
 use Rattle.model.specs.Bounded.{lowest, found, is_some, pack_from}
 use Rattle.model.specs.Words.{cell}
@@ -15,31 +16,27 @@ use Rattle.model.proofs.Search.{Lowest, lowest-is, lowest_by, lowest-same}
 use Rattle.pool.proofs.Masks.{pack-same, put-pack, clear-pack}
 use Rattle.apply.specs.Stores.{flipped}
 
-none_is : (a : Bool) → (a ≡ true → ⊥) → a ≡ false
-none_is true f = absurd (f refl)
-none_is false f = refl
-
 -- p and f before, q and h after
 module _ (p q : ℕ → Bool) (n : ℕ) (f h : ℕ → ℕ) where
   kept : ((u : ℕ) → q u ≡ p u) → ((u : ℕ) → q u ≡ true → h u ≡ f u) → found (lowest q 0 n) h ≡ found (lowest p 0 n) f
   kept e r = go (lowest q 0 n) refl (lowest-is q 0 n)
     where
       go : (o : Option ℕ) → lowest q 0 n ≡ o → Lowest q 0 n o → found (lowest q 0 n) h ≡ found (lowest p 0 n) f
-      go none k l = rw (← lowest-same q p 0 n (λ u _ _. e u), k)
-      go (some u) k l = rw (← lowest-same q p 0 n (λ u _ _. e u), k) (r u l.holds)
+      go None k l = rw (← lowest-same q p 0 n (λ u _ _. e u), k)
+      go (Some u) k l = rw (← lowest-same q p 0 n (λ u _ _. e u), k) (r u l.holds)
 
   gone : ((u : ℕ) → q u ≡ false) → found (lowest q 0 n) h ≡ 0
-  gone e = ap (λ (o : Option ℕ). found o h) (lowest_by q 0 n none (λ u _ _. e u))
+  gone e = ap (λ (o : Option ℕ). found o h) (lowest_by q 0 n None (λ u _ _. e u))
 
   single : (v : ℕ) → v < n → q v ≡ true → ((u : ℕ) → q u ≡ true → u ≡ v) → found (lowest q 0 n) h ≡ h v
   single v l e only =
       ap (λ (o : Option ℕ). found o h)
-      (lowest_by q 0 n (some v)
+      (lowest_by q 0 n (Some v)
       (record {
         low = omega arith;
         high = omega arith;
         holds = e;
-        first = λ u _ k. none_is (q u) (λ t. absurd (omega (arith, only u t, k)));
+        first = λ u _ k. false_from_ne_true (q u) (λ t. absurd (omega (arith, only u t, k)));
       }))
 
   -- one entry is added to an empty cell, where t holds
@@ -48,7 +45,7 @@ module _ (p q : ℕ → Bool) (n : ℕ) (f h : ℕ → ℕ) where
       → found (lowest q 0 n) h ≡ cond t w (found (lowest p 0 n) f)
   added true v w is off fit free =
       single v (fit refl).0 (is v ∙ rw (eq-eqb v v refl) (or-true (p v)))
-      (λ u e. eqb-true u v (sym (is u ∙ rw (none_is (p u) (free refl u))) ∙ e))
+      (λ u e. eqb-true u v (sym (is u ∙ rw (false_from_ne_true (p u) (free refl u))) ∙ e))
       ∙ (fit refl).1
   added false v w is off fit free = kept (λ u. is u ∙ or-false (p u)) (λ u _. off refl u)
 
@@ -69,15 +66,15 @@ module _ (p q : ℕ → Bool) (n : ℕ) (f h : ℕ → ℕ) where
       off u e = is u ∙ rw e
 
       go : (o : Option ℕ) → Lowest p 0 n o → found (lowest q 0 n) h ≡ cond (eqb (found o suc) (v + 1)) 0 (found o f)
-      go none l =
-          ap (λ (o : Option ℕ). found o h) (lowest_by q 0 n none (λ u a b. off u (l u a b)))
+      go None l =
+          ap (λ (o : Option ℕ). found o h) (lowest_by q 0 n None (λ u a b. off u (l u a b)))
           ∙ sym (ap (λ (t : Bool). cond t 0 0) (ne_eqb 0 (v + 1) (λ e. omega (arith, e))))
-      go (some w) l = at (eqb w v) refl
+      go (Some w) l = at (eqb w v) refl
         where
           at : (t : Bool) → eqb w v ≡ t → found (lowest q 0 n) h ≡ cond (eqb (suc w) (v + 1)) 0 (f w)
           at true e =
               let k : w ≡ v = eqb-true w v e in
-              rw (eq-eqb (suc w) (v + 1) (omega (arith, k))) (gone (λ u. none_is (q u) (λ z. out u (p u) refl z)))
+              rw (eq-eqb (suc w) (v + 1) (omega (arith, k))) (gone (λ u. false_from_ne_true (q u) (λ z. out u (p u) refl z)))
             where
               out : (u : ℕ) (t : Bool) → p u ≡ t → q u ≡ true → ⊥
               out u false k z = true≢false (sym z ∙ off u k)
@@ -89,19 +86,19 @@ module _ (p q : ℕ → Bool) (n : ℕ) (f h : ℕ → ℕ) where
               let qw : q w ≡ true = is w ∙ rw (l.holds, e) in
               rw (ne_eqb (suc w) (v + 1) ne)
               (ap (λ (o : Option ℕ). found o h)
-              (lowest_by q 0 n (some w) (record { low = l.low; high = l.high; holds = qw; first = λ u a b. off u (l.first u a b) }))
+              (lowest_by q 0 n (Some w) (record { low = l.low; high = l.high; holds = qw; first = λ u a b. off u (l.first u a b) }))
               ∙ r w qw)
 
 -- an entry with something beside it: set, and taken out
-pub some_or : {A : Type 0} (t : Bool) (w : A) (o : Option A) → is_some (cond t (some w) o) ≡ is_some o || t
+pub some_or : {A : Type 0} (t : Bool) (w : A) (o : Option A) → is_some (cond t (Some w) o) ≡ is_some o || t
 some_or true w o = sym (or-true (is_some o))
 some_or false w o = sym (or-false (is_some o))
 
-pub some-less : {A : Type 0} (t : Bool) (o : Option A) → is_some (cond t none o) ≡ is_some o && not t
+pub some-less : {A : Type 0} (t : Bool) (o : Option A) → is_some (cond t None o) ≡ is_some o && not t
 some-less true o = sym (and-false (is_some o))
 some-less false o = sym (and_one (is_some o))
 
-pub less-same : {A : Type 0} (t : Bool) (o : Option A) → is_some (cond t none o) ≡ true → cond t none o ≡ o
+pub less-same : {A : Type 0} (t : Bool) (o : Option A) → is_some (cond t None o) ≡ true → cond t None o ≡ o
 less-same true o e = absurd (false≢true e)
 less-same false o e = refl
 

@@ -1,11 +1,12 @@
 -- Entries counted as they are erased: a column of cells slot by slot, and a region whose cells a write elsewhere leaves.
 -- Assumes nothing.
 use Prim.Native.Nat.{ℕ, suc, ◌+◌, ◌*◌, ◌-◌, ◌≤◌, ◌<◌}
-use mathlib.Core.Path.{◌≡◌, sym, ◌∙◌, ap}
-use mathlib.Core.Bool.{Bool, false, not}
+use mathlib.Core.Path.{◌≡◌, refl, sym, ◌∙◌, ap}
+use mathlib.Core.Bool.{Bool, true, false, not}
 use mathlib.Core.List.{List}
 use native.Mathlib.Nat.{add-mul, mul-one, mul-le-mul_right}
 use native.Mathlib.Omega.{arith}
+use mir.Val.{bool_byte}
 use lib.Dec.{eqb}
 use lib.ListN.{get_or}
 use lib.Seq.{get_or-set_other}
@@ -52,20 +53,27 @@ module _ (g : Grid) (one_word : g.width ≡ 1) (j : ℕ) (hj : j < g.items) wher
       ∙ ap (λ (b : List ℕ). get_or b (place g k j 0) 0) (first-put empty (place g i j 0) b)
       ∙ get_or-set_other b (place g i j 0) (place g k j 0) 0 0 (λ e. omega (arith, e, apart i k h))
 
-  pub column-next : (i to : ℕ) (b : List ℕ) → i < to
-      → one (not (eqb (cell_at g b i j) 0)) + column_count g (stored g empty i j b) j (i + 1) to ≡ column_count g b j i to
+  -- slot i emptied: n, made of the test on its word w, is 1 if it was full, and else 0
+  pub column-next : (i to : ℕ) (b : List ℕ) → i < to → {w n : ℕ} → n ≡ bool_byte (not (eqb w 0)) → w ≡ cell_at g b i j
+      → n + column_count g (stored g empty i j b) j (i + 1) to ≡ column_count g b j i to
   unfolding column_count
-  column-next i to b h =
+  column-next i to b h {w} p q =
       let e : suc i ≡ i + 1 = omega arith in
-      let n : to - i ≡ suc (to - (i + 1)) = omega arith in
-      ap (λ (k : ℕ). full i + k)
+      let m : to - i ≡ suc (to - (i + 1)) = omega arith in
+      ap (λ (k : ℕ). k + sum_from (λ k. one (not (eqb (cell_at g (stored g empty i j b) k j) 0))) (i + 1) (to - (i + 1)))
+      (p ∙ byte_one (not (eqb w 0)) ∙ ap (λ (w : ℕ). one (not (eqb w 0))) q)
+      ∙ ap (λ (k : ℕ). full i + k)
       (sum-agree (λ k. one (not (eqb (cell_at g (stored g empty i j b) k j) 0))) full (i + 1) (to - (i + 1))
       (λ k l _. ap (λ (w : ℕ). one (not (eqb w 0))) (later-cell i k b (omega arith))))
       ∙ ap (λ (k : ℕ). full i + sum_from full k (to - (i + 1))) (sym e)
-      ∙ sym (ap (sum_from full i) n)
+      ∙ sym (ap (sum_from full i) m)
     where
       full : ℕ → ℕ
       full k = one (not (eqb (cell_at g b k j) 0))
+
+      byte_one : (t : Bool) → bool_byte t ≡ one t
+      byte_one true = refl
+      byte_one false = refl
 
 -- from b to c the cells of region h stay
 pub record Kept (S : Settings) (h : Region) (b c : List ℕ) : Type 0 where

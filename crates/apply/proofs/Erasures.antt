@@ -4,7 +4,7 @@
 use Prim.Native.Nat.{ℕ, zero, suc, ◌+◌, ◌≤◌, ◌<◌}
 use mathlib.Core.Path.{◌≡◌, refl, sym, ◌∙◌, ap, ap₂}
 use mathlib.Core.Bool.{Bool, true, false, not, ◌&&◌, cond, and-false, and-true as and_one}
-use mathlib.Core.Option.{Option, none}
+use Rattle.std.specs.Prelude.{Option, None}
 use mathlib.Core.List.{List, ◌++◌}
 use native.Mathlib.Omega.{arith}
 use lib.Dec.{leb, ltb, eqb}
@@ -94,13 +94,13 @@ module _ {S : Settings} (x : State) {b : List ℕ} (a : Carries S x b) (t : ℕ 
 
   conf-rows : (m : ℕ) → to ≤ slots S conf_pairs → ((i : ℕ) → i < slots S conf_pairs → t i ≡ leb from i && ltb i to)
       → ((i c u w : ℕ) → is_some (x.conf i c u) ≡ true → is_some (x.conf i c w) ≡ true → u ≡ w)
-      → Carries S (with_conf x (λ i c u. cond (t i && eqb u m) none (x.conf i c u))) (swept (grid_of S conf_pairs) (m + 1) from to b)
+      → Carries S (with_conf x (λ i c u. cond (t i && eqb u m) None (x.conf i c u))) (swept (grid_of S conf_pairs) (m + 1) from to b)
   unfolding word
   conf-rows m most agree one =
       rows a conf_pairs t from to most agree (with_conf x C) (conf-frame x C) (m + 1) here
     where
       C : ℕ → ℕ → ℕ → Option ℕ
-      C i c u = cond (t i && eqb u m) none (x.conf i c u)
+      C i c u = cond (t i && eqb u m) None (x.conf i c u)
 
       here : (i j k : ℕ) → Cell S conf_pairs i j k
           → word (with_conf x C) conf_pairs i j k
@@ -126,12 +126,12 @@ module _ {S : Settings} (x : State) {b : List ℕ} (a : Carries S x b) (t : ℕ 
       ∙ ap (λ (w : ℕ). cond (t i && eqb j v) w (cell (λ m. x.attend i m j) x.settings.meetings)) (sym (empty-word k)))
 
   lunch-column : (m : ℕ) → m < S.meetings → to ≤ S.dates → ((i : ℕ) → i < S.dates → t i ≡ leb from i && ltb i to)
-      → Carries S (with_lunch x (λ d g u. cond (t d && eqb u m) none (x.lunch d g u))) (filled (grid_of S lunch_triples) m empty from to b)
+      → Carries S (with_lunch x (λ d g u. cond (t d && eqb u m) None (x.lunch d g u))) (filled (grid_of S lunch_triples) m empty from to b)
   unfolding word
   lunch-column m h most agree = column a lunch_triples t from to most agree (with_lunch x U) (lunch-frame x U) m empty h here
     where
       U : ℕ → ℕ → ℕ → Option Lunch
-      U d g u = cond (t d && eqb u m) none (x.lunch d g u)
+      U d g u = cond (t d && eqb u m) None (x.lunch d g u)
 
       by : (i j : ℕ) (f h : ℕ → ℕ) → (t i && eqb j m ≡ false → (g : ℕ) → h g ≡ f g)
           → found (lowest (λ g. is_some (U i g j)) 0 x.settings.dining) h

@@ -3,7 +3,7 @@
 use Prim.Native.Nat.{ℕ}
 use mathlib.Core.Path.{refl}
 use mathlib.Core.Bool.{Bool, true≢false}
-use mathlib.Core.Option.{Option}
+use Rattle.std.specs.Prelude.{Option}
 use Rattle.model.specs.State.{State, Lunch}
 use Rattle.model.specs.Machine.{with_leave, with_standing, with_hotel, with_ride, with_attend, with_conf, with_lunch}
 use Rattle.model.specs.Words.{leaves, hotel_cells, standings, attend_cells, conf_pairs, lunch_triples, ride_cells, word}

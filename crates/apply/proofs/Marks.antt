@@ -1,8 +1,9 @@
 -- A bit turned twice is turned once; so the one, two or three slots of a short run are three slots marked, some of them again.
 -- Assumes nothing.
 use Prim.Native.Nat.{ℕ, zero, suc, ◌+◌, ◌-◌, ◌/◌, ◌%◌, ◌≤◌, ◌<◌, min}
-use mathlib.Core.Path.{◌≡◌, refl, sym, ◌∙◌, ap}
+use mathlib.Core.Path.{◌≡◌, sym, ◌∙◌, ap}
 use mathlib.Core.Bool.{Bool, true, false, not, ◌&&◌, ◌||◌}
+use Rattle.std.proofs.Math.Bool.{and_assoc, and_self, or_assoc, or_self}
 use mathlib.Core.List.{List}
 use native.Mathlib.Omega.{arith}
 use lib.Dec.{eqb}
@@ -20,14 +21,10 @@ use Rattle.book.proofs.Turns.{over-turn, over-end}
 use Rattle.apply.specs.Stores.{flipped, marked, marked_three, marked_all}
 
 or-again : (a e : Bool) → (a || e) || e ≡ a || e
-or-again true e = refl
-or-again false true = refl
-or-again false false = refl
+or-again a e = or_assoc a e e ∙ ap (λ (t : Bool). a || t) (or_self e)
 
 and_again : (a e : Bool) → (a && e) && e ≡ a && e
-and_again false e = refl
-and_again true true = refl
-and_again true false = refl
+and_again a e = and_assoc a e e ∙ ap (λ (t : Bool). a && t) (and_self e)
 
 put-again : (w k : ℕ) → put (put w k) k ≡ put w k
 unfolding put

@@ -1,9 +1,9 @@
 -- Done or refused.
 -- Assumes nothing.
 use Rattle.std.specs.Prelude.{Bool, true, false}
-use Rattle.model.specs.declared.Answer.{Answer}
-use Rattle.model.specs.declared.Answer.TheVariants.{Done, Refused}
+use Rattle.model.specs.Answers.{Answer}
+use Rattle.std.specs.Prelude.{Ok, Err}
 
 abbrev pub accepted : Answer → Bool
-accepted (Done v) = true
-accepted (Refused n p) = false
+accepted (Ok v) = true
+accepted (Err e) = false

@@ -6,7 +6,6 @@ ghost use Rattle.apply.specs.Stores.{filled, Emptied};
 
 use book::grid::{Grid, cell};
 use book::puts::{Content, EMPTY, clear, put};
-use queries::bookings::full;
 
 // The cell of one item in each slot from `from` to before `to`.
 pub fn fill(book: &mut [u32], g: Grid, item: u32, c: Content, from: u32, to: u32)
@@ -16,10 +15,8 @@ pub fn fill(book: &mut [u32], g: Grid, item: u32, c: Content, from: u32, to: u32
     requires item_lt_g { item < g.items }
     ensures { Wrote (filled g item c from to) (reading book.old) (reading book.new) }
 {
-    let mut i = from;
-    while i < to {
+    for i in from..to {
         put(book, g, i, item, c);
-        i += 1;
     }
 }
 
@@ -32,11 +29,9 @@ pub fn empty_column(book: &mut [u32], g: Grid, item: u32, from: u32, to: u32) ->
     ensures { Emptied g item from to (reading book.old) (reading book.new) result }
 {
     let mut n: u32 = 0;
-    let mut i = from;
-    while i < to {
-        n += full(cell(book, g, i, item));
+    for i in from..to {
+        n += u32::from(cell(book, g, i, item) != 0);
         put(book, g, i, item, EMPTY);
-        i += 1;
     }
     n
 }
@@ -48,11 +43,8 @@ fn sweep_row(book: &mut [u32], g: Grid, slot: u32, w: u32)
     requires slot_lt_slots { slot < g.slots }
     ensures { Wrote (swept_row g w slot) (reading book.old) (reading book.new) }
 {
-    let items = g.items;
-    let mut j: u32 = 0;
-    while j < items {
+    for j in 0..g.items {
         clear(book, g, slot, j, w);
-        j += 1;
     }
 }
 
@@ -63,9 +55,7 @@ pub fn sweep_rows(book: &mut [u32], g: Grid, w: u32, from: u32, to: u32)
     requires to_le_slots { to ≤ g.slots }
     ensures { Wrote (swept g w from to) (reading book.old) (reading book.new) }
 {
-    let mut i = from;
-    while i < to {
+    for i in from..to {
         sweep_row(book, g, i, w);
-        i += 1;
     }
 }

@@ -1,6 +1,6 @@
 // What the kinds write, in the slots first..last, both included.
 ghost use Rattle.std.specs.Prelude.{◌≡◌, ◌+◌, ◌/◌, ◌<◌};
-ghost use Rattle.book.specs.Grids.{Sited, Laid};
+ghost use Rattle.book.specs.Grids.{Laid};
 ghost use Rattle.book.specs.Lent.{reading};
 ghost use Rattle.book.specs.Stores.{Wrote, empty, swept};
 ghost use Rattle.apply.specs.Stores.{Span, Single, full, filled, marked_all, standing_ended, meeting_erased};
@@ -11,29 +11,26 @@ use book::grid::{Grid, Grids, Site};
 use book::puts::{Content, EMPTY};
 use book::runs::sweep_run;
 use model::Session;
-use units::date_of_session;
+use units::date_of;
 
-// One entry into the cells of an item, with the words beside it.
-pub fn add(
-    book: &mut [u32],
-    g: Grid,
-    item: u32,
-    who: u32,
-    second: u32,
-    third: u32,
-    first: u32,
-    last: u32,
-)
-    requires span { Span g (reading book.old) last }
-    requires item_lt_g { item < g.items }
-    requires who_bound { who < 1000 }
-    ensures { Wrote (filled g item (full who second third) first (last + 1)) (reading book.old) (reading book.new) }
+// What a cell holds of an entry: the number of who has it plus 1, and the words beside it.
+pub fn entry(who: u32, second: u32, third: u32) -> Content
+    requires { who < 1000 }
+    ensures { result ≡ full who second third }
 {
-    let c = Content {
+    Content {
         entry: who + 1,
         second,
         third,
-    };
+    }
+}
+
+// One entry into the cells of an item.
+pub fn add(book: &mut [u32], g: Grid, item: u32, c: Content, first: u32, last: u32)
+    requires span { Span g (reading book.old) last }
+    requires item_lt_g { item < g.items }
+    ensures { Wrote (filled g item c first (last + 1)) (reading book.old) (reading book.new) }
+{
     fill(book, g, item, c, first, last + 1);
 }
 
@@ -56,12 +53,12 @@ pub fn drop(book: &mut [u32], g: Grid, who: u32, first: u32, last: u32)
 }
 
 // A member's bit set or cleared.
-pub fn turn(book: &mut [u32], g: Grid, on: bool, v: u32, first: u32, last: u32)
+pub fn turn<const ON: bool>(book: &mut [u32], g: Grid, v: u32, first: u32, last: u32)
     requires span { Span g (reading book.old) last }
     requires v_bound { v / 32 < g.items }
-    ensures { Wrote (marked_all g on v first (last + 1)) (reading book.old) (reading book.new) }
+    ensures { Wrote (marked_all g ON v first (last + 1)) (reading book.old) (reading book.new) }
 {
-    mark_all(book, g, on, v, first, last + 1);
+    mark_all::<ON>(book, g, v, first, last + 1);
 }
 
 // Kind 9: the meeting no longer stands, and nobody attends it.
@@ -72,7 +69,7 @@ pub fn end_standing(book: &mut [u32], g: Grids, a: u32, first: Session, last: Se
     requires a_bound_2 { a < 1000 }
     ensures { Wrote (standing_ended g a first.0 last.0) (reading book.old) (reading book.new) }
 {
-    turn(book, g.standing, false, a, first.0, last.0);
+    turn::<false>(book, g.standing, a, first.0, last.0);
     let attend = g.attend;
     sweep_run(book, attend, a + 1, first.0, last.0 + 1);
 }
@@ -80,13 +77,12 @@ pub fn end_standing(book: &mut [u32], g: Grids, a: u32, first: Session, last: Se
 // Kind 16: the meeting's conference rooms, and its lunches on the dates from first's to last's.
 pub fn erase_conf_and_lunch(book: &mut [u32], site: Site, b: u32, first: Session, last: Session)
     requires laid { Laid site.settings (reading book.old) }
-    requires sited { Sited site }
     requires last_lt_slots { last.0 < site.grids.conf.slots }
     requires b_lt_meetings { b < site.settings.meetings }
     ensures { Wrote (meeting_erased site.settings site.grids b first.0 last.0) (reading book.old) (reading book.new) }
 {
     drop(book, site.grids.conf, b, first.0, last.0);
-    let from = date_of_session(site.settings, first);
-    let to = date_of_session(site.settings, last);
+    let from = date_of(site.settings, first);
+    let to = date_of(site.settings, last);
     take(book, site.grids.lunch, b, from.0, to.0);
 }

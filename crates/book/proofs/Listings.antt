@@ -2,7 +2,7 @@
 -- Assumes nothing.
 use Prim.Native.Nat.{ℕ, zero, suc, ◌+◌, ◌-◌, ◌≤◌, ◌<◌}
 use mathlib.Core.Path.{◌≡◌, refl, sym, ◌∙◌, ap, subst}
-use mathlib.Core.Bool.{Bool, true, false, cond}
+use mathlib.Core.Bool.{Bool, true, false, not}
 use mathlib.Core.Logic.{◌⊎◌, inl, inr}
 use mathlib.Core.List.{List}
 use native.Mathlib.Nat.{eq-or-lt_of_le}
@@ -10,9 +10,10 @@ use native.Mathlib.Omega.{arith}
 use borrow.Author.Tests.{eqb-true}
 use lib.Dec.{eqb}
 use lib.ListN.{length, set, get_or, take, drop}
-use lib.Seq.{get_or-set_same, get_or-set_other}
+use lib.Seq.{get_or-set_same, get_or-set_other, get_or-take, length-take-le}
+use Rattle.std.specs.Int.{from_bool}
 use Rattle.book.specs.Rows.{part_count, words_count}
-use Rattle.book.specs.Stores.{Cleared, Inside, Holds, Listed, times, over, zeroed, block_zeroed}
+use Rattle.book.specs.Stores.{Cleared, Holds, Listed, times, over, zeroed, block_zeroed}
 use Rattle.book.proofs.RowRuns.{part-from}
 use Rattle.book.proofs.Turns.{over-turn, over-end, over-split}
 use Rattle.book.proofs.Sweeps.{run-kept, run-later, length-zeroed, count-agree, cleared-none, cleared-block, cleared-then, cleared-few}
@@ -94,14 +95,14 @@ module _ {w start n : ℕ} {b p : List ℕ} {blocks words here : ℕ} (l : start
       go j (inr q) = omega (arith, h.inside.at j q)
 
 pub holds-next : {w start n : ℕ} {b p : List ℕ} {blocks words here more : ℕ} → start ≤ n → n + 64 ≤ length b → blocks < length p
-    → here ≡ part_count (take (n + 64 - n) (drop n b)) w → more ≡ cond (eqb here 0) 0 1 → Holds w start n b p blocks words
+    → here ≡ part_count (take (n + 64 - n) (drop n b)) w → more ≡ from_bool (not (eqb here 0)) → Holds w start n b p blocks words
     → Holds w start (n + 64) b (set p blocks n) (blocks + more) (words + here)
 holds-next {w} {start} {n} {b} {p} {blocks} {words} {here} {more} l room r e m h = go (eqb here 0) refl m
   where
     all : ℕ → Type 0
     all k = Holds w start (n + 64) b (set p blocks n) k (words + here)
 
-    go : (t : Bool) → eqb here 0 ≡ t → more ≡ cond t 0 1 → all (blocks + more)
+    go : (t : Bool) → eqb here 0 ≡ t → more ≡ from_bool (not t) → all (blocks + more)
     go true q m =
         let z : blocks ≡ blocks + more = omega (arith, m) in
         subst all z (holds-empty l room e (holds-set n h) (eqb-true here 0 q))
@@ -119,26 +120,30 @@ listed-is {w} {start} {n} {end} {b} {p} {blocks} {words} r l h =
       stop = omega (arith, s, l);
     }
 
--- the blocks of a list that ends before the book does
-pub inside-book : {w start end : ℕ} {b p : List ℕ} {blocks words : ℕ} → Listed w start end b p blocks words → (n : ℕ) → end ≤ n → Inside p blocks n
-inside-book h n l = record { at = λ j a. omega (arith, h.holds.inside.at j a, h.stop, l) }
+-- the first places of a list that ends before the book does, as a list
+module _ {w start end : ℕ} {b p : List ℕ} {blocks words : ℕ} (h : Listed w start end b p blocks words) (r : blocks ≤ length p) where
+  abbrev first : List ℕ
+  first = take blocks p
 
--- and what is left when they are cleared
-pub listed-cleared : {w start end : ℕ} {b c p : List ℕ} {blocks words : ℕ} → Listed w start end b p blocks words
-    → c ≡ over (block_zeroed w p) 0 blocks b → Cleared w start (get_or p blocks 0) b c words
-listed-cleared h e = record { is = e ∙ h.holds.cleared.is; count = h.holds.cleared.count }
+  first-long : length first ≡ blocks
+  first-long = length-take-le blocks p r
+
+  first_at : (j : ℕ) → j < blocks → get_or first j 0 ≡ get_or p j 0
+  first_at j a = get_or-take blocks p j 0 (omega (arith, a))
+
+  -- and what is left when their blocks are cleared
+  pub listed-cleared : {c : List ℕ} → c ≡ over (block_zeroed w (take blocks p)) 0 (length (take blocks p)) b
+      → Cleared w start (get_or p blocks 0) b c words
+  listed-cleared e =
+      record {
+        is = e ∙ ap (λ (n : ℕ). over (block_zeroed w first) 0 n b) first-long
+            ∙ places-agree w p first 0 (blocks - 0) b (λ j a. first_at j (omega (arith, a))) ∙ h.holds.cleared.is;
+        count = h.holds.cleared.count;
+      }
 
 -- no index is behind a short list
 pub few-blocks : {w start n : ℕ} {b p : List ℕ} {blocks words : ℕ} → Holds w start n b p blocks words → n < start + 2048 → blocks < 32
 few-blocks h l = omega (arith, h.few, l)
-
--- a block's own share is small
-pub one-few : (n : ℕ) {r : ℕ} → r ≡ cond (eqb n 0) 0 1 → r ≤ 1
-one-few n {r} e = go (eqb n 0) e
-  where
-    go : (t : Bool) → r ≡ cond t 0 1 → r ≤ 1
-    go true e = omega (arith, e)
-    go false e = omega (arith, e)
 
 pub block-few : (w n : ℕ) (b : List ℕ) {r : ℕ} → n + 64 ≤ length b → r ≡ part_count (take (n + 64 - n) (drop n b)) w → r ≤ 64
 block-few w n b {r} room e =

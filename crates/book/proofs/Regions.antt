@@ -1,9 +1,9 @@
 -- The regions as grids: each starts where the one before ends, all lie in the book, and their numbers are small.
 -- Assumes nothing.
-use Prim.Native.Nat.{ℕ, ◌+◌, ◌*◌, ◌/◌, ◌≤◌, ◌<◌}
+use Prim.Native.Nat.{ℕ, ◌+◌, ◌/◌, ◌≤◌, ◌<◌}
 use native.Mathlib.Nat.{mul-le-mul}
 use native.Mathlib.Omega.{arith}
-use mathlib.Core.Path.{◌≡◌, ap}
+use mathlib.Core.Path.{◌≡◌, sym, ◌∙◌, ap, subst}
 use mathlib.Core.List.{List}
 use lib.ListN.{length}
 use Rattle.book.specs.declared.grid.Grid.{Grid}
@@ -103,29 +103,21 @@ fits S b l g =
       wide = (width-le g).0;
     }
 
--- a grid with the numbers of a region
+-- a grid with the numbers of a region, and one right behind the region before it
 pub grid-by : (S : Settings) (g : Region) (n : ℕ) → n ≡ base S g
     → ◌≡◌ {A = Grid} (record { base = n; slots = slots S g; items = items S g; width = width g }) (grid_of S g)
 grid-by S g n e = ap (λ (n : ℕ). record { base = n; slots = slots S g; items = items S g; width = width g }) e
 
+pub grid-behind : (S : Settings) (g h : Region) {a b : Grid} → base S h ≡ end (grid_of S g) → a ≡ grid_of S g
+    → b ≡ record { base = end a; slots = slots S h; items = items S h; width = width h } → b ≡ grid_of S h
+grid-behind S g h {a} n e q = q ∙ grid-by S h (end a) (ap end e ∙ sym n)
+
+pub small-by : (S : Settings) → Ranges S → (g : Region) {a : Grid} → a ≡ grid_of S g → Small a
+small-by S r g e = subst Small (sym e) (small S r g)
+
 -- the word of a visitor is a word of the row
 pub group-lt : (n v : ℕ) → v < n → v / 32 < (n + 31) / 32
 group-lt n v h = omega (arith, h)
-
-pub product3 : (g : Grid) → Small g → (g.slots * g.items ≤ 19660800) × (g.slots * g.items * g.width ≤ 58982400)
-product3 g s =
-    let a : g.slots * g.items ≤ 19660800 = mul-le-mul {n₂ = 38400} {m₂ = 512} s.slots s.items in
-    (a, mul-le-mul {n₂ = 19660800} {m₂ = 3} a s.width)
-
--- a slot has an item
-pub some_item : (S : Settings) → Ranges S → (g : Region) → 0 < items S g
-some_item S r leaves = omega (arith, r.visitors)
-some_item S r hotel_cells = r.hotels.0
-some_item S r standings = omega (arith, r.meetings)
-some_item S r attend_cells = r.visitors.0
-some_item S r conf_pairs = r.rooms.0
-some_item S r lunch_triples = r.meetings.0
-some_item S r ride_cells = r.transports.0
 
 -- the same of the words of a lent book
 pub lies : (S : Settings) (b : List ℕ) → Laid S b → (g : Region) → Lies (grid_of S g) b

@@ -10,7 +10,6 @@ use lib.Seq.{length-take-le}
 use Rattle.book.specs.declared.grid.Grid.{Grid}
 use Rattle.book.specs.Grids.{Fits}
 use Rattle.book.specs.Blocks.{Part, across, block_of}
-use Rattle.book.proofs.Cells.{wide-le}
 
 -- the words from one place to another
 pub part_by : (b : List ℕ) (start end from n : ℕ) → start ≡ from → end ≡ from + n → from + n ≤ length b
@@ -20,14 +19,9 @@ part_by b start end from n e q h =
     let is = ap₂ (λ (x y : ℕ). take x (drop y b)) s e in
     record { is = is; long = ap length is ∙ length-take-le n (drop from b) (omega (arith, length-drop from b)) }
 
-module _ (g : Grid) (n : ℕ) (f : Fits g n) where
-  -- the first i rows: their cells, and where their words end
-  pub cells-le : (i : ℕ) → i ≤ g.slots → i * g.items ≤ n
-  cells-le i h =
-      omega (arith, wide-le (i * g.items) g.width f.wide, mul-le-mul_right g.width (mul-le-mul_right g.items h), f.ends)
-
-  pub words-le : (i : ℕ) → i ≤ g.slots → g.base + i * g.items * g.width ≤ n
-  words-le i h = omega (arith, mul-le-mul_right g.width (mul-le-mul_right g.items h), f.ends)
+-- where the words of the first i rows end
+words-le : (g : Grid) (n : ℕ) → Fits g n → (i : ℕ) → i ≤ g.slots → g.base + i * g.items * g.width ≤ n
+words-le g n f i h = omega (arith, mul-le-mul_right g.width (mul-le-mul_right g.items h), f.ends)
 
 pub block-by : (g : Grid) (b : List ℕ) → Fits g (length b) → (from to : ℕ) → from ≤ to → to ≤ g.slots
     → Part (take (g.base + to * g.items * g.width - (g.base + from * g.items * g.width)) (drop (g.base + from * g.items * g.width) b))

@@ -1,10 +1,10 @@
 -- The words of a cell, and rows of one_word cells as one run of words.
 -- Assumes nothing.
-use Prim.Native.Nat.{ℕ, zero, suc, ◌+◌, ◌*◌, ◌-◌, ◌≤◌, ◌<◌}
+use Prim.Native.Nat.{ℕ, zero, suc, ◌+◌, ◌*◌, ◌-◌, ◌≤◌, ◌<◌, min}
 use mathlib.Core.Path.{◌≡◌, refl, sym, ◌∙◌, ap, ap₂}
 use mathlib.Core.Bool.{Bool, true, false, not, cond}
 use mathlib.Core.List.{List}
-use native.Mathlib.Nat.{add-mul, mul-one, mul-le-mul_right}
+use native.Mathlib.Nat.{add-mul, mul-one}
 use native.Mathlib.Omega.{arith}
 use lib.Dec.{eqb}
 use lib.ListN.{length, set, get_or, take, drop, length-set, length-take, length-drop}
@@ -14,16 +14,13 @@ use Rattle.model.proofs.Search.{any_false}
 use Rattle.model.proofs.Sums.{sum-agree, sum-split}
 use Rattle.book.specs.declared.grid.Grid.{Grid}
 use Rattle.book.specs.declared.puts.Content.{Content}
-use Rattle.book.specs.Grids.{Fits, place, cell_at}
-use Rattle.book.specs.Rows.{part_count, words_count, rows_count}
-use Rattle.book.specs.Stores.{Stretch, Cleared, times, over, word_in, empty, puts, stored, cleared, swept_row, swept, zeroed}
+use Rattle.book.specs.Grids.{place, cell_at}
+use Rattle.book.specs.Lent.{Lies}
+use Rattle.book.specs.Rows.{part_count, words_count, row_count, rows_count}
+use Rattle.book.specs.Stores.{Stretch, Swept, Cleared, times, over, word_in, empty, puts, stored, cleared, swept_row, swept, zeroed}
 use Rattle.book.proofs.Counts.{any-count, count-le}
 use Rattle.book.proofs.RowRuns.{part-from, rows_words}
-use Rattle.book.proofs.Turns.{times_none, times-add, times-from, times_long, over-end, over-split}
-
--- a width that is neither 1 nor 2
-pub three-left : (w : ℕ) → 1 ≤ w → w ≤ 3 → (w ≡ 1 → ⊥) → (w ≡ 2 → ⊥) → w ≡ 3
-three-left w l h n1 n2 = omega arith
+use Rattle.book.proofs.Turns.{times_none, times-add, times-from, times_long, over-end, over-split, over-low, wrote_by}
 
 -- the first word of a cell
 pub first-put : (c : Content) (n : ℕ) (b : List ℕ) → puts c n 1 b ≡ set b n c.entry
@@ -189,11 +186,29 @@ module _ (g : Grid) (one_word : g.width ≡ 1) where
   run-count from to start end x l w b =
       ap₂ (λ (s n : ℕ). sum_from (λ j. one (eqb (get_or b j 0) w)) s n) x.from (run_long from to start end x l) ∙ rows_words g one_word b w from to
 
--- the rows of a run of slots lie in the grid
-pub stretch-is : (g : Grid) (lo hi n : ℕ) → g.width ≡ 1 → lo ≤ hi → hi ≤ g.slots → Fits g n
-    → Stretch g lo hi (g.base + lo * g.items) (g.base + hi * g.items)
-stretch-is g lo hi n e l h f =
-    let a : lo * g.items ≤ hi * g.items = mul-le-mul_right g.items l in
-    let b : hi * g.items ≤ g.slots * g.items = mul-le-mul_right g.items h in
-    let c : g.slots * g.items * g.width ≡ g.slots * g.items = ap (λ (w : ℕ). g.slots * g.items * w) e ∙ mul-one (g.slots * g.items) in
-    record { from = refl; to = refl; order = omega (arith, a); room = omega (arith, b, c) }
+-- the words of those rows cleared: the rows are swept
+module _ (g : Grid) (w from to : ℕ) {start end : ℕ} (x : Stretch g (min from to) to start end) where
+  count-low : (b : List ℕ) → rows_count g b w (min from to) to ≡ rows_count g b w from to
+  unfolding rows_count
+  count-low b = ap (sum_from f (min from to)) e ∙ go (to - from) refl
+    where
+      f : ℕ → ℕ
+      f i = row_count g b i w
+
+      e : to - min from to ≡ to - from
+      e = omega arith
+
+      go : (n : ℕ) → to - from ≡ n → sum_from f (min from to) n ≡ sum_from f from n
+      go zero q = refl
+      go (suc n) q = let l : min from to ≡ from = omega (arith, q) in ap (λ (i : ℕ). sum_from f i (suc n)) l
+
+  pub swept-by : {b c : List ℕ} {r : ℕ} → g.width ≡ 1 → Lies g b → Cleared w start end b c r → Swept g w from to b c r
+  unfolding Lies swept
+  swept-by {b} {c} {r} e f h =
+      let l : min from to ≤ to = omega arith in
+      let s = run_is g e (min from to) to start end x l w b ∙ over-low (λ i. swept_row g w i) from to b in
+      record {
+        wrote = wrote_by (swept g w from to) b c (h.is ∙ s) (ap length (sym s) ∙ length-zeroed w start (end - start) b);
+        count = h.count ∙ run-count g e (min from to) to start end x l w b ∙ count-low b;
+        few = omega (arith, cleared-few h, x.room, f.ends, f.small);
+      }

@@ -1,7 +1,7 @@
 -- A loop over slots, items or words as a repetition: one turn, the end, two parts, and turns that change nothing; and what a loop of
 -- writes keeps.
 -- Assumes nothing.
-use Prim.Native.Nat.{ℕ, zero, suc, ◌+◌, ◌-◌, ◌≤◌, ◌<◌}
+use Prim.Native.Nat.{ℕ, zero, suc, ◌+◌, ◌-◌, ◌≤◌, ◌<◌, min}
 use mathlib.Core.Path.{◌≡◌, refl, sym, ◌∙◌, ap, subst}
 use mathlib.Core.List.{List}
 use native.Mathlib.Omega.{arith}
@@ -19,6 +19,17 @@ over-turn F i to b h =
 
 pub over-end : (F : ℕ → List ℕ → List ℕ) (i to : ℕ) (b : List ℕ) → to ≤ i → over F i to b ≡ b
 over-end F i to b h = let n : to - i ≡ 0 = omega arith in ap (λ (n : ℕ). times F i n b) n
+
+-- from the end on there is no turn, wherever they would start
+pub over-low : (F : ℕ → List ℕ → List ℕ) (from to : ℕ) (b : List ℕ) → over F (min from to) to b ≡ over F from to b
+over-low F from to b = ap (λ (n : ℕ). times F (min from to) n b) e ∙ go (to - from) refl
+  where
+    e : to - min from to ≡ to - from
+    e = omega arith
+
+    go : (n : ℕ) → to - from ≡ n → times F (min from to) n b ≡ times F from n b
+    go zero q = refl
+    go (suc n) q = let l : min from to ≡ from = omega (arith, q) in ap (λ (i : ℕ). times F i (suc n) b) l
 
 pub times_none : (F : ℕ → List ℕ → List ℕ) (lo n : ℕ) (b : List ℕ) → ((j : ℕ) → lo ≤ j → j < lo + n → F j b ≡ b) → times F lo n b ≡ b
 times_none F lo zero b h = refl

@@ -13,13 +13,14 @@ pub struct Content {
     pub third: u32,
 }
 
+// A constant, and no `Default`, which would not say that such a cell holds nothing.
 pub const EMPTY: Content = Content {
     entry: 0,
     second: 0,
     third: 0,
 };
 
-// The words of a cell at place n.
+// The words of a cell at place n, one by one: `copy_from_slice` would want them in an array first.
 fn store(book: &mut [u32], n: usize, width: u32, c: Content)
     requires width_in_bounds { n + width ≤ length book.old }
     requires le_width { (1 ≤ width) × (width ≤ 3) }

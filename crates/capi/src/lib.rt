@@ -17,7 +17,7 @@ use checking::check;
 use engine::list;
 use header::lay::lay;
 use header::settings::book_len;
-use model::{Answer, Asked, Charged, Guest, Request, Tariff};
+use model::{Answer, Asked, Charged, Guest, Refusal, Request, Tariff};
 use parties::party;
 
 // An answer as three words: a number, which is 0 where the call is done, a place and a value.
@@ -70,12 +70,12 @@ fn told(a: Answer) -> AnswerWords
     ensures { words_of result ≡ answer_words a }
 {
     match a {
-        Answer::Done(value) => AnswerWords {
+        Ok(value) => AnswerWords {
             number: 0,
             place: 0,
             value,
         },
-        Answer::Refused { number, place } => AnswerWords {
+        Err(Refusal { number, place }) => AnswerWords {
             number,
             place,
             value: 0,
@@ -245,8 +245,8 @@ fn told_cents(c: Charged) -> ChargedWords
     ensures { charge_of result ≡ charged_words c }
 {
     match c {
-        Charged::Cents(value) => charged_words(0, 0, value),
-        Charged::Refused { number, place } => charged_words(number, place, 0),
+        Ok(value) => charged_words(0, 0, value),
+        Err(Refusal { number, place }) => charged_words(number, place, 0),
     }
 }
 

@@ -3,7 +3,7 @@
 use Prim.Native.Nat.{ℕ, zero, suc, ◌*◌, ◌^◌, ◌-◌, ◌≤◌, ◌<◌, min}
 use mathlib.Core.Path.{◌≡◌, refl, sym, ◌∙◌, ap, subst}
 use mathlib.Core.Bool.{Bool, true, false, ◌&&◌, cond}
-use mathlib.Core.Option.{none, some}
+use Rattle.std.specs.Prelude.{None, Some}
 use mathlib.Core.List.{List}
 use native.Mathlib.Omega.{arith}
 use lib.Dec.{leb, ltb, eqb}
@@ -43,7 +43,7 @@ module _ (S : Settings) (caps b : List ℕ) (r : Ranges S) (cs : Caps S caps) wh
   seats-same d g m h l = rw (inside-by S lunch_triples d m h l) (go (eqb (at S b lunch_triples d m 0) (suc g)))
     where
       go : (t : Bool)
-          → seats_of (cond t (some (record { seats = at S b lunch_triples d m 1; info = at S b lunch_triples d m 2 })) none) ≡ cond t
+          → seats_of (cond t (Some (record { seats = at S b lunch_triples d m 1; info = at S b lunch_triples d m 2 })) None) ≡ cond t
           (at S b lunch_triples d m 1) 0
       go true = refl
       go false = refl

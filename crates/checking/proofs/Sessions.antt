@@ -5,8 +5,8 @@ use mathlib.Core.Bool.{Bool}
 use mathlib.Core.List.{List}
 use native.Mathlib.Omega.{arith}
 use lib.ListN.{length, get_or}
-use Rattle.rules.specs.Rows.{Barred, Attended, Paired, Padded}
-use Rattle.checking.specs.Days.{Session, Blanks}
+use Rattle.rules.specs.Rows.{Barred, Attended, Blank, Paired, Padded}
+use Rattle.checking.specs.Days.{Session}
 use Rattle.rules.proofs.Barring.{cell-member, member-cell}
 
 -- a session
@@ -33,13 +33,13 @@ module _ (stand attend conf bounds : List ℕ) (rooms meetings : ℕ) (t : List 
     beside = s.beside j h;
   }
 
-pub session-blank : (stand attend conf bounds : List ℕ) (rooms meetings : ℕ) → Padded stand meetings → Blanks attend conf
+pub session-blank : (stand attend conf bounds : List ℕ) (rooms meetings : ℕ) → Padded stand meetings → Blank attend → Blank conf
     → Session stand attend conf bounds rooms meetings
-session-blank stand attend conf bounds rooms meetings p z = record {
+session-blank stand attend conf bounds rooms meetings p a c = record {
   pad = p;
-  attends = λ i h. omega (arith, z.first i);
-  attended = λ i m h e. absurd (omega (arith, e, z.first i));
-  within = λ j h. omega (arith, z.second (j * 2));
-  stands = λ j m h e. absurd (omega (arith, e, z.second (j * 2)));
-  beside = λ j h e. z.second (j * 2 + 1);
+  attends = λ i h. omega (arith, a i);
+  attended = λ i m h e. absurd (omega (arith, e, a i));
+  within = λ j h. omega (arith, c (j * 2));
+  stands = λ j m h e. absurd (omega (arith, e, c (j * 2)));
+  beside = λ j h e. c (j * 2 + 1);
 }

@@ -8,8 +8,8 @@ use mathlib.Core.List.{List}
 use native.Mathlib.Omega.{arith}
 use lib.ListN.{length, take, drop}
 use Rattle.model.specs.declared.Settings.{Settings}
-use Rattle.model.specs.declared.Answer.{Answer}
-use Rattle.model.specs.declared.Answer.TheVariants.{Done, Refused}
+use Rattle.model.specs.Answers.{Answer}
+use Rattle.model.specs.Answers.{done_with, refused_with}
 use Rattle.model.specs.Machine.{Call}
 use Rattle.model.specs.Words.{diary_length}
 use Rattle.model.specs.Reading.{settings_of}
@@ -21,20 +21,20 @@ use Rattle.model.specs.Calls.{Called, refusing, call_on, check}
 use Rattle.book.specs.Good.{GoodBook}
 
 module _ (b : List ℕ) where
-  pub check-one : well_laid b ≡ false → check b ≡ Refused 1 0
+  pub check-one : well_laid b ≡ false → check b ≡ refused_with 1 0
   unfolding check
   check-one e = rw e
 
-  pub check-two : well_laid b ≡ true → lawful b ≡ false → check b ≡ Refused 2 0
+  pub check-two : well_laid b ≡ true → lawful b ≡ false → check b ≡ refused_with 2 0
   unfolding check
   check-two e f = rw (e, f)
 
-  pub check_done : well_laid b ≡ true → lawful b ≡ true → check b ≡ Done 0
+  pub check_done : well_laid b ≡ true → lawful b ≡ true → check b ≡ done_with 0
   unfolding check
   check_done e f = rw (e, f)
 
   -- done: the book passes questions 1 and 2
-  pub done-good : (n : ℕ) → check b ≡ Done n → GoodBook (settings_of b) b
+  pub done-good : (n : ℕ) → check b ≡ done_with n → GoodBook (settings_of b) b
   done-good n e = go (well_laid b) refl (lawful b) refl
     where
       go : (p : Bool) → well_laid b ≡ p → (q : Bool) → lawful b ≡ q → GoodBook (settings_of b) b
@@ -42,18 +42,18 @@ module _ (b : List ℕ) where
       go true p false q = let h = check-two p q in let z : ◌≡◌ {A = ℕ} 0 1 = cc in absurd (omega arith)
       go false p q r = let h = check-one p in let z : ◌≡◌ {A = ℕ} 0 1 = cc in absurd (omega arith)
 
-pub done_refused : {n p v : ℕ} {A : Type 0} → Done v ≡ Refused n p → A
+pub done_refused : {n p v : ℕ} {A : Type 0} → done_with v ≡ refused_with n p → A
 done_refused e = absurd (let z : ◌≡◌ {A = ℕ} 0 1 = cc in omega arith)
 
 -- a call of any sort on a book that question 1 or 2 refuses: it is told so, and the book stays
 abbrev refused_by : List ℕ → Call → Answer → Called
 refused_by b c a = record { reply = refusing c a; book = b }
 
-pub call-refused : (b : List ℕ) (c : Call) {n p : ℕ} → check b ≡ Refused n p → refused_by b c (Refused n p) ≡ call_on b c
+pub call-refused : (b : List ℕ) (c : Call) {n p : ℕ} → check b ≡ refused_with n p → refused_by b c (refused_with n p) ≡ call_on b c
 unfolding check call_on
 call-refused b c {n} {p} e = go (well_laid b) refl (lawful b) refl e
   where
-    go : (o : Bool) → well_laid b ≡ o → (t : Bool) → lawful b ≡ t → check b ≡ Refused n p → refused_by b c (Refused n p) ≡ call_on b c
+    go : (o : Bool) → well_laid b ≡ o → (t : Bool) → lawful b ≡ t → check b ≡ refused_with n p → refused_by b c (refused_with n p) ≡ call_on b c
     go true q true s e = done_refused (rw (q, s) at e)
     go true q false s e = rw (q, s) (ap (refused_by b c) (sym (rw (q, s) at e)))
     go false q t s e = rw q (ap (refused_by b c) (sym (rw q at e)))

@@ -7,11 +7,6 @@ use Rattle.model.specs.Words.{groups}
 use Rattle.rules.specs.Rows.{Blank, Padded, row_at, seats_in}
 use Rattle.pool.specs.Pool.{member}
 
--- two rows of zeros
-pub record Blanks (row other : List ℕ) : Type 0 where
-  pub first : Blank row
-  pub second : Blank other
-
 -- one session of a date, by the most that a visitor may hold
 pub record Session (stand attend conf bounds : List ℕ) (rooms meetings : ℕ) : Type 0 where
   pub pad : Padded stand meetings

@@ -10,7 +10,7 @@ ghost use Rattle.model.specs.Calls;
 
 use book::grid::site_of;
 use header::settings;
-use model::Answer;
+use model::{Answer, Refusal};
 use ring::law;
 use rules::tables;
 
@@ -42,16 +42,16 @@ pub fn check(book: &[u32]) -> Answer
     ensures { result ≡ Calls.check book.now }
 {
     if !settings::well_laid(book) {
-        return Answer::Refused {
+        return Err(Refusal {
             number: 1,
             place: 0,
-        };
+        });
     }
     if !book_lawful(book) {
-        return Answer::Refused {
+        return Err(Refusal {
             number: 2,
             place: 0,
-        };
+        });
     }
-    Answer::Done(0)
+    Ok(0)
 }

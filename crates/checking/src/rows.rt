@@ -15,7 +15,7 @@ pub fn row_of(cells: &[u32], i: usize, width: usize, n: usize) -> &[u32]
     &cells[at..end]
 }
 
-// Each of n rows of `width` cells.
+// Each of n rows of `width` cells. By index: over `chunks_exact` it is not proved that what comes is row i.
 pub fn guest_rows(
     cells: &[u32],
     n: usize,
@@ -28,13 +28,11 @@ pub fn guest_rows(
     requires cells_len { length cells.now ≡ n * width }
     ensures { Decides result ((i : ℕ) → i < n → Guests (row_at width i cells.now) limit table.now) }
 {
-    let mut i: usize = 0;
-    while i < n {
+    for i in 0..n {
         let row = row_of(cells, i, width, n);
         if !guest_row(row, table, seen, limit) {
             return false;
         }
-        i += 1;
     }
     true
 }

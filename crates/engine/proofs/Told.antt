@@ -2,7 +2,7 @@
 -- Assumes nothing.
 use Prim.Native.Nat.{ℕ}
 use mathlib.Core.Path.{◌≡◌, refl, sym, ◌∙◌, ap, ap₂}
-use mathlib.Core.Option.{Option, none, some}
+use Rattle.std.specs.Prelude.{Option, None, Some}
 use mathlib.Core.List.{List, [], ◌∷◌, ◌++◌, append-nil}
 use lib.ListN.{drop}
 use Rattle.model.specs.declared.Settings.{Settings}
@@ -20,8 +20,8 @@ use Rattle.step.proofs.Kept.{told_answer, order-tellable, good-calls}
 
 -- it is all that the order gives back
 order-told : (l : Ledger) (n : ℕ) (r : Request) (o : Option ℕ) → (answer_order l n r o).reply ≡ told (told_answer (answer_order l n r o).reply)
-order-told l n r none = refl
-order-told l n r (some i) = refl
+order-told l n r None = refl
+order-told l n r (Some i) = refl
 
 reply-back : (p : Reply) → p ≡ told (told_answer p) → Tellable (told_answer p) → (l : List ℕ) → read ((reply_words p ++ []) ++ l) ≡ told_answer p
 reply-back p e h l =

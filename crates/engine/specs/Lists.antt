@@ -1,7 +1,7 @@
 -- Lists of requests as words, and what asking gives: parts of the contracts by name.
 -- Assumes nothing.
 use Rattle.std.specs.Prelude.{ℕ, ◌+◌, ◌*◌, ◌≡◌, List, ◌++◌, take, drop}
-use Rattle.model.specs.declared.Answer.{Answer}
+use Rattle.model.specs.Answers.{Answer}
 use Rattle.model.specs.declared.Asked.{Asked}
 use Rattle.model.specs.Machine.{call_of, asked, reply_words, perform}
 use Rattle.model.specs.Ledger.{book_words, ledger_of}

@@ -12,7 +12,7 @@ ghost use Rattle.engine.specs.Lists.{as_asked};
 
 use crate::list::answer_one;
 use header::settings::{diary_len, settings};
-use model::{Answer, Asked, Request};
+use model::{Answer, Asked, Refusal, Request};
 use ring::changes;
 use step::foresee;
 
@@ -23,10 +23,7 @@ pub fn order(book: &mut [u32], order: u32, r: Request) -> Answer
     ensures call { answered result book.new ≡ call_order book.old order r }
     ensures removal { OrderedRemovalKept book.old order r result book.new }
 {
-    let checked = checking::check(book);
-    if let Answer::Refused { number, place } = checked {
-        return Answer::Refused { number, place };
-    }
+    checking::check(book)?;
     let s = settings(book);
     answer_one(book, s, order, r)
 }
@@ -44,10 +41,9 @@ pub fn request(book: &mut [u32], r: Request) -> Answer
 pub fn ask(book: &[u32], r: Request) -> Asked
     ensures { as_asked result book.now ≡ call_ask book.now r }
 {
-    let checked = checking::check(book);
-    if let Answer::Refused { number, place } = checked {
+    if let Err(refusal) = checking::check(book) {
         return Asked {
-            answer: Answer::Refused { number, place },
+            answer: Err(refusal),
             count: 0,
         };
     }
@@ -64,15 +60,12 @@ pub fn commit(book: &mut [u32], count: u32, r: Request) -> Answer
     ensures call { answered result book.new ≡ call_commit book.old count r }
     ensures removal { RemovalKept book.old r result book.new }
 {
-    let checked = checking::check(book);
-    if let Answer::Refused { number, place } = checked {
-        return Answer::Refused { number, place };
-    }
+    checking::check(book)?;
     if changes::count(book) != count {
-        return Answer::Refused {
+        return Err(Refusal {
             number: 29,
             place: 0,
-        };
+        });
     }
     let s = settings(book);
     answer_one(book, s, 0, r)

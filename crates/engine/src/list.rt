@@ -100,10 +100,8 @@ fn answer_all(
     ensures { All width list.now n book.old answers.old book.new answers.new }
 {
     let diary = diary_len(s);
-    let mut i: usize = 0;
-    while i < n {
+    for i in 0..n {
         answer_at(book, s, diary, list, width, answers, i);
-        i += 1;
     }
 }
 
@@ -139,14 +137,11 @@ fn answer_list(book: &mut [u32], list: &[u32], width: usize, answers: &mut [u32]
     requires { (7 ≤ width) × (width ≤ 8) }
     ensures { as_listed result book.new answers.new ≡ call_list width book.old list.now answers.old }
 {
-    let checked = checking::check(book);
-    if let Answer::Refused { number, place } = checked {
-        return Answer::Refused { number, place };
-    }
+    checking::check(book)?;
     let s = settings(book);
     let n = answerable_in(list.len(), width, answers.len());
     answer_all(book, s, list, width, answers, n);
-    Answer::Done(n as u32)
+    Ok(n as u32)
 }
 
 // Requests of seven words, each as `request` would answer it.
@@ -177,14 +172,11 @@ fn serve_list(
     ensures { as_listed result book.new answers.new
         ≡ serve_list width words.now book.old list.now answers.old }
 {
-    let laid = lay(words, book);
-    if let Answer::Refused { number, place } = laid {
-        return Answer::Refused { number, place };
-    }
+    lay(words, book)?;
     let s = settings(words);
     let count = answerable_in(list.len(), width, answers.len());
     answer_all(book, s, list, width, answers, count);
-    Answer::Done(count as u32)
+    Ok(count as u32)
 }
 
 // The same with requests of seven words, and with requests of eight.

@@ -4,17 +4,24 @@ use Prim.Native.Nat.{ℕ, zero, suc, ◌+◌, ◌*◌, ◌≤◌, ◌<◌}
 use native.Mathlib.Omega.{arith}
 use mathlib.Core.Path.{◌≡◌, refl, sym, ◌∙◌, ap, ap₂}
 use mathlib.Core.Logic.{◌⊎◌, inl, inr}
-use mathlib.Core.Bool.{true}
+use mathlib.Core.Bool.{Bool, true, false, cond}
 use mathlib.Core.List.{List, [], ◌∷◌}
 use lib.ListN.{length, take, drop, get_or, get_or-eq_default}
-use lib.Seq.{get_or-take, length-take-le, take-length, take-take}
+use lib.Seq.{get_or-take, length-take-le, take-take}
 use Rattle.model.specs.Messages.{request_length, request_of}
 use Rattle.model.specs.Machine.{ordered, call_of}
 use Rattle.model.specs.Text.{shown}
 use Rattle.model.specs.Lines.{is_frame, line_words}
 use Rattle.model.proofs.Search.{and_left, and_right, both}
 use Rattle.text.specs.Digits.{is_digit, digits_only}
-use Rattle.framing.specs.Frame.{request_digits, order_digits, word_at, request_at, LineEnd}
+use Rattle.std.specs.Prelude.{Some, None, position}
+use Rattle.std.specs.List.{position_from}
+use Rattle.std.proofs.lemmas.Option.{none-some}
+use Rattle.std.proofs.lemmas.List.Quantifiers.{position-Some}
+use Rattle.std.proofs.lemmas.Iterator.Adapters.{position_from-zero}
+use borrow.Author.Tests.{eqb-true, eqb-false}
+use lib.Dec.{eqb}
+use Rattle.framing.specs.Frame.{request_digits, order_digits, word_at, request_at}
 use Rattle.framing.specs.Front.{Free, Leads, NoFrame}
 use Rattle.framing.proofs.Framing.{FrameLength, words-length, word-is, is-frame, no-frame, frame-length, frame-digits}
 
@@ -31,6 +38,16 @@ free-at : (l : List ℕ) → ((k : ℕ) → k < length l → get_or l k 0 ≡ 10
 unfolding Free
 free-at [] f = tt
 free-at (x ∷ xs) f = (f 0 (omega arith), free-at xs (λ k h. f (suc k) (omega arith)))
+
+free-from : (l : List ℕ) (i : ℕ) → None ≡ position_from (λ b. eqb b 10) i l → Free l
+unfolding Free
+free-from [] i h = tt
+free-from (b ∷ l) i h = by (eqb b 10) refl h (free-from l (i + 1))
+  where
+    by : (t : Bool) → eqb b 10 ≡ t → None ≡ cond t (Some i) (position_from (λ b. eqb b 10) (i + 1) l) → (None ≡ position_from (λ b. eqb b 10) (i + 1) l → Free l)
+        → (b ≡ 10 → ⊥) × Free l
+    by true e h f = absurd (none-some i h)
+    by false e h f = (eqb-false b 10 e, f h)
 
 -- a part of a line is that part of the input
 part_of : (k m n : ℕ) (l : List ℕ) → m + k ≤ n → take k (drop m (take n l)) ≡ take k (drop m l)
@@ -97,16 +114,15 @@ module _ (l : List ℕ) where
       bad f (inr m) = g (line order_digits f m)
 
   -- a line that is found by its byte 10
-  pub line-free : (n : ℕ) → LineEnd l n → Free (take n l)
-  line-free n e =
-      let s = length-take-le n l e.within in
-      free-at (take n l) (λ k h g. e.before k (omega arith) (sym (get_or-take n l k 0 (omega arith)) ∙ g))
+  pub line-leads : (n : ℕ) → Some n ≡ position (λ b. eqb b 10) l → Leads l n
+  line-leads n e =
+      let p = position-Some (λ b. eqb b 10) l n 0 (sym e) in
+      let s = length-take-le n l (omega (arith, p.0)) in
+      record {
+        inside = p.0;
+        free = free-at (take n l) (λ k h g. eqb-false (get_or l k 0) 10 (p.2 k (omega arith)) (sym (get_or-take n l k 0 (omega arith)) ∙ g));
+        ends = eqb-true (get_or l n 0) 10 p.1;
+      }
 
-  pub all-free : (n : ℕ) → LineEnd l n → n ≡ length l → Free l
-  all-free n e h = rw (h, take-length l) at (line-free n e)
-
-  pub end-leads : (n : ℕ) → LineEnd l n → (n ≡ length l → ⊥) → Leads l n
-  end-leads n e h =
-      let w = e.within in
-      let i : n < length l = omega arith in
-      record { inside = i; free = line-free n e; ends = e.found i }
+  pub all-free : None ≡ position (λ b. eqb b 10) l → Free l
+  all-free e = free-from l 0 (e ∙ position_from-zero (λ b. eqb b 10) l)

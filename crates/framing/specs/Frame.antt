@@ -1,11 +1,10 @@
--- Lines as the code takes them apart: the words of a frame line in front of the input, and a line's end.
+-- The words of a frame line in front of the input.
 -- Assumes nothing.
-use Rattle.std.specs.Prelude.{ℕ, ◌*◌, ◌≤◌, ◌<◌, ◌≡◌, true, List, length, take, drop, get_or}
+use Rattle.std.specs.Prelude.{ℕ, ◌*◌, cond, List, Option, Some, None, take, drop}
 use Rattle.model.specs.declared.Request.{Request}
 use Rattle.model.specs.Messages.{request_length, order_length}
 use Rattle.model.specs.Text.{shown}
 use Rattle.text.specs.Digits.{digits_only}
-use Rattle.framing.specs.declared.frame.Asked.{Asked}
 
 -- the digits of a request's words, and those with the number of its order behind them
 abbrev pub request_digits : ℕ
@@ -30,13 +29,6 @@ request_at l =
       info = word_at l 6;
     }
 
--- r is what the first seven words are read as
-pub record AskedIn (l : List ℕ) (r : Asked) : Type 0 where
-  pub all : r.digits ≡ digits_only (take request_digits l)
-  pub shows : digits_only (take request_digits l) ≡ true → r.request ≡ request_at l
-
--- r is the index of the first byte 10 of l, or l's length
-pub record LineEnd (l : List ℕ) (r : ℕ) : Type 0 where
-  pub within : r ≤ length l
-  pub before : (k : ℕ) → k < r → get_or l k 0 ≡ 10 → ⊥
-  pub found : r < length l → get_or l r 0 ≡ 10
+-- the request that the first seven words show, if all their bytes are digits
+abbrev pub request_in : List ℕ → Option Request
+request_in l = cond (digits_only (take request_digits l)) (Some (request_at l)) None

@@ -1,15 +1,16 @@
 // Lines: what stands at the front of the input, the words of a settings line, and the line of an answer.
-ghost use Rattle.std.specs.Prelude.{◌≡◌, true, ◌+◌, ◌*◌, ◌/◌, ◌<◌, ◌≤◌, length, take};
+ghost use Rattle.std.specs.Prelude.{◌≡◌, ◌==◌, true, ◌+◌, ◌/◌, ◌≤◌, length, take, position};
+ghost use Rattle.std.specs.List.{list_all};
 ghost use Rattle.model.specs.Messages.{answer_words};
 ghost use Rattle.model.specs.Text.{hexadecimal};
 ghost use Rattle.model.specs.Lines.{whole_words, line_words, answer_line, answer_digits, answer_bytes};
-ghost use Rattle.text.specs.Digits.{digits_only};
+ghost use Rattle.text.specs.Digits.{is_digit, digits_only};
 ghost use Rattle.text.specs.Put.{Put};
-ghost use Rattle.framing.specs.Frame.{LineEnd, request_at};
+ghost use Rattle.framing.specs.Frame.{request_at};
 ghost use Rattle.framing.specs.Front.{NoFrame, DigitsAhead, NextOf};
 
 use crate::frame::{ORDER_DIGITS, REQUEST_DIGITS, request_ahead};
-use model::{Answer, Request};
+use model::{Answer, Refusal, Request};
 use text::hex::{put_word, word_at};
 use text::store::put;
 
@@ -18,18 +19,11 @@ const ANSWER_DIGITS: usize = 8 * 3;
 
 pub const ANSWER_BYTES: usize = ANSWER_DIGITS + 1;
 
-// The index of the first byte 10, or the length where there is none.
-pub fn line_end(s: &[u8]) -> usize
-    ensures { LineEnd s.now result }
+// The index of the first byte 10, if there is one.
+pub fn line_end(s: &[u8]) -> Option<usize>
+    ensures { result ≡ position (λ b. b == 10) s.now }
 {
-    let mut i = 0;
-    while i < s.len() {
-        if s[i] == 10 {
-            return i;
-        }
-        i += 1;
-    }
-    i
+    s.iter().position(|b| *b == 10)
 }
 
 // What stands at the front of the input: a frame line of some length, with its call; another line of some length; or a line that is not
@@ -50,11 +44,10 @@ fn other(s: &[u8]) -> Next
     requires { NoFrame s.now }
     ensures { NextOf s.now result }
 {
-    let n = line_end(s);
-    if n == s.len() {
-        return Next::Partial;
+    match line_end(s) {
+        Some(n) => Next::Other(n),
+        None => Next::Partial,
     }
-    Next::Other(n)
 }
 
 // The first line where the digits of a request stand in front: they are a frame where byte 10 ends them, and with a word more where byte 10
@@ -74,16 +67,15 @@ fn framed(s: &[u8], request: Request) -> Next
     if s.len() <= ORDER_DIGITS {
         return other(s);
     }
-    let order = word_at(s, REQUEST_DIGITS);
-    if !order.digits {
+    let Some(order) = word_at(s, REQUEST_DIGITS) else {
         return other(s);
-    }
+    };
     if s[ORDER_DIGITS] != 10 {
         return other(s);
     }
     Next::Frame {
         len: ORDER_DIGITS,
-        order: order.word,
+        order,
         request,
     }
 }
@@ -96,30 +88,31 @@ pub fn look(s: &[u8]) -> Next
     if s.len() <= REQUEST_DIGITS {
         return other(s);
     }
-    let front = request_ahead(s);
-    if !front.digits {
-        return other(s);
+    match request_ahead(s) {
+        Some(request) => framed(s, request),
+        None => other(s),
     }
-    let request = front.request;
-    framed(s, request)
 }
 
-// Whether a line is whole words. There is no early end, since a settings line is whole words as a rule.
+// A byte is one of the sixteen digits.
+fn is_digit(b: u8) -> bool
+    ensures { result ≡ is_digit b }
+{
+    matches!(b, b'0'..=b'9' | b'a'..=b'f')
+}
+
+// All bytes of a line are digits.
+fn all_digits(line: &[u8]) -> bool
+    ensures { result ≡ list_all (λ b. is_digit b) line.now }
+{
+    line.iter().all(|b| is_digit(*b))
+}
+
+// Whether a line is whole words: digits alone, eight to a word.
 pub fn whole_words(line: &[u8]) -> bool
     ensures { result ≡ whole_words line.now }
 {
-    if line.len() % 8 != 0 {
-        return false;
-    }
-    let n = line.len() / 8;
-    let mut all = true;
-    let mut k = 0;
-    while k < n {
-        let read = word_at(line, 8 * k);
-        all = all & read.digits;
-        k += 1;
-    }
-    all
+    all_digits(line) && line.len() % 8 == 0
 }
 
 // The words of a line, at the front of `words`.
@@ -128,12 +121,8 @@ pub fn line_words(line: &[u8], words: &mut [u32])
     requires line_in_bounds { length line.now / 8 ≤ length words.old }
     ensures { take (length line.now / 8) words.new ≡ line_words line.now }
 {
-    let n = line.len() / 8;
-    let mut k = 0;
-    while k < n {
-        let read = word_at(line, 8 * k);
-        words[k] = read.word;
-        k += 1;
+    for k in 0..line.len() / 8 {
+        words[k] = word_at(line, 8 * k).unwrap();
     }
 }
 
@@ -143,11 +132,11 @@ fn put_words(out: &mut [u8], at: usize, a: Answer)
     ensures { Put out.old out.new at (hexadecimal (answer_words a)) }
 {
     match a {
-        Answer::Done(value) => {
+        Ok(value) => {
             put(out, at, b"0000000000000000");
             put_word(out, at + 16, value);
         }
-        Answer::Refused { number, place } => {
+        Err(Refusal { number, place }) => {
             put_word(out, at, number);
             put_word(out, at + 8, place);
             put(out, at + 16, b"00000000");

@@ -2,13 +2,13 @@
 -- Assumes nothing.
 use Prim.Native.Nat.{ℕ, ◌≤◌, ◌<◌}
 use mathlib.Core.Path.{◌≡◌, refl, sym, ◌∙◌, ap}
-use mathlib.Core.Bool.{Bool, true, false, not, ◌&&◌, ◌||◌, cond, and_assoc, and-true, or-false}
+use mathlib.Core.Bool.{Bool, true, false, not, ◌&&◌, and_assoc, and-true}
 use mathlib.Core.List.{List}
 use native.Mathlib.Omega.{arith}
 use lib.Dec.{leb, ltb, eqb}
 use lib.ListN.{length, get_or, get_or-eq_default}
 use lib.Seq.{ext_get_or}
-use borrow.Author.Tests.{ltb-true, ltb-false, lt-ltb, le-ltb, leb-true, leb-false, le-leb, lt-leb, eqb-true, eq-eqb, ne_eqb}
+use borrow.Author.Tests.{ltb-true, ltb-false, le-leb, lt-leb, eqb-true, eq-eqb, ne_eqb}
 use Rattle.model.specs.declared.Settings.{Settings}
 use Rattle.model.specs.Bounded.{all, within, list}
 use Rattle.model.specs.Site.{valid_settings, fixed_words, settings_length}
@@ -23,21 +23,6 @@ use Rattle.model.proofs.ReadBack.{Valid, valid-is as model-valid}
 use Rattle.book.specs.Grids.{grid_of, end, Laid}
 use Rattle.book.proofs.Goods.{ranges-by}
 use Rattle.header.specs.Heads.{seat_good, needed_length}
-
--- the flag of a capacity that is out of its range
-abbrev pub seat_bad : Bool → ℕ → Bool
-seat_bad used x = used && (eqb x 0 || ltb 1000 x) || (not used && not (eqb x 0))
-
-pub seat-flag : (used : Bool) (x : ℕ) → seat_bad used x ≡ not (cond used (within 1 1000 x) (eqb x 0))
-seat-flag true x = go (leb 1 x) refl (leb x 1000) refl
-  where
-    go : (a : Bool) → leb 1 x ≡ a → (b : Bool) → leb x 1000 ≡ b → (eqb x 0 || ltb 1000 x) || false ≡ not (leb 1 x && leb x 1000)
-    go true e true f =
-        rw (or-false (eqb x 0 || ltb 1000 x), e, f, ne_eqb x 0 (λ q. omega (arith, q, leb-true 1 x e)), le-ltb 1000 x (leb-true x 1000 f))
-    go true e false f =
-        rw (or-false (eqb x 0 || ltb 1000 x), e, f, ne_eqb x 0 (λ q. omega (arith, q, leb-true 1 x e)), lt-ltb 1000 x (leb-false x 1000 f))
-    go false e b f = rw (e, eq-eqb x 0 (omega (arith, leb-false 1 x e)))
-seat-flag false x = refl
 
 pub seats-by : (f : ℕ → ℕ) (l : List ℕ) → length l ≡ 16 → ((k : ℕ) → k < 16 → get_or l k 0 ≡ f k) → l ≡ list f 16
 seats-by f l n h = ext_get_or 0 l (list f 16) (n ∙ sym (length-list f 16)) (λ k g. h k (omega arith) ∙ sym (get_d-list f 16 k (omega arith)))

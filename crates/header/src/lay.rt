@@ -4,22 +4,16 @@ ghost use Rattle.model.specs.Calls;
 ghost use Rattle.book.specs.Good.{answered};
 
 use crate::settings::{length_of, settings, settings_good};
-use model::Answer;
+use model::{Answer, Refusal};
 
 // The words, then zeros to the end of the book.
 fn fill(words: &[u32], book: &mut [u32])
     requires { length words.now ≤ length book.old }
     ensures { book.new ≡ words.now ++ replicate (length book.old - length words.now) 0 }
 {
-    let mut i: usize = 0;
-    while i < words.len() {
-        book[i] = words[i];
-        i += 1;
-    }
-    while i < book.len() {
-        book[i] = 0;
-        i += 1;
-    }
+    let (head, rest) = book.split_at_mut(words.len());
+    head.copy_from_slice(words);
+    rest.fill(0);
 }
 
 // Questions 24 and 25, and a fresh book under the settings.
@@ -27,18 +21,18 @@ pub fn lay(words: &[u32], book: &mut [u32]) -> Answer
     ensures { answered result book.new ≡ Calls.lay words.now book.old }
 {
     if !settings_good(words) {
-        return Answer::Refused {
+        return Err(Refusal {
             number: 24,
             place: 0,
-        };
+        });
     }
     let needed = length_of(settings(words));
     if book.len() != needed {
-        return Answer::Refused {
+        return Err(Refusal {
             number: 25,
             place: 0,
-        };
+        });
     }
     fill(words, book);
-    Answer::Done(0)
+    Ok(0)
 }

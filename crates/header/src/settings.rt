@@ -1,5 +1,5 @@
 // The settings at the head of a book, and question 1: limits, early times and capacities in range, and the length that they ask for.
-ghost use Rattle.std.specs.Prelude.{◌≡◌, ◌<◌, length, get_or};
+ghost use Rattle.std.specs.Prelude.{◌≡◌, ◌<◌, ◌==◌, nat_lt, cond, length, get_or};
 ghost use Rattle.model.specs.Bounded.{all, within, list};
 ghost use Rattle.model.specs.Site.{valid_settings};
 ghost use Rattle.model.specs.Words.{diary_length};
@@ -21,7 +21,7 @@ pub const BEHIND_WORDS: usize = 706;
 fn word(words: &[u32], i: usize) -> u32
     ensures { result ≡ get_or words.now i 0 }
 {
-    if i < words.len() { words[i] } else { 0 }
+    words.get(i).copied().unwrap_or(0)
 }
 
 // The capacity of dining room g, and 0 where there is no such room.
@@ -35,14 +35,13 @@ fn seat(words: &[u32], dining: u32, g: usize) -> u32
     word(words, FIXED_WORDS + g)
 }
 
+// By index: of an array from a function it is not proved that it is that list.
 fn seats(words: &[u32], dining: u32) -> [u32; 16]
     ensures { result ≡ list (seat_of words.now dining) 16 }
 {
-    let mut all = [0u32; 16];
-    let mut g: usize = 0;
-    while g < 16 {
+    let mut all = [0; 16];
+    for g in 0..16 {
         all[g] = seat(words, dining, g);
-        g += 1;
     }
     all
 }
@@ -73,21 +72,27 @@ fn in_range(x: u32, most: u32) -> bool
     (1 <= x) & (x <= most)
 }
 
+// Is the capacity of dining room g in its range, or 0 where there is no such room?
+fn seat_good(dining: u32, g: u32, cap: u32) -> bool
+    ensures { result ≡ cond (nat_lt g dining) (within 1 1000 cap) (cap == 0) }
+{
+    if g < dining {
+        in_range(cap, 1000)
+    } else {
+        cap == 0
+    }
+}
+
 // Each capacity is in its range, and those that are not used are 0.
 fn seats_good(s: Settings) -> bool
     requires { length s.capacities ≡ 16 }
     ensures { result ≡ all (seat_good s) 16 }
 {
-    let dining = s.dining;
     let caps = s.capacities;
-    let mut g: usize = 0;
-    while g < 16 {
-        let x = caps[g];
-        let used = (g as u32) < dining;
-        if used & ((x == 0) | (1000 < x)) | !used & (x != 0) {
+    for g in 0..16 {
+        if !seat_good(s.dining, g as u32, caps[g]) {
             return false;
         }
-        g += 1;
     }
     true
 }
@@ -134,7 +139,8 @@ pub fn settings_good(words: &[u32]) -> bool
     valid(s)
 }
 
-// The length of the book that settings ask for, and 0 for settings that question 24 refuses.
+// The length of the book that settings ask for, and 0 for settings that question 24 refuses: C is told the number as it is, and no book
+// has 0 words.
 pub fn book_len(words: &[u32]) -> usize
     ensures { result ≡ needed_length words.now }
 {

@@ -3,11 +3,10 @@
 use Prim.Native.Nat.{ℕ}
 use mathlib.Core.Path.{◌≡◌, refl, sym, ◌∙◌, ap, ap₂, subst}
 use mathlib.Core.Bool.{Bool, true, false, cond}
-use mathlib.Core.Option.{Option, none, some}
+use Rattle.std.specs.Prelude.{Option, None, Some}
 use mathlib.Core.List.{List}
 use native.Mathlib.Omega.{arith}
 use Rattle.book.specs.declared.grid.Grids.{Grids}
-use Rattle.book.specs.Founds.{found_of}
 use Rattle.book.specs.Grids.{grids_of}
 use Rattle.book.specs.Good.{Good}
 use Rattle.kinds.specs.declared.table.Row.{Row}
@@ -18,8 +17,8 @@ use Rattle.judge.specs.Chains.{add_stay, attend_adds, conf_adds, lunch_adds, lun
 use Rattle.questions.proofs.Pairs.{present-fails, absent-fails, free-fails, elsewhere-a-fails, elsewhere-v-fails}
 use Rattle.model.specs.declared.Settings.{Settings}
 use Rattle.model.specs.declared.Request.{Request}
-use Rattle.model.specs.declared.Answer.{Answer}
-use Rattle.model.specs.declared.Answer.TheVariants.{Done}
+use Rattle.model.specs.Answers.{Answer}
+use Rattle.model.specs.Answers.{done_with}
 use Rattle.model.specs.Bounded.{failing, found, is_some, within}
 use Rattle.model.specs.Site.{capacity}
 use Rattle.model.specs.State.{hotels, rides, attends, confs, lunches}
@@ -36,60 +35,60 @@ use Rattle.judge.proofs.Whole.{ready, past-seven}
 use Rattle.model.proofs.Search.{failing-at, none-failing}
 
 -- a question whose search agrees, before others and as the last; a question that is the same
-step : (n : ℕ) {o u : Option ℕ} {next later : Answer} → o ≡ u → next ≡ later → asked n (found_of o) next ≡ asked n (found_of u) later
-step n e f = ap₂ (λ (o : Option ℕ) (a : Answer). asked n (found_of o) a) e f
+step : (n : ℕ) {o u : Option ℕ} {next later : Answer} → o ≡ u → next ≡ later → asked n (o) next ≡ asked n (u) later
+step n e f = ap₂ (λ (o : Option ℕ) (a : Answer). asked n (o) a) e f
 
 -- a question that finds nothing leaves what the next may use
-then : (n : ℕ) {o u : Option ℕ} {next later : Answer} → o ≡ u → (u ≡ none → next ≡ later) → asked n (found_of o) next ≡ asked n (found_of u) later
-then n {o} {u} {next} {later} e f = ap (λ (o : Option ℕ). asked n (found_of o) next) e ∙ go u f
+then : (n : ℕ) {o u : Option ℕ} {next later : Answer} → o ≡ u → (u ≡ None → next ≡ later) → asked n (o) next ≡ asked n (u) later
+then n {o} {u} {next} {later} e f = ap (λ (o : Option ℕ). asked n (o) next) e ∙ go u f
   where
-    go : (u : Option ℕ) → (u ≡ none → next ≡ later) → asked n (found_of u) next ≡ asked n (found_of u) later
-    go none f = f refl
-    go (some i) f = refl
+    go : (u : Option ℕ) → (u ≡ None → next ≡ later) → asked n (u) next ≡ asked n (u) later
+    go None f = f refl
+    go (Some i) f = refl
 
-last : (n : ℕ) {o u : Option ℕ} → o ≡ u → asked n (found_of o) (Done 0) ≡ asked n (found_of u) (Done 0)
-last n e = ap (λ (o : Option ℕ). asked n (found_of o) (Done 0)) e
+last : (n : ℕ) {o u : Option ℕ} → o ≡ u → asked n (o) (done_with 0) ≡ asked n (u) (done_with 0)
+last n e = ap (λ (o : Option ℕ). asked n (o) (done_with 0)) e
 
-same : (n : ℕ) (o : Option ℕ) {next later : Answer} → next ≡ later → asked n (found_of o) next ≡ asked n (found_of o) later
-same n o f = ap (asked n (found_of o)) f
+same : (n : ℕ) (o : Option ℕ) {next later : Answer} → next ≡ later → asked n (o) next ≡ asked n (o) later
+same n o f = ap (asked n (o)) f
 
 -- a question of the request as a whole
-pub whole_is : (n : ℕ) (t : Bool) (next : Answer) → tested n t next ≡ asked n (found_of (cond t none (some 0))) next
+pub whole_is : (n : ℕ) (t : Bool) (next : Answer) → tested n t next ≡ asked n ((cond t None (Some 0))) next
 whole_is n true next = refl
 whole_is n false next = refl
 
 -- a search of one slot
-one-slot : (t : ℕ → Bool) (i : ℕ) → failing t i i ≡ cond (t i) none (some i)
+one-slot : (t : ℕ → Bool) (i : ℕ) → failing t i i ≡ cond (t i) None (Some i)
 one-slot t i = go (t i) refl
   where
-    go : (b : Bool) → t i ≡ b → failing t i i ≡ cond b none (some i)
+    go : (b : Bool) → t i ≡ b → failing t i i ≡ cond b None (Some i)
     go true e = none-failing t i i (λ j l h. let q : j ≡ i = omega (arith, l, h) in rw q e)
     go false e = failing-at t i i i (omega arith) (omega arith) e (λ j l h. absurd (omega (arith, l, h)))
 
 -- what is found is the value, and where nothing is the question is answered no
-found-is : (n place : ℕ) (o : Option ℕ) → found_or n place (found_of o)
-    ≡ asked n (found_of (cond (is_some o) none (some place))) (Done (found o (λ k. k)))
-found-is n place none = refl
-found-is n place (some k) = refl
+found-is : (n place : ℕ) (o : Option ℕ) → found_or n place (o)
+    ≡ asked n ((cond (is_some o) None (Some place))) (done_with (found o (λ k. k)))
+found-is n place None = refl
+found-is n place (Some k) = refl
 
 -- kind by kind, for a book under its own settings
 module _ (b : List ℕ) (good : Good (settings_of b) b) (r : Request) where
   abbrev S : Settings
   S = settings_of b
 
-  done : ◌≡◌ {A = Answer} (Done 0) (Done 0)
+  done : ◌≡◌ {A = Answer} (done_with 0) (done_with 0)
   done = refl
 
   meeting-is : r.first ≡ r.last → (n : ℕ) (f : ℕ → Option ℕ)
-      → found_or n r.first (found_of (f r.first))
-      ≡ asked n (found_of (failing (λ i. is_some (f i)) r.first r.last)) (Done (found (f r.first) (λ k. k)))
+      → found_or n r.first ((f r.first))
+      ≡ asked n ((failing (λ i. is_some (f i)) r.first r.last)) (done_with (found (f r.first) (λ k. k)))
   meeting-is e n f =
       found-is n r.first (f r.first)
-      ∙ ap (λ (o : Option ℕ). asked n (found_of o) (Done (found (f r.first) (λ k. k))))
+      ∙ ap (λ (o : Option ℕ). asked n (o) (done_with (found (f r.first) (λ k. k))))
       (sym (one-slot (λ i. is_some (f i)) r.first) ∙ ap (λ (l : ℕ). failing (λ i. is_some (f i)) r.first l) e)
 
   kind-is : (k : Kind) → Ready (settings_of b) (row k) r → in_words (settings_of b) (grids_of (settings_of b)) b r k
-      ≡ asked_all (state_of b) r k (further k) (Done (value (state_of b) r k))
+      ≡ asked_all (state_of b) r k (further k) (done_with (value (state_of b) r k))
   unfolding state_of read_state ask test value in_words holds_in room_left not_held first_with first_without first_row_with
       add_stay attend_adds conf_adds lunch_adds lunch_fits standing_ends erase_all erase_pair
   kind-is add_leave h = refl
@@ -135,7 +134,7 @@ module _ (b : List ℕ) (good : Good (settings_of b) b) (r : Request) where
   kind-is free_room h = found-is 22 0 (lowest_free (state_of b) r.first r.last)
 
 -- for a good book: the kind's own answer, as the code finds it past question 7, is the machine's
-pub answered-by : {S : Settings} {g : Grids} {b : List ℕ} (good : Good S b) → g ≡ grids_of S → (r : Request) (k : Kind) → kind_of r.kind ≡ some k
+pub answered-by : {S : Settings} {g : Grids} {b : List ℕ} (good : Good S b) → g ≡ grids_of S → (r : Request) (k : Kind) → kind_of r.kind ≡ Some k
     → {w : Row} {n : ℕ} → w ≡ row_of S (row k) → n ≡ fields_no w r → n ≡ 0 → in_words S g b r k ≡ (machine (state_of b) r).answer
 answered-by {S} {g} {b} good grids r k is row_is first z =
     ap (λ (g : Grids). in_words S g b r k) grids

@@ -1,38 +1,44 @@
--- Questions that are all put before the first no is taken: what is found is put in its place.
+-- The code's questions one after the other: what is found is put in its place.
 -- Assumes nothing.
 use Prim.Native.Nat.{ℕ, ◌≤◌, ◌<◌}
-use mathlib.Core.Path.{◌≡◌, refl, ap, ap₂}
+use mathlib.Core.Path.{◌≡◌, refl, ◌∙◌, ap}
 use mathlib.Core.List.{List}
 use borrow.Author.Tests.{le-leb, lt-leb}
-use Rattle.book.specs.declared.found.Found.{Found}
+use native.Mathlib.Omega.{arith}
+use Rattle.std.specs.Prelude.{Option, None, Some, Result, Ok, Err, ok_or}
 use Rattle.book.specs.declared.grid.Grid.{Grid}
-use Rattle.judge.specs.Chains.{asked, lunch_adds, lunch_fits}
+use Rattle.judge.specs.Chains.{asked, ask_of, found_or, lunch_adds, lunch_fits}
 use Rattle.model.specs.declared.Settings.{Settings}
-use Rattle.model.specs.declared.Answer.{Answer}
-use Rattle.model.specs.declared.Answer.TheVariants.{Done, Refused}
+use Rattle.model.specs.declared.Refusal.{Refusal}
+use Rattle.model.specs.Answers.{Answer}
+use Rattle.model.specs.Answers.{refused_with}
 use Rattle.model.specs.Site.{capacity}
 
-next : (n : ℕ) {f g : Found} {a b : Answer} → f ≡ g → a ≡ b → asked n f a ≡ asked n g b
-next n e q = ap₂ (asked n) e q
+-- a question that the code asks, and what the machine finds for it: it is refused there, or goes on
+pub stops : (n : ℕ) {f g : Option ℕ} {a : Result (Unit {0}) Refusal} {e : Refusal} (next : Answer) → a ≡ ask_of n f → f ≡ g → a ≡ Err e
+    → ◌≡◌ {A = Answer} (Err e) (asked n g next)
+stops n {f = None} {g} {a} {e} next p q h = absurd (let z : ◌≡◌ {A = ℕ} 0 1 = cc in omega arith)
+stops n {f = Some i} {g} {a} {e} next p q h =
+    let z : e ≡ record { number = n; place = i } = cc in
+    ap Err z ∙ ap (λ (o : Option ℕ). asked n o next) q
 
-pub two : (n m : ℕ) {f f' g g' : Found} → f ≡ f' → g ≡ g' → asked n f (asked m g (Done 0)) ≡ asked n f' (asked m g' (Done 0))
-two n m e q = next n e (ap (λ (f : Found). asked m f (Done 0)) q)
+pub goes : (n : ℕ) {f g : Option ℕ} {a : Result (Unit {0}) Refusal} {u : Unit {0}} {next last : Answer} → a ≡ ask_of n f → f ≡ g → a ≡ Ok u
+    → next ≡ last → next ≡ asked n g last
+goes n {f = None} {g} {a} {u} {next} {last} p q h e = e ∙ ap (λ (o : Option ℕ). asked n o last) q
+goes n {f = Some i} p q h e = absurd (let z : ◌≡◌ {A = ℕ} 0 1 = cc in omega arith)
 
-pub three : (n m k : ℕ) {f f' g g' h h' : Found} → f ≡ f' → g ≡ g' → h ≡ h'
-    → asked n f (asked m g (asked k h (Done 0))) ≡ asked n f' (asked m g' (asked k h' (Done 0)))
-three n m k d e p = next n d (two m k e p)
-
-pub four : (n m k l : ℕ) {f f' g g' h h' o o' : Found} → f ≡ f' → g ≡ g' → h ≡ h' → o ≡ o'
-    → asked n f (asked m g (asked k h (asked l o (Done 0)))) ≡ asked n f' (asked m g' (asked k h' (asked l o' (Done 0))))
-four n m k l d e p q = next n d (three m k l e p q)
+-- kinds 17 and 20: done with what was found, or refused
+pub or-refused : (n place : ℕ) (o : Option ℕ) → ok_or o (record { number = n; place = place }) ≡ found_or n place o
+or-refused n place None = refl
+or-refused n place (Some v) = refl
 
 -- question 8 of kind 14, and the others behind it
 module _ (S : Settings) (b : List ℕ) (g : Grid) (d m n first last : ℕ) where
-  pub no-seats : n < 1 → Refused 8 0 ≡ lunch_fits S b g d m n first last
+  pub no-seats : n < 1 → refused_with 8 0 ≡ lunch_fits S b g d m n first last
   unfolding lunch_fits
   no-seats h = rw (lt-leb _ _ h) refl
 
-  pub too-many-seats : 1 ≤ n → {most : ℕ} → most ≡ capacity S d → most < n → Refused 8 0 ≡ lunch_fits S b g d m n first last
+  pub too-many-seats : 1 ≤ n → {most : ℕ} → most ≡ capacity S d → most < n → refused_with 8 0 ≡ lunch_fits S b g d m n first last
   unfolding lunch_fits
   too-many-seats h {most} e k = rw (← e, le-leb _ _ h, lt-leb _ _ k) refl
 

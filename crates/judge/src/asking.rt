@@ -3,15 +3,13 @@ ghost use Rattle.std.specs.Prelude.{◌≡◌};
 ghost use Rattle.model.specs.Machine.{step};
 ghost use Rattle.model.specs.Reading.{state_of};
 ghost use Rattle.book.specs.Good.{Good};
-ghost use Rattle.book.specs.Grids.{Sited};
 ghost use Rattle.book.specs.Lent.{reading};
 
 use crate::answers;
-use crate::answers::{found_or, refused};
+use crate::answers::fields;
 use book::grid::Site;
-use kinds::fields::first_no;
 use kinds::table::{count_leave_row, free_room_row, seats_left_row, which_meeting_row};
-use model::{Answer, Date, Request, Session};
+use model::{Answer, Date, Refusal, Request, Session};
 use queries::dates::members;
 use queries::entries::meeting_of;
 use queries::rooms::lowest_free;
@@ -19,59 +17,45 @@ use queries::rooms::lowest_free;
 // Kind 17: which meeting a visitor attends.
 pub fn which_meeting(book: &[u32], site: Site, r: Request) -> Answer
     requires good { Good site.settings (reading book.now) }
-    requires sited { Sited site }
     requires kind_value { r.kind ≡ 17 }
     ensures { result ≡ (step (state_of (reading book.now)) r).answer }
 {
-    let no = first_no(which_meeting_row(site.settings), r);
-    if no != 0 {
-        return refused(no, 0);
-    }
-    found_or(21, r.first, meeting_of(book, site, Session(r.first), r.b))
+    fields(which_meeting_row(site.settings), r)?;
+    meeting_of(book, site, Session(r.first), r.b).ok_or(Refusal {
+        number: 21,
+        place: r.first,
+    })
 }
 
 // Kind 18: how many visitors are on leave.
 pub fn count_leave(book: &[u32], site: Site, r: Request) -> Answer
     requires good { Good site.settings (reading book.now) }
-    requires sited { Sited site }
     requires kind_value { r.kind ≡ 18 }
     ensures { result ≡ (step (state_of (reading book.now)) r).answer }
 {
-    let no = first_no(count_leave_row(site.settings), r);
-    if no != 0 {
-        return refused(no, 0);
-    }
-    Answer::Done(members(book, site, Date(r.first)))
+    fields(count_leave_row(site.settings), r)?;
+    Ok(members(book, site, Date(r.first)))
 }
 
 // Kind 19: how many seats a dining room has left.
 pub fn seats_left(book: &[u32], site: Site, r: Request) -> Answer
     requires good { Good site.settings (reading book.now) }
-    requires sited { Sited site }
     requires kind_value { r.kind ≡ 19 }
     ensures { result ≡ (step (state_of (reading book.now)) r).answer }
 {
-    let no = first_no(seats_left_row(site.settings), r);
-    if no != 0 {
-        return refused(no, 0);
-    }
-    Answer::Done(answers::seats_left(book, site, Date(r.first), r.a))
+    fields(seats_left_row(site.settings), r)?;
+    Ok(answers::seats_left(book, site, Date(r.first), r.a))
 }
 
 // Kind 20: the lowest conference room that is free.
 pub fn free_room(book: &[u32], site: Site, r: Request) -> Answer
     requires good { Good site.settings (reading book.now) }
-    requires sited { Sited site }
     requires kind_value { r.kind ≡ 20 }
     ensures { result ≡ (step (state_of (reading book.now)) r).answer }
 {
-    let no = first_no(free_room_row(site.settings), r);
-    if no != 0 {
-        return refused(no, 0);
-    }
-    found_or(
-        22,
-        0,
-        lowest_free(book, site, Session(r.first), Session(r.last)),
-    )
+    fields(free_room_row(site.settings), r)?;
+    lowest_free(book, site, Session(r.first), Session(r.last)).ok_or(Refusal {
+        number: 22,
+        place: 0,
+    })
 }

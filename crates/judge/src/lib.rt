@@ -16,7 +16,8 @@ ghost use Rattle.book.specs.Lent.{reading};
 use book::grid::site_of;
 use model::{Answer, Request, Settings};
 
-// The answer that a request of any kind would get, question 3 included, where nothing is to be written.
+// The answer that a request of any kind would get, question 3 included, where nothing is to be written. By number: the kind of a request is
+// any word of a caller, and an enum would be made by the same choice.
 pub fn judge(book: &[u32], s: Settings, r: Request) -> Answer
     requires { Good s (reading book.now) }
     ensures { result ≡ (step (state_of (reading book.now)) r).answer }

@@ -3,13 +3,11 @@ ghost use Rattle.std.specs.Prelude.{◌≡◌};
 ghost use Rattle.model.specs.Machine.{step};
 ghost use Rattle.model.specs.Reading.{state_of};
 ghost use Rattle.book.specs.Good.{Good};
-ghost use Rattle.book.specs.Grids.{Sited};
 ghost use Rattle.book.specs.Lent.{reading};
 
 use crate::answers;
-use crate::answers::{erase, erase_all, lunch_fits, refused, settled};
+use crate::answers::{ask, erase, erase_all, fields, lunch_fits};
 use book::grid::Site;
-use kinds::fields::first_no;
 use kinds::table::{
     add_conf_row, add_lunch_row, attend_row, erase_lunch_row, meeting_row, standing_row,
 };
@@ -19,56 +17,40 @@ use questions::cells::first_row_without;
 // Kind 8: a meeting stands.
 pub fn add_standing(book: &[u32], site: Site, r: Request) -> Answer
     requires good { Good site.settings (reading book.now) }
-    requires sited { Sited site }
     requires kind_value { r.kind ≡ 8 }
     ensures { result ≡ (step (state_of (reading book.now)) r).answer }
 {
-    let no = first_no(standing_row(site.settings), r);
-    if no != 0 {
-        return refused(no, 0);
-    }
-    Answer::Done(0)
+    fields(standing_row(site.settings), r)?;
+    Ok(0)
 }
 
 // Kind 9: a meeting no longer stands.
 pub fn end_standing(book: &[u32], site: Site, r: Request) -> Answer
     requires good { Good site.settings (reading book.now) }
-    requires sited { Sited site }
     requires kind_value { r.kind ≡ 9 }
     ensures { result ≡ (step (state_of (reading book.now)) r).answer }
 {
-    let no = first_no(standing_row(site.settings), r);
-    if no != 0 {
-        return refused(no, 0);
-    }
+    fields(standing_row(site.settings), r)?;
     answers::end_standing(book, site, r.a, Session(r.first), Session(r.last))
 }
 
 // Kind 10: a visitor attends a meeting.
 pub fn add_attend(book: &[u32], site: Site, r: Request) -> Answer
     requires good { Good site.settings (reading book.now) }
-    requires sited { Sited site }
     requires kind_value { r.kind ≡ 10 }
     ensures { result ≡ (step (state_of (reading book.now)) r).answer }
 {
-    let no = first_no(attend_row(site.settings), r);
-    if no != 0 {
-        return refused(no, 0);
-    }
+    fields(attend_row(site.settings), r)?;
     answers::add_attend(book, site, r.a, r.b, Session(r.first), Session(r.last))
 }
 
 // Kind 11: a visitor no longer attends a meeting.
 pub fn erase_attend(book: &[u32], site: Site, r: Request) -> Answer
     requires good { Good site.settings (reading book.now) }
-    requires sited { Sited site }
     requires kind_value { r.kind ≡ 11 }
     ensures { result ≡ (step (state_of (reading book.now)) r).answer }
 {
-    let no = first_no(attend_row(site.settings), r);
-    if no != 0 {
-        return refused(no, 0);
-    }
+    fields(attend_row(site.settings), r)?;
     let cells = site.grids.attend;
     erase(book, cells, r.b, r.a + 1, r.first, r.last)
 }
@@ -76,57 +58,42 @@ pub fn erase_attend(book: &[u32], site: Site, r: Request) -> Answer
 // Kind 12: a meeting gets a conference room.
 pub fn add_conf(book: &[u32], site: Site, r: Request) -> Answer
     requires good { Good site.settings (reading book.now) }
-    requires sited { Sited site }
     requires kind_value { r.kind ≡ 12 }
     ensures { result ≡ (step (state_of (reading book.now)) r).answer }
 {
-    let no = first_no(add_conf_row(site.settings), r);
-    if no != 0 {
-        return refused(no, 0);
-    }
+    fields(add_conf_row(site.settings), r)?;
     answers::add_conf(book, site, r.a, r.b, Session(r.first), Session(r.last))
 }
 
 // Kind 13: a meeting gives back its conference rooms.
 pub fn erase_conf(book: &[u32], site: Site, r: Request) -> Answer
     requires good { Good site.settings (reading book.now) }
-    requires sited { Sited site }
     requires kind_value { r.kind ≡ 13 }
     ensures { result ≡ (step (state_of (reading book.now)) r).answer }
 {
-    let no = first_no(meeting_row(site.settings), r);
-    if no != 0 {
-        return refused(no, 0);
-    }
+    fields(meeting_row(site.settings), r)?;
     let pairs = site.grids.conf;
-    settled(16, first_row_without(book, pairs, r.b + 1, r.first, r.last))
+    ask(16, first_row_without(book, pairs, r.b + 1, r.first, r.last))?;
+    Ok(0)
 }
 
 // Kind 14: a meeting gets a lunch.
 pub fn add_lunch(book: &[u32], site: Site, r: Request) -> Answer
     requires good { Good site.settings (reading book.now) }
-    requires sited { Sited site }
     requires kind_value { r.kind ≡ 14 }
     ensures { result ≡ (step (state_of (reading book.now)) r).answer }
 {
-    let no = first_no(add_lunch_row(site.settings), r);
-    if no != 0 {
-        return refused(no, 0);
-    }
+    fields(add_lunch_row(site.settings), r)?;
     lunch_fits(book, site, r.a, r.b, r.n, Date(r.first), Date(r.last))
 }
 
 // Kind 15: a meeting gives back a lunch.
 pub fn erase_lunch(book: &[u32], site: Site, r: Request) -> Answer
     requires good { Good site.settings (reading book.now) }
-    requires sited { Sited site }
     requires kind_value { r.kind ≡ 15 }
     ensures { result ≡ (step (state_of (reading book.now)) r).answer }
 {
-    let no = first_no(erase_lunch_row(site.settings), r);
-    if no != 0 {
-        return refused(no, 0);
-    }
+    fields(erase_lunch_row(site.settings), r)?;
     let triples = site.grids.lunch;
     erase(book, triples, r.b, r.a + 1, r.first, r.last)
 }
@@ -134,13 +101,9 @@ pub fn erase_lunch(book: &[u32], site: Site, r: Request) -> Answer
 // Kind 16: a meeting gives back its conference rooms and lunches.
 pub fn erase_conf_and_lunch(book: &[u32], site: Site, r: Request) -> Answer
     requires good { Good site.settings (reading book.now) }
-    requires sited { Sited site }
     requires kind_value { r.kind ≡ 16 }
     ensures { result ≡ (step (state_of (reading book.now)) r).answer }
 {
-    let no = first_no(meeting_row(site.settings), r);
-    if no != 0 {
-        return refused(no, 0);
-    }
+    fields(meeting_row(site.settings), r)?;
     erase_all(book, site, r.b, Session(r.first), Session(r.last))
 }

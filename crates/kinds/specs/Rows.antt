@@ -1,38 +1,27 @@
 -- The code's table of kinds, from the model's at a site, and questions 4 to 7 over a row of it.
 -- Assumes nothing.
 use Rattle.std.specs.Prelude.{ℕ, ◌≤◌, ◌<◌, ◌≡◌, Bool, true, false, not, ◌&&◌, ◌||◌, leb, ltb, eqb}
-use Rattle.std.proofs.Math.Option.{Option, none, some}
-use Rattle.kinds.specs.declared.table.Field.{Field}
+use Rattle.std.specs.Option.{is_some}
+use Rattle.std.specs.Prelude.{Option, None, Some}
 use Rattle.kinds.specs.declared.table.Row.{Row}
 use Rattle.model.specs.declared.Settings.{Settings}
 use Rattle.model.specs.declared.Request.{Request}
 use Rattle.model.specs.Kinds.{used, limit, slots_of}
-use Rattle.model.specs.Kinds.{Field as ModelField, Row as ModelRow}
+use Rattle.model.specs.Kinds.{Row as ModelRow}
 use Rattle.model.specs.Questions.{zero_unless}
 
--- a limit as the code has it: 0 where there is none
-abbrev pub or_zero : Option ℕ → ℕ
-or_zero none = 0
-or_zero (some l) = l
-
--- a field, and a row, of the model's table as the code has them at a site
-abbrev pub field_of : Settings → ModelField → Field
-field_of S f = record { used = used f; limit = or_zero (limit S f) }
-
+-- a row of the model's table as the code has it at a site
 abbrev pub row_of : Settings → ModelRow → Row
-row_of S w = record { a = field_of S w.a; b = field_of S w.b; slots = slots_of S w.unit; n = w.n; info = w.info; one = w.one }
+row_of S w = record { a = limit S w.a; b = limit S w.b; slots = slots_of S w.unit; n = w.n; info = w.info; one = w.one }
 
--- the code's fields from limits, and rows from fields
-abbrev pub named : ℕ → Field
-named l = record { used = true; limit = l }
-
-abbrev pub plain : Field → Field → ℕ → Row
+-- the code's rows from limits
+abbrev pub plain : Option ℕ → Option ℕ → ℕ → Row
 plain a b n = record { a = a; b = b; slots = n; n = false; info = false; one = false }
 
-abbrev pub single : Field → Field → ℕ → Row
+abbrev pub single : Option ℕ → Option ℕ → ℕ → Row
 single a b n = record { a = a; b = b; slots = n; n = false; info = false; one = true }
 
-abbrev pub noted : Field → Field → ℕ → Bool → Row
+abbrev pub noted : Option ℕ → Option ℕ → ℕ → Bool → Row
 noted a b n t = record { a = a; b = b; slots = n; n = t; info = true; one = false }
 
 -- question 4, and what a word leaves over for it; question 5 or 6 of a field and a word; question 7 of a number of slots
@@ -42,10 +31,16 @@ left_over false w = w
 
 unfoldable pub unused_zero : Row → ℕ → ℕ → ℕ → ℕ → Bool
 unused_zero w a b n info =
-    zero_unless w.a.used a && zero_unless w.b.used b && zero_unless w.n n && zero_unless w.info info
+    zero_unless (is_some w.a) a && zero_unless (is_some w.b) b && zero_unless w.n n && zero_unless w.info info
 
-unfoldable pub below : Field → ℕ → Bool
-below f w = not f.used || ltb w f.limit
+-- question 4 in the model's terms
+abbrev pub zero_unused : ModelRow → ℕ → ℕ → ℕ → ℕ → Bool
+zero_unused w a b n info =
+    zero_unless (used w.a) a && zero_unless (used w.b) b && zero_unless w.n n && zero_unless w.info info
+
+abbrev pub below : Option ℕ → ℕ → Bool
+below None w = true
+below (Some l) w = ltb w l
 
 unfoldable pub slots_fit : ℕ → Bool → ℕ → ℕ → Bool
 slots_fit n one first last = leb first last && ltb last n && (not one || eqb first last)
@@ -65,8 +60,8 @@ fields_no w r =
 
 -- what questions 5 to 7 leave of a request
 abbrev pub Below : Option ℕ → ℕ → Type 0
-Below none w = Unit {0}
-Below (some l) w = w < l
+Below None w = Unit {0}
+Below (Some l) w = w < l
 
 pub record Ready (S : Settings) (w : ModelRow) (r : Request) : Type 0 where
   pub a : Below (limit S w.a) r.a

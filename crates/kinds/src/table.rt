@@ -7,41 +7,24 @@ ghost use Rattle.units.specs.Ranges.{Ranges};
 ghost use Rattle.model.specs.Kinds.{row};
 ghost use Rattle.model.specs.Kinds.{Kind.add_leave, Kind.add_hotel, Kind.add_ride, Kind.add_standing, Kind.add_attend, Kind.add_conf, Kind.erase_conf};
 ghost use Rattle.model.specs.Kinds.{Kind.add_lunch, Kind.erase_lunch, Kind.which_meeting, Kind.count_leave, Kind.seats_left, Kind.free_room};
-ghost use Rattle.kinds.specs.Rows.{row_of, named as named_field, plain as plain_row, single as single_row, noted as noted_row};
+ghost use Rattle.kinds.specs.Rows.{row_of, plain as plain_row, single as single_row, noted as noted_row};
 
 use model::Settings;
 
-// The field a or b of a kind: whether it is used, and its limit, 0 where it has none.
-#[derive(Clone, Copy)]
-pub struct Field {
-    pub used: bool,
-    pub limit: u32,
-}
-
-// A row of the table: the fields a and b, the number of slots of the kind's unit, whether n and info are used, and whether first = last.
+// A row of the table: the limits that the fields a and b stay below, none for one that is not used, the number of slots of the kind's unit,
+// whether n and info are used, and whether first = last.
 #[derive(Clone, Copy)]
 pub struct Row {
-    pub a: Field,
-    pub b: Field,
+    pub a: Option<u32>,
+    pub b: Option<u32>,
     pub slots: u32,
     pub n: bool,
     pub info: bool,
     pub one: bool,
 }
 
-const UNUSED: Field = Field {
-    used: false,
-    limit: 0,
-};
-
-fn named(limit: u32) -> Field
-    ensures { result ≡ named_field limit }
-{
-    Field { used: true, limit }
-}
-
-// A row without n and info, with several slots; the same with one slot.
-fn plain(a: Field, b: Field, slots: u32) -> Row
+// A row without n and info, with several slots.
+fn plain(a: Option<u32>, b: Option<u32>, slots: u32) -> Row
     ensures { result ≡ plain_row a b slots }
 {
     Row {
@@ -54,30 +37,24 @@ fn plain(a: Field, b: Field, slots: u32) -> Row
     }
 }
 
-fn single(a: Field, b: Field, slots: u32) -> Row
+// The same with one slot.
+fn single(a: Option<u32>, b: Option<u32>, slots: u32) -> Row
     ensures { result ≡ single_row a b slots }
 {
     Row {
-        a,
-        b,
-        slots,
-        n: false,
-        info: false,
         one: true,
+        ..plain(a, b, slots)
     }
 }
 
-// A row with info, and with n where it says so.
-fn noted(a: Field, b: Field, slots: u32, n: bool) -> Row
+// The same with info, and with n where it says so.
+fn noted(a: Option<u32>, b: Option<u32>, slots: u32, n: bool) -> Row
     ensures { result ≡ noted_row a b slots n }
 {
     Row {
-        a,
-        b,
-        slots,
         n,
         info: true,
-        one: false,
+        ..plain(a, b, slots)
     }
 }
 
@@ -85,14 +62,14 @@ fn noted(a: Field, b: Field, slots: u32, n: bool) -> Row
 pub fn visitor_row(s: Settings) -> Row
     ensures { result ≡ row_of s (row add_leave) }
 {
-    plain(UNUSED, named(s.visitors), s.dates)
+    plain(None, Some(s.visitors), s.dates)
 }
 
 // Kinds 4 and 5.
 pub fn hotel_row(s: Settings) -> Row
     ensures { result ≡ row_of s (row add_hotel) }
 {
-    plain(named(s.hotels), named(s.visitors), s.dates)
+    plain(Some(s.hotels), Some(s.visitors), s.dates)
 }
 
 // Kinds 6 and 7.
@@ -100,7 +77,7 @@ pub fn ride_row(s: Settings) -> Row
     requires { Ranges s }
     ensures { result ≡ row_of s (row add_ride) }
 {
-    plain(named(s.transports), named(s.visitors), s.dates * s.times)
+    plain(Some(s.transports), Some(s.visitors), s.dates * s.times)
 }
 
 // Kinds 8 and 9.
@@ -108,7 +85,7 @@ pub fn standing_row(s: Settings) -> Row
     requires { Ranges s }
     ensures { result ≡ row_of s (row add_standing) }
 {
-    plain(named(s.meetings), UNUSED, s.dates * s.sessions)
+    plain(Some(s.meetings), None, s.dates * s.sessions)
 }
 
 // Kinds 10 and 11.
@@ -116,7 +93,7 @@ pub fn attend_row(s: Settings) -> Row
     requires { Ranges s }
     ensures { result ≡ row_of s (row add_attend) }
 {
-    plain(named(s.meetings), named(s.visitors), s.dates * s.sessions)
+    plain(Some(s.meetings), Some(s.visitors), s.dates * s.sessions)
 }
 
 // Kind 12.
@@ -124,12 +101,7 @@ pub fn add_conf_row(s: Settings) -> Row
     requires { Ranges s }
     ensures { result ≡ row_of s (row add_conf) }
 {
-    noted(
-        named(s.rooms),
-        named(s.meetings),
-        s.dates * s.sessions,
-        false,
-    )
+    noted(Some(s.rooms), Some(s.meetings), s.dates * s.sessions, false)
 }
 
 // Kinds 13 and 16.
@@ -137,21 +109,21 @@ pub fn meeting_row(s: Settings) -> Row
     requires { Ranges s }
     ensures { result ≡ row_of s (row erase_conf) }
 {
-    plain(UNUSED, named(s.meetings), s.dates * s.sessions)
+    plain(None, Some(s.meetings), s.dates * s.sessions)
 }
 
 // Kind 14.
 pub fn add_lunch_row(s: Settings) -> Row
     ensures { result ≡ row_of s (row add_lunch) }
 {
-    noted(named(s.dining), named(s.meetings), s.dates, true)
+    noted(Some(s.dining), Some(s.meetings), s.dates, true)
 }
 
 // Kind 15.
 pub fn erase_lunch_row(s: Settings) -> Row
     ensures { result ≡ row_of s (row erase_lunch) }
 {
-    plain(named(s.dining), named(s.meetings), s.dates)
+    plain(Some(s.dining), Some(s.meetings), s.dates)
 }
 
 // Kind 17.
@@ -159,21 +131,21 @@ pub fn which_meeting_row(s: Settings) -> Row
     requires { Ranges s }
     ensures { result ≡ row_of s (row which_meeting) }
 {
-    single(UNUSED, named(s.visitors), s.dates * s.sessions)
+    single(None, Some(s.visitors), s.dates * s.sessions)
 }
 
 // Kind 18.
 pub fn count_leave_row(s: Settings) -> Row
     ensures { result ≡ row_of s (row count_leave) }
 {
-    single(UNUSED, UNUSED, s.dates)
+    single(None, None, s.dates)
 }
 
 // Kind 19.
 pub fn seats_left_row(s: Settings) -> Row
     ensures { result ≡ row_of s (row seats_left) }
 {
-    single(named(s.dining), UNUSED, s.dates)
+    single(Some(s.dining), None, s.dates)
 }
 
 // Kind 20.
@@ -181,5 +153,5 @@ pub fn free_room_row(s: Settings) -> Row
     requires { Ranges s }
     ensures { result ≡ row_of s (row free_room) }
 {
-    plain(UNUSED, UNUSED, s.dates * s.sessions)
+    plain(None, None, s.dates * s.sessions)
 }

@@ -7,8 +7,8 @@ use mathlib.Core.List.{List}
 use lib.ListN.{take, get_or}
 use Rattle.model.specs.declared.Settings.{Settings}
 use Rattle.model.specs.declared.Request.{Request}
-use Rattle.model.specs.declared.Answer.{Answer}
-use Rattle.model.specs.declared.Answer.TheVariants.{Refused}
+use Rattle.model.specs.Answers.{Answer}
+use Rattle.model.specs.Answers.{refused_with}
 use Rattle.model.specs.Site.{valid_settings}
 use Rattle.model.specs.Messages.{request_length, request_of}
 use Rattle.model.specs.Tail.{kept_at}
@@ -33,7 +33,7 @@ pub outcome-yes : (x : Ledger) (l : List ℕ) → is_frame l ≡ true → line_o
 unfolding line_outcome
 outcome-yes x l h = simp h
 
-pub outcome-no : (x : Ledger) (l : List ℕ) → is_frame l ≡ false → line_outcome x l ≡ record { reply = told (Refused 23 0); ledger = x }
+pub outcome-no : (x : Ledger) (l : List ℕ) → is_frame l ≡ false → line_outcome x l ≡ record { reply = told (refused_with 23 0); ledger = x }
 unfolding line_outcome
 outcome-no x l h = simp h
 
@@ -87,7 +87,7 @@ module _ {S : Settings} {b : List ℕ} (l : List ℕ) (h : GoodBook S b) where
             );
       }
 
-  pub taken-other : (n : ℕ) → NextOf l (Other n) → TakenOf l b (record { used = n + 1; answer = Refused 23 0 }) b
+  pub taken-other : (n : ℕ) → NextOf l (Other n) → TakenOf l b (record { used = n + 1; answer = refused_with 23 0 }) b
   taken-other n q =
       let e : n + 1 - 1 ≡ n = omega arith in
       record {
@@ -95,7 +95,7 @@ module _ {S : Settings} {b : List ℕ} (l : List ℕ) (h : GoodBook S b) where
         some = λ z.
             rw e (
               q.0,
-              ap (λ (w : List ℕ). answered (Refused 23 0) w) (sym (words-ledger_of b h.laid h.lawful))
+              ap (λ (w : List ℕ). answered (refused_with 23 0) w) (sym (words-ledger_of b h.laid h.lawful))
                   ∙ sym (ap called (outcome-no (ledger_of b) (take n l) q.1)),
             );
       }

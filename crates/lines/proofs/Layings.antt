@@ -9,9 +9,11 @@ use lib.Dec.{leb}
 use lib.ListN.{length, take, drop, length-append}
 use lib.Seq.{take_at, drop_at, length-take-le}
 use borrow.Author.Tests.{le-leb, lt-leb, eq-eqb}
+use Rattle.std.specs.Prelude.{Err}
+use Rattle.model.specs.declared.Refusal.{Refusal}
 use Rattle.model.specs.declared.Settings.{Settings}
-use Rattle.model.specs.declared.Answer.{Answer}
-use Rattle.model.specs.declared.Answer.TheVariants as A
+use Rattle.model.specs.Answers.{Answer}
+use Rattle.model.specs.Answers.{done_with, refused_with}
 use Rattle.model.specs.Site.{valid_settings, settings_most}
 use Rattle.model.specs.Machine.{told}
 use Rattle.model.specs.Words.{diary_length}
@@ -28,27 +30,25 @@ use Rattle.text.specs.Put.{Put}
 use Rattle.lines.specs.Stream.{later, over, silent, opened}
 use Rattle.lines.specs.Laying.{layable, LaidOf, LaidBy}
 use Rattle.lines.specs.Post.{EndedOf}
-use Rattle.lines.specs.declared.lay.Laid.{Laid}
-use Rattle.lines.specs.declared.lay.Laid.TheVariants.{Book, Refused}
 use Rattle.lines.proofs.Whole.{settings-short}
 use Rattle.step.proofs.Kept.{fresh-good}
 use Rattle.lines.proofs.Books.{fresh-shows}
 use Rattle.lines.proofs.Turns.{put-wrote, put-past}
 
 -- a refusal lays no book
-no-book : {A : Type 0} {k n : ℕ} → Refused k ≡ Book n → A
-no-book e = absurd (let z : ◌≡◌ {A = ℕ} 0 1 = cc in omega arith)
+no-book : {A : Type 0} {e : Refusal} {n : ℕ} → Err e ≡ done_with n → A
+no-book q = absurd (let z : ◌≡◌ {A = ℕ} 0 1 = cc in omega arith)
 
 -- the cases
-layable-24 : (w : List ℕ) → layable false w ≡ Refused 24
+layable-24 : (w : List ℕ) → layable false w ≡ refused_with 24 0
 unfolding layable
 layable-24 w = refl
 
-layable-25 : (w : List ℕ) → program_words < book_length (settings_of w) → layable true w ≡ Refused 25
+layable-25 : (w : List ℕ) → program_words < book_length (settings_of w) → layable true w ≡ refused_with 25 0
 unfolding layable
 layable-25 w h = simp (lt-leb (book_length (settings_of w)) program_words h)
 
-layable-book : (w : List ℕ) → book_length (settings_of w) ≤ program_words → layable true w ≡ Book (book_length (settings_of w))
+layable-book : (w : List ℕ) → book_length (settings_of w) ≤ program_words → layable true w ≡ done_with (book_length (settings_of w))
 unfolding layable
 layable-book w h = simp (le-leb (book_length (settings_of w)) program_words h)
 
@@ -70,11 +70,11 @@ module _ (w : List ℕ) {size : ℕ} (e : size ≡ needed_length w) where
   none-by true h z = absurd (omega (arith, needed-by w true h, long (settings_of w)))
   none-by false h z = h
 
-  pub laid_none : {b : List ℕ} → size ≡ 0 → LaidOf w b (Refused 24) b
+  pub laid_none : {b : List ℕ} → size ≡ 0 → LaidOf w b (refused_with 24 0) b
   laid_none z =
       record { is = sym (ap (λ (t : Bool). layable t w) (none-by _ refl z) ∙ layable-24 w); fresh = λ n q. no-book q; refused = λ n q. refl }
 
-  pub laid-large : {b : List ℕ} → (size ≡ 0 → ⊥) → program_words < size → LaidOf w b (Refused 25) b
+  pub laid-large : {b : List ℕ} → (size ≡ 0 → ⊥) → program_words < size → LaidOf w b (refused_with 25 0) b
   laid-large n h =
       let g = good-by _ refl n in
       record {
@@ -85,18 +85,18 @@ module _ (w : List ℕ) {size : ℕ} (e : size ≡ needed_length w) where
       }
 
 lay-good : (w b : List ℕ) → settings_good w ≡ true → length b ≡ book_length (settings_of w)
-    → lay w b ≡ record { reply = told (A.Done 0); book = fresh_book (settings_of w) }
+    → lay w b ≡ record { reply = told (done_with 0); book = fresh_book (settings_of w) }
 unfolding lay
 lay-good w b h e = simp (h, eq-eqb (length b) (book_length (settings_of w)) e)
 
 pub laid-good : (w b : List ℕ) {last : List ℕ} {a : Answer} {size : ℕ} → size ≡ needed_length w → (size ≡ 0 → ⊥) → size ≤ program_words → program_words ≤ length b
-    → answered a last ≡ lay w (take size b) → length last ≡ length (take size b) → LaidOf w b (Book size) (last ++ drop size b)
+    → answered a last ≡ lay w (take size b) → length last ≡ length (take size b) → LaidOf w b (done_with size) (last ++ drop size b)
 laid-good w b {last} {a} {size} e n h r q k =
     let g = good-by w e _ refl n in
     let t = length-take-le size b (omega arith) in
     let f : last ≡ fresh_book (settings_of w) = ap (λ (c : Called). c.book) (q ∙ lay-good w (take size b) g.0 (t ∙ g.1)) in
     record {
-      is = ap Book g.1 ∙ sym (ap (λ (t : Bool). layable t w) g.0 ∙ layable-book w (omega (arith, g.1)));
+      is = ap done_with g.1 ∙ sym (ap (λ (t : Bool). layable t w) g.0 ∙ layable-book w (omega (arith, g.1)));
       fresh = λ m p.
           let s : size ≡ m = cc in
           rw (← s)
@@ -106,17 +106,17 @@ laid-good w b {last} {a} {size} e n h r q k =
 
 -- the words of a line
 module _ (l : List ℕ) {b : List ℕ} where
-  refused-24 : whole_words l && settings_good (line_words l) ≡ false → LaidBy l b (Refused 24) b
+  refused-24 : whole_words l && settings_good (line_words l) ≡ false → LaidBy l b (refused_with 24 0) b
   refused-24 h =
       record { is = sym (ap (λ (t : Bool). layable t (line_words l)) h ∙ layable-24 (line_words l)); fresh = λ n q. no-book q; refused = λ n q. refl }
 
-  pub by-not-whole : whole_words l ≡ false → LaidBy l b (Refused 24) b
+  pub by-not-whole : whole_words l ≡ false → LaidBy l b (refused_with 24 0) b
   by-not-whole h = refused-24 (rw h)
 
-  pub by-long : settings_most < length l / 8 → LaidBy l b (Refused 24) b
+  pub by-long : settings_most < length l / 8 → LaidBy l b (refused_with 24 0) b
   by-long h = refused-24 (never (whole_words l && settings_good (line_words l)) (λ e. omega (arith, settings-short l e)))
 
-  pub by-words : {b₀ : List ℕ} {r : Laid} → whole_words l ≡ true → LaidOf (line_words l) b₀ r b → LaidBy l b₀ r b
+  pub by-words : {b₀ : List ℕ} {r : Answer} → whole_words l ≡ true → LaidOf (line_words l) b₀ r b → LaidBy l b₀ r b
   by-words h k =
       record {
         is =
@@ -125,7 +125,7 @@ module _ (l : List ℕ) {b : List ℕ} where
         refused = k.refused;
       }
 
-pub laid-is : {l b₀ b : List ℕ} {r q : Laid} → LaidBy l b₀ r b → r ≡ q → LaidBy l b₀ q b
+pub laid-is : {l b₀ b : List ℕ} {r q : Answer} → LaidBy l b₀ r b → r ≡ q → LaidBy l b₀ q b
 laid-is {l} {b₀} {b} k e = rw e at k
 
 -- the settings line is over
@@ -133,12 +133,12 @@ module _ (l : List ℕ) where
   abbrev S : Settings
   S = settings_of (line_words l)
 
-  opened-24 : whole_words l && settings_good (line_words l) ≡ false → opened l ≡ record { out = answer_line (A.Refused 24 0); point = over }
+  opened-24 : whole_words l && settings_good (line_words l) ≡ false → opened l ≡ record { out = answer_line (refused_with 24 0); point = over }
   unfolding opened
   opened-24 h = simp h
 
   opened-25 : whole_words l && settings_good (line_words l) ≡ true → leb (book_length S) program_words ≡ false
-      → opened l ≡ record { out = answer_line (A.Refused 25 0); point = over }
+      → opened l ≡ record { out = answer_line (refused_with 25 0); point = over }
   unfolding opened
   opened-25 h k = simp (h, k)
 
@@ -149,20 +149,20 @@ module _ (l : List ℕ) where
 
   -- what was found of a line that lays a book, and of one that is refused
   book-by : {n : ℕ} (t u : Bool) → whole_words l && settings_good (line_words l) ≡ t → leb (book_length S) program_words ≡ u
-      → Book n ≡ cond t (cond u (Book (book_length S)) (Refused 25)) (Refused 24)
+      → done_with n ≡ cond t (cond u (done_with (book_length S)) (refused_with 25 0)) (refused_with 24 0)
       → (valid_settings S ≡ true) × (opened l ≡ silent (later (empty_ledger S) []))
   book-by true true h k e = (good-valid (line_words l) (and_right (whole_words l) _ h), opened-book h k)
   book-by true false h k e = no-book (sym e)
   book-by false u h k e = no-book (sym e)
 
-  number_by : {n : ℕ} (t u : Bool) → whole_words l && settings_good (line_words l) ≡ t → leb (book_length S) program_words ≡ u
-      → Refused n ≡ cond t (cond u (Book (book_length S)) (Refused 25)) (Refused 24)
-      → opened l ≡ record { out = answer_line (A.Refused n 0); point = over }
-  number_by true true h k e = no-book e
-  number_by {n} true false h k e = let q : 25 ≡ n = cc in opened-25 h k ∙ ap (λ (m : ℕ). record { out = answer_line (A.Refused m 0); point = over }) q
-  number_by {n} false u h k e = let q : 24 ≡ n = cc in opened-24 h ∙ ap (λ (m : ℕ). record { out = answer_line (A.Refused m 0); point = over }) q
+  number_by : {e : Refusal} (t u : Bool) → whole_words l && settings_good (line_words l) ≡ t → leb (book_length S) program_words ≡ u
+      → Err e ≡ cond t (cond u (done_with (book_length S)) (refused_with 25 0)) (refused_with 24 0)
+      → opened l ≡ record { out = answer_line (Err e); point = over }
+  number_by true true h k q = no-book q
+  number_by true false h k q = opened-25 h k ∙ ap (λ (a : Answer). record { out = answer_line a; point = over }) (sym q)
+  number_by false u h k q = opened-24 h ∙ ap (λ (a : Answer). record { out = answer_line a; point = over }) (sym q)
 
-  pub settled-book : {b₀ b out : List ℕ} (n : ℕ) → LaidBy l b₀ (Book n) b
+  pub settled-book : {b₀ b out : List ℕ} (n : ℕ) → LaidBy l b₀ (done_with n) b
       → EndedOf (opened l) (record { more = true; size = n; wrote = 0 }) b₀ b out out
   unfolding layable
   settled-book {b₀} {b} {out} n k =
@@ -180,16 +180,16 @@ module _ (l : List ℕ) where
             ∙ sym o.1;
       }
 
-  pub settled-refused : {b₀ b out out' : List ℕ} (n : ℕ) → LaidBy l b₀ (Refused n) b → Put out out' 0 (answer_line (A.Refused n 0))
+  pub settled-refused : {b₀ b out out' : List ℕ} (e : Refusal) → LaidBy l b₀ (Err e) b → Put out out' 0 (answer_line (Err e))
       → EndedOf (opened l) (record { more = false; size = 0; wrote = answer_bytes }) b₀ b out out'
   unfolding layable
-  settled-refused {b₀} {b} {out} {out'} n k p =
+  settled-refused {b₀} {b} {out} {out'} e k p =
       record {
         short = omega arith;
-        book-past = k.refused n refl;
-        out-past = put-past (A.Refused n 0) p;
+        book-past = k.refused e refl;
+        out-past = put-past (Err e) p;
         sized = record { fits = omega arith; none = λ z. refl; good = λ z. both z refl };
         same =
-            ap (λ (o : List ℕ). record { out = o; point = over }) (put-wrote (A.Refused n 0) p)
+            ap (λ (o : List ℕ). record { out = o; point = over }) (put-wrote (Err e) p)
             ∙ sym (number_by _ _ refl refl k.is);
       }

@@ -15,16 +15,14 @@ use Rattle.model.specs.Ledger.{Ledger, ledger_of}
 use Rattle.model.specs.Lines.{answer_bytes, line_outcome}
 use Rattle.model.proofs.Search.{both}
 use Rattle.book.specs.Good.{GoodBook}
-use Rattle.framing.specs.Frame.{LineEnd}
 use Rattle.lines.specs.Stream.{held_most, kept, Turn, opening, later, over, silent, behind, opened, told, ended, longer, byte, run, closed}
-use Rattle.framing.specs.Front.{Free}
+use Rattle.framing.specs.Front.{Free, Leads}
 use Rattle.lines.specs.Post.{held_of, Holds, point_at, point_of, Going, Moved, Begun, end_point, EndedOf, is_later, Told}
 use Rattle.lines.specs.declared.stream.Held.{Held}
 use Rattle.lines.specs.declared.stream.Phase.{Phase}
 use Rattle.lines.specs.declared.stream.Phase.TheVariants.{Opening, Later, Over}
 use Rattle.lines.specs.declared.stream.Stream.{Stream}
 use Rattle.lines.specs.declared.stream.Ended.{Ended}
-use Rattle.framing.proofs.Looking.{all-free, end-leads}
 use Rattle.lines.proofs.Whole.{byte-end, byte-in}
 use Rattle.lines.proofs.Turns.{grown, Kept, later-kept, run-free, run-leads, run_alone, run_out, rest-none, ends-le, ends-one, tail-is}
 use Rattle.lines.proofs.Keeping.{holds-own}
@@ -181,43 +179,40 @@ kept-at Opening x h k = k
 kept-at Later x h k = k
 kept-at Over x h k = tt
 
-module _ (s : Stream) (b c : List ℕ) (g : Going s b) {h : Held} {n : ℕ} (e : LineEnd c n) (k : Holds h (kept (held_of s.held ++ take n c))) where
+module _ (s : Stream) (b : List ℕ) where
   abbrev x : Ledger
   x = ledger_of (take s.size b)
 
-  point-kept : Kept (point_of s b)
-  point-kept =
+  point-kept : Going s b → Kept (point_of s b)
+  point-kept g =
       kept-at s.phase x (held_of s.held)
       (take_all held_most (held_of s.held)
       (omega (arith, g.holds.few, g.holds.long, length-take-le s.held.len s.held.bytes (omega (arith, g.holds.few, g.holds.long)))))
 
-  held-point : point_at s.phase x (held_of h) ≡ grown (point_of s b) (take n c)
-  held-point = ap (point_at s.phase x) k.same ∙ grown-at s.phase x (held_of s.held) (take n c)
+  held-point : {h : Held} (l : List ℕ) → Holds h (kept (held_of s.held ++ l)) → point_at s.phase x (held_of h) ≡ grown (point_of s b) l
+  held-point l k = ap (point_at s.phase x) k.same ∙ grown-at s.phase x (held_of s.held) l
 
   -- no line ends in it
-  pub all_held : {out : List ℕ} → n ≡ length c → Moved (run (point_of s b) c) (record { held = h; phase = s.phase; size = s.size })
-      b b out out 0 0 (answer_bytes * length c)
-  all_held {out} l =
+  pub all_held : {out : List ℕ} {h : Held} (l : List ℕ) → Going s b → Holds h (kept (held_of s.held ++ l)) → Free l
+      → Moved (run (point_of s b) l) (record { held = h; phase = s.phase; size = s.size }) b b out out 0 0 (answer_bytes * length l)
+  all_held {out} {h} l g k f =
       record {
         more = omega arith;
         short = omega arith;
         book-past = refl;
         out-past = refl;
         going = record { holds = holds-own k; sized = g.sized };
-        same =
-            ap silent (held-point ∙ ap (grown (point_of s b)) (take_all n c (omega arith)))
-            ∙ sym (run-free c (point_of s b) point-kept (all-free c n e l));
+        same = ap silent (held-point l k) ∙ sym (run-free l (point_of s b) (point-kept g) f);
       }
 
   -- a line ends in it
-  pub line-held : {b₁ b₂ out out₁ out₂ : List ℕ} {t : Stream} {wrote : ℕ} (d : Ended) → (n ≡ length c → ⊥)
-      → EndedOf (ended (point_at s.phase x (held_of h))) d b b₁ out out₁
+  pub line-held : {b₁ b₂ out out₁ out₂ : List ℕ} {t : Stream} {h : Held} {wrote : ℕ} (c : List ℕ) (n : ℕ) (d : Ended) → Going s b
+      → Holds h (kept (held_of s.held ++ take n c)) → Leads c n → EndedOf (ended (point_at s.phase x (held_of h))) d b b₁ out out₁
       → Moved (behind (take d.wrote out₁) (run (end_point d b₁) (take (length c - (n + 1)) (drop (n + 1) c))))
       t b₁ b₂ out₁ out₂ d.wrote wrote (d.wrote + answer_bytes * length (take (length c - (n + 1)) (drop (n + 1) c)))
       → t.size ≡ d.size → Moved (run (point_of s b) c) t b b₂ out out₂ 0 wrote (answer_bytes * length c)
-  line-held {b₁} {b₂} {out} {out₁} {out₂} {t} {wrote} d l v m q =
+  line-held {b₁} {b₂} {out} {out₁} {out₂} {t} {h} {wrote} c n d g k y v m q =
       let r = drop (n + 1) c in
-      let y = end-leads c n e l in
       let z = ap length (tail-is c (n + 1)) in
       record {
         more = omega arith;
@@ -228,8 +223,8 @@ module _ (s : Stream) (b c : List ℕ) (g : Going s b) {h : Held} {n : ℕ} (e :
         same =
             m.same
             ∙ ap (λ (u : List ℕ). behind (take d.wrote out₁) (run (end_point d b₁) u)) (tail-is c (n + 1))
-            ∙ ap (λ (u : Turn). behind u.out (run u.point r)) (v.same ∙ ap ended held-point)
-            ∙ sym (run-leads (point_of s b) c n point-kept y);
+            ∙ ap (λ (u : Turn). behind u.out (run u.point r)) (v.same ∙ ap ended (held-point (take n c) k))
+            ∙ sym (run-leads (point_of s b) c n (point-kept g) y);
       }
 
 -- the end of the input

@@ -12,8 +12,8 @@ use mathlib.Core.List.{List, [], ◌∷◌, ◌++◌, append_assoc, append-nil}
 use lib.ListN.{length, take, drop, length-append, length-drop, drop_of_length-le}
 use lib.Seq.{split_at, take_all, drop-drop, drop-append-le}
 use Rattle.model.specs.declared.Settings.{Settings}
-use Rattle.model.specs.declared.Answer.{Answer}
-use Rattle.model.specs.declared.Answer.TheVariants.{Done, Refused}
+use Rattle.model.specs.Answers.{Answer}
+use Rattle.std.specs.Prelude.{Ok, Err}
 use Rattle.model.specs.Ledger.{Ledger, ledger_of}
 use Rattle.model.specs.Calls.{Called, called}
 use Rattle.model.specs.Text.{hexadecimal}
@@ -174,8 +174,8 @@ run_out x r e = ap (run (later x [])) e ∙ run_none (later x [])
 
 pub answer-length : (a : Answer) → length (answer_line a) ≡ answer_bytes
 unfolding hexadecimal
-answer-length (Done v) = refl
-answer-length (Refused n p) = refl
+answer-length (Ok v) = refl
+answer-length (Err refused) = let n = refused.number in let p = refused.place in refl
 
 -- an answer line was written
 pub put-wrote : {out out' : List ℕ} {at : ℕ} (a : Answer) → Put out out' at (answer_line a) → take (at + answer_bytes) out' ≡ take at out ++ answer_line a

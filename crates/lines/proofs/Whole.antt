@@ -20,7 +20,7 @@ use Rattle.model.specs.Machine.{Performed}
 use Rattle.model.specs.Ledger.{Ledger, empty_ledger, book_length}
 use Rattle.model.specs.Reading.{settings_of}
 use Rattle.model.specs.Calls.{settings_good}
-use Rattle.model.specs.declared.Answer.TheVariants.{Refused}
+use Rattle.model.specs.Answers.{refused_with}
 use Rattle.model.specs.Text.{digit_value}
 use Rattle.model.specs.Lines.{whole_words, line_words, lines_of, answer_line, reply_line, line_outcome, answer_lines, program_words, output, frames}
 use Rattle.framing.proofs.Framing.{words-length, not_so, frame-between, no-frame}
@@ -213,8 +213,8 @@ settings-by : (l bs : List ℕ) (t u : Bool) → is_settings l ≡ t → fitting
 unfolding opened output
 settings-by l bs true true h k = simp (h, k) (later-whole bs (empty_ledger (settings_of (line_words l))) [] free-none)
 settings-by l bs true false h k =
-    simp (h, k) (ap (λ (o : List ℕ). answer_line (Refused 25 0) ++ o) (whole-over bs) ∙ append-nil (answer_line (Refused 25 0)))
-settings-by l bs false u h k = simp h (ap (λ (o : List ℕ). answer_line (Refused 24 0) ++ o) (whole-over bs) ∙ append-nil (answer_line (Refused 24 0)))
+    simp (h, k) (ap (λ (o : List ℕ). answer_line (refused_with 25 0) ++ o) (whole-over bs) ∙ append-nil (answer_line (refused_with 25 0)))
+settings-by l bs false u h k = simp h (ap (λ (o : List ℕ). answer_line (refused_with 24 0) ++ o) (whole-over bs) ∙ append-nil (answer_line (refused_with 24 0)))
 
 alone-by : (l : List ℕ) (t u : Bool) → is_settings l ≡ t → fitting l ≡ u → (opened l).out ≡ output (l ∷ [])
 unfolding opened output answer_lines

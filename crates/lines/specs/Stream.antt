@@ -1,7 +1,7 @@
 -- The program as a stream: where it is in its input, and what each byte writes.
 -- Assumes nothing.
 use Rattle.std.specs.Prelude.{ℕ, ◌+◌, ◌*◌, ◌&&◌, cond, List, [], ◌∷◌, ◌++◌, leb, eqb, take}
-use Rattle.model.specs.declared.Answer.TheVariants.{Refused}
+use Rattle.model.specs.Answers.{refused_with}
 use Rattle.model.specs.Site.{settings_most}
 use Rattle.model.specs.Machine.{Performed}
 use Rattle.model.specs.Ledger.{Ledger, empty_ledger, book_length}
@@ -41,8 +41,8 @@ opened l =
     cond (whole_words l && settings_good (line_words l))
     (cond (leb (book_length (settings_of (line_words l))) program_words)
     (silent (later (empty_ledger (settings_of (line_words l))) []))
-    (record { out = answer_line (Refused 25 0); point = over }))
-    (record { out = answer_line (Refused 24 0); point = over })
+    (record { out = answer_line (refused_with 25 0); point = over }))
+    (record { out = answer_line (refused_with 24 0); point = over })
 
 -- a later line is over
 abbrev pub told : Performed → Turn

@@ -10,18 +10,19 @@ ghost use Rattle.framing.specs.Front.{Free};
 ghost use Rattle.lines.specs.Post.{ends, held_of, Holds, point_at, point_of, Sized, Going, Begun, is_later};
 ghost use Rattle.lines.specs.Post.{EndSized, end_point, EndedOf, Moved, TakenOf, Told};
 
-use crate::lay::{Laid, SETTINGS_WORDS, lay_line};
+use crate::lay::{SETTINGS_WORDS, lay_line};
 use framing::line::{ANSWER_BYTES, Next, line_end, look, put_answer};
 use header::settings::{diary_len, settings};
-use model::{Answer, Settings};
+use model::{Answer, Refusal, Settings};
 use step::book_step;
+use text::store::put;
 
 // The most bytes that are held of a line: one more than a good line can have, so that they say all. Byte 10 has room behind them.
 const HELD_MOST: usize = 8 * SETTINGS_WORDS + 1;
 
 const HELD_ROOM: usize = HELD_MOST + 1;
 
-// The bytes of a line that is not over.
+// The bytes of a line that is not over, and how many they are: an array has the room, since nothing is allocated.
 #[derive(Clone, Copy)]
 pub struct Held {
     pub bytes: [u8; HELD_ROOM],
@@ -73,12 +74,6 @@ pub struct Progress {
     pub wrote: usize,
 }
 
-fn smaller(a: usize, b: usize) -> usize
-    ensures { result ≡ min a b }
-{
-    if a < b { a } else { b }
-}
-
 // A piece of a line behind what is held.
 fn hold(held: Held, piece: &[u8]) -> Held
     requires holds { Holds held (held_of held) }
@@ -87,12 +82,8 @@ fn hold(held: Held, piece: &[u8]) -> Held
 {
     let mut next = held;
     let len = held.len;
-    let n = smaller(piece.len(), HELD_MOST - len);
-    let mut i = 0;
-    while i < n {
-        next.bytes[len + i] = piece[i];
-        i += 1;
-    }
+    let n = piece.len().min(HELD_MOST - len);
+    put(&mut next.bytes, len, &piece[..n]);
     next.len = len + n;
     next
 }
@@ -114,14 +105,14 @@ fn take_line(book: &mut [u32], s: Settings, diary: usize, chunk: &[u8]) -> Taken
         },
         Next::Other(n) => Taken {
             used: n + 1,
-            answer: Answer::Refused {
+            answer: Err(Refusal {
                 number: 23,
                 place: 0,
-            },
+            }),
         },
         Next::Partial => Taken {
             used: 0,
-            answer: Answer::Done(0),
+            answer: Ok(0),
         },
     }
 }
@@ -138,6 +129,7 @@ fn answer_lines(book: &mut [u32], chunk: &[u8], out: &mut [u8], from: usize) -> 
     let diary = diary_len(s);
     let mut at = from;
     let mut i = 0;
+    // By hand: each turn goes on by what its line took.
     while i < chunk.len() {
         let rest = &chunk[i..];
         let t = take_line(book, s, diary, rest);
@@ -181,13 +173,13 @@ fn settle(book: &mut [u32], line: &[u8], out: &mut [u8]) -> Ended
     ensures { EndedOf (opened line.now) result book.old book.new out.old out.new }
 {
     match lay_line(book, line) {
-        Laid::Book(size) => Ended {
+        Ok(size) => Ended {
             more: true,
             size,
             wrote: 0,
         },
-        Laid::Refused(number) => {
-            put_answer(out, 0, Answer::Refused { number, place: 0 });
+        Err(refusal) => {
+            put_answer(out, 0, Err(refusal));
             // nothing more is read
             Ended {
                 more: false,
@@ -250,14 +242,17 @@ pub fn feed(book: &mut [u32], stream: Stream, chunk: &[u8], out: &mut [u8]) -> F
     let before = stream.held;
     let phase = stream.phase;
     let size = stream.size;
-    let n = line_end(chunk);
-    let held = hold(before, &chunk[..n]);
-    if n == chunk.len() {
+    let Some(n) = line_end(chunk) else {
         return Fed {
-            stream: Stream { held, phase, size },
+            stream: Stream {
+                held: hold(before, chunk),
+                phase,
+                size,
+            },
             wrote: 0,
         };
-    }
+    };
+    let held = hold(before, &chunk[..n]);
     let e = end_held(book, phase, size, held, out);
     let next = n + 1;
     go_on(book, e, &chunk[next..], out)

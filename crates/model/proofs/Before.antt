@@ -4,7 +4,7 @@
 use Prim.Native.Nat.{ℕ, ◌+◌, ◌-◌, ◌/◌}
 use mathlib.Core.Path.{◌≡◌, refl, sym, ◌∙◌, ap, ap₂, fun_ext, subst}
 use mathlib.Core.Bool.{Bool, true, false, ◌&&◌, cond, and_assoc, and-true}
-use mathlib.Core.Option.{Option, none, some}
+use Rattle.std.specs.Prelude.{Option, None, Some}
 use mathlib.Core.List.{List, [], ◌∷◌, ◌++◌}
 use native.Mathlib.Omega.{arith}
 use lib.Dec.{leb, ltb, eqb}
@@ -13,7 +13,7 @@ use borrow.Author.Tests.{lt-ltb, eqb-true, ne_eqb}
 use Rattle.model.specs.declared.Settings.{Settings}
 use Rattle.model.specs.declared.Request.{Request}
 use Rattle.model.specs.declared.Guest.{Guest}
-use Rattle.model.specs.declared.Answer.TheVariants.{Done, Refused}
+use Rattle.model.specs.Answers.{done_with, refused_with}
 use Rattle.model.specs.Bounded.{all, within, failing, every, count2}
 use Rattle.model.specs.Site.{capacity, all_sessions, all_times, date_of_session, date_of_time, valid_settings, fixed_words, settings_length, settings_words}
 use Rattle.model.specs.State.{State, empty_state, Pairs, hotels, rides, attends}
@@ -47,8 +47,8 @@ pub perform-settings : (l : Ledger) (c : Call) → (perform l c).ledger.diary.se
 perform-settings l (ordered n r) = order (kept_at l.tail n)
   where
     order : (o : Option ℕ) → (answer_order l n r o).ledger.diary.settings ≡ l.diary.settings
-    order none = counted-settings l.diary l.changes r
-    order (some i) = refl
+    order None = counted-settings l.diary l.changes r
+    order (Some i) = refl
 perform-settings l (party m gs) =
     counted-party-state (λ (z : State). z.settings ≡ l.diary.settings) l.diary l.changes m gs refl (admit-settings l.diary m gs)
 perform-settings l (Call.ask r) = refl
@@ -125,14 +125,14 @@ module _ (date : Settings → ℕ → ℕ) where
         (λ s m v. minus (x.attend s m v) (slot r (date_of_session x.settings s) && eqb v r.b))) e
 
     -- the kind of the number 3 is the removal
-    module _ (r : Request) (k : Kind) (is : kind_of r.kind ≡ some k) where
+    module _ (r : Request) (k : Kind) (is : kind_of r.kind ≡ Some k) where
       third : r.kind ≡ 3 → k ≡ remove_visitor
       unfolding kind_of
       third q = ap (λ (o : Option Kind). known o) (sym is ∙ ap kind_of q)
         where
           known : Option Kind → Kind
-          known none = k
-          known (some j) = j
+          known None = k
+          known (Some j) = j
 
       change-by : change_by date x r k ≡ change x r k
       change-by = go (eqb r.kind 3) refl
@@ -150,16 +150,16 @@ module _ (date : Settings → ℕ → ℕ) where
           go false q = refl
 
       finish-by : (o : Option Refusal) → finish_by date x r k o ≡ finish x r k o
-      finish-by none = λ i. record { answer = Done (value-by i); state = change-by i }
-      finish-by (some f) = refl
+      finish-by None = λ i. record { answer = done_with (value-by i); state = change-by i }
+      finish-by (Some f) = refl
 
     step-at : (r : Request) → step_by date x r ≡ step x r
     unfolding step_by step
     step-at r = go (kind_of r.kind) refl
       where
         go : (o : Option Kind) → kind_of r.kind ≡ o → step_kind_by date x r o ≡ step_kind x r o
-        go none q = refl
-        go (some k) q = ap (finish_by date x r k) (judge-by r k (always ++ further k)) ∙ finish-by r k q (judge x r k (always ++ further k))
+        go None q = refl
+        go (Some k) q = ap (finish_by date x r k) (judge-by r k (always ++ further k)) ∙ finish-by r k q (judge x r k (always ++ further k))
 
     guests-by : (p : Pairs) → guests_by date x p ≡ guests_on_leave x p
     guests-by p = ap (λ (f : ℕ → ℕ). each_entry x p (λ i a v. x.leave (f i) v)) (fun_ext (date-by (unit_of p)))
@@ -195,7 +195,7 @@ module _ (date : Settings → ℕ → ℕ) where
   admit-by : (x : State) → Same x → (m : ℕ) (gs : List Guest) → admit_by date x m gs ≡ admit x m gs
   unfolding admit_by admit
   admit-by x e m gs =
-      ap (λ (o : Outcome). cond (party_fits gs) (all_or_none x o) (record { answer = Refused 27 0; state = x })) (joined-by x e m gs)
+      ap (λ (o : Outcome). cond (party_fits gs) (all_or_none x o) (record { answer = refused_with 27 0; state = x })) (joined-by x e m gs)
 
   counted-by : (x : State) → Same x → (n : ℕ) (r : Request) → counted_step_by date x n r ≡ counted_step x n r
   unfolding counted_step_by counted_step
@@ -207,8 +207,8 @@ module _ (date : Settings → ℕ → ℕ) where
   counted-party-by x e n m gs = ap (λ (o : Outcome). raise x n o o.answer) (admit-by x e m gs)
 
   order-by : (l : Ledger) → Same l.diary → (n : ℕ) (r : Request) (o : Option ℕ) → answer_order_by date l n r o ≡ answer_order l n r o
-  order-by l e n r none = ap (λ (o : Counted). stepped (noted l.tail n r o.answer) o) (counted-by l.diary e l.changes r)
-  order-by l e n r (some i) = refl
+  order-by l e n r None = ap (λ (o : Counted). stepped (noted l.tail n r o.answer) o) (counted-by l.diary e l.changes r)
+  order-by l e n r (Some i) = refl
 
   perform-by : (l : Ledger) → Same l.diary → (c : Call) → perform_by date l c ≡ perform l c
   perform-by l e (ordered n r) = order-by l e n r (kept_at l.tail n)
@@ -218,7 +218,7 @@ module _ (date : Settings → ℕ → ℕ) where
   perform-by l e (commit n r) = go (eqb n l.changes)
     where
       go : (t : Bool) → answer_commit_by date l t r ≡ answer_commit l t r
-      go true = order-by l e 0 r none
+      go true = order-by l e 0 r None
       go false = refl
 
   run_at : (l : Ledger) → Same l.diary → (cs : List Call) → run_by date l cs ≡ run l cs

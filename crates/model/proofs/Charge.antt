@@ -3,7 +3,7 @@
 use Prim.Native.Nat.{ℕ, zero, suc, ◌+◌, ◌*◌, ◌-◌, ◌≤◌, ◌<◌}
 use mathlib.Core.Path.{◌≡◌, refl, sym, ◌∙◌, ap, ap₂}
 use mathlib.Core.Bool.{Bool, true, false, ◌&&◌, cond}
-use mathlib.Core.Option.{Option, none, some}
+use Rattle.std.specs.Prelude.{Option, None, Some}
 use mathlib.Core.List.{List, [], ◌∷◌, ◌++◌}
 use native.Mathlib.Nat.{add-mul}
 use native.Mathlib.Omega.{arith}
@@ -12,12 +12,11 @@ use borrow.Author.Tests.{le-leb, lt-leb, lt-ltb, leb-true, leb-false}
 use Rattle.model.specs.declared.Settings.{Settings}
 use Rattle.model.specs.declared.Request.{Request}
 use Rattle.model.specs.declared.Guest.{Guest}
-use Rattle.model.specs.declared.Answer.{Answer}
-use Rattle.model.specs.declared.Answer.TheVariants.{Done}
-use Rattle.model.specs.declared.Answer.TheVariants as answer
+use Rattle.model.specs.Answers.{Answer}
+use Rattle.std.specs.Prelude.{Ok, Err}
+use Rattle.model.specs.Answers.{done_with, refused_with}
 use Rattle.model.specs.declared.Tariff.{Tariff}
-use Rattle.model.specs.declared.Charged.{Charged}
-use Rattle.model.specs.declared.Charged.TheVariants.{Cents, Refused}
+use Rattle.model.specs.Answers.{Charged}
 use Rattle.model.specs.Bounded.{lowest, any, within, is_some, sum, sum_from, one, count, count2, list}
 use Rattle.model.specs.Site.{all_sessions, date_of_session}
 use Rattle.model.specs.State.{State, confs, empty_state, seats_of, reserved}
@@ -101,20 +100,20 @@ pub example-charges :
     ∷ charged after 1 0 1 (tariff 1001 1250 101)
     ∷ charged after 1 0 1 (tariff 1000000 1000000 100)
     ∷ []
-    ≡ Cents 13758
-    ∷ Cents 11758
-    ∷ Cents 4502
-    ∷ Cents 4502
-    ∷ Cents 16260
-    ∷ Cents 6250
-    ∷ Cents 0
-    ∷ Refused 6 0
-    ∷ Refused 7 0
-    ∷ Refused 7 0
-    ∷ Refused 31 0
-    ∷ Refused 31 0
-    ∷ Refused 31 0
-    ∷ Cents 0
+    ≡ done_with 13758
+    ∷ done_with 11758
+    ∷ done_with 4502
+    ∷ done_with 4502
+    ∷ done_with 16260
+    ∷ done_with 6250
+    ∷ done_with 0
+    ∷ refused_with 6 0
+    ∷ refused_with 7 0
+    ∷ refused_with 7 0
+    ∷ refused_with 31 0
+    ∷ refused_with 31 0
+    ∷ refused_with 31 0
+    ∷ done_with 0
     ∷ []
 unfolding steps step change value kind_of asked test empty_state reserved bookings stands_on conf_held lunch_held meeting_of lowest_free
     room_sessions seats_on lunch_seats reduced room_charge cost tariff_fits charged
@@ -276,7 +275,7 @@ module _ (p : ℕ → Bool) (only : (u v : ℕ) → p u ≡ true → p v ≡ tru
   count-one i (suc n) = go (p i) refl (count-one (suc i) n)
     where
       go : (t : Bool) → p i ≡ t → sum_from (λ j. one (p j)) (suc i) n ≡ one (is_some (lowest p (suc i) n))
-          → one t + sum_from (λ j. one (p j)) (suc i) n ≡ one (is_some (cond t (some i) (lowest p (suc i) n)))
+          → one t + sum_from (λ j. one (p j)) (suc i) n ≡ one (is_some (cond t (Some i) (lowest p (suc i) n)))
       go true e rest =
           let z : sum_from (λ j. one (p j)) (suc i) n ≡ 0
           = sum-empty (λ j. one (p j)) (suc i) n (λ j l k. ap one (never (p j) (λ q. omega (arith, l, only i j e q)))) in
@@ -339,27 +338,27 @@ module _ (x y : State) (m first last : ℕ) (h : SameFor x y m first last) where
 
 -- the kinds that change conf or lunch entries, 12 to 16, whose meeting is b: the request is one of them for meeting m
 abbrev charges : Option Kind → Bool
-charges none = false
-charges (some add_leave) = false
-charges (some end_leave) = false
-charges (some remove_visitor) = false
-charges (some add_hotel) = false
-charges (some erase_hotel) = false
-charges (some add_ride) = false
-charges (some erase_ride) = false
-charges (some add_standing) = false
-charges (some end_standing) = false
-charges (some add_attend) = false
-charges (some erase_attend) = false
-charges (some add_conf) = true
-charges (some erase_conf) = true
-charges (some add_lunch) = true
-charges (some erase_lunch) = true
-charges (some erase_conf_and_lunch) = true
-charges (some which_meeting) = false
-charges (some count_leave) = false
-charges (some seats_left) = false
-charges (some free_room) = false
+charges None = false
+charges (Some add_leave) = false
+charges (Some end_leave) = false
+charges (Some remove_visitor) = false
+charges (Some add_hotel) = false
+charges (Some erase_hotel) = false
+charges (Some add_ride) = false
+charges (Some erase_ride) = false
+charges (Some add_standing) = false
+charges (Some end_standing) = false
+charges (Some add_attend) = false
+charges (Some erase_attend) = false
+charges (Some add_conf) = true
+charges (Some erase_conf) = true
+charges (Some add_lunch) = true
+charges (Some erase_lunch) = true
+charges (Some erase_conf_and_lunch) = true
+charges (Some which_meeting) = false
+charges (Some count_leave) = false
+charges (Some seats_left) = false
+charges (Some free_room) = false
 
 unfoldable pub books_for : Request → ℕ → Bool
 books_for r m = charges (kind_of r.kind) && eqb m r.b
@@ -382,7 +381,7 @@ ends-no : (t u : Bool) → u ≡ false → t && u ≡ false
 ends-no true u e = e
 ends-no false u e = refl
 
-change-kept : (x : State) (r : Request) (m : ℕ) (k : Kind) → charges (some k) && eqb m r.b ≡ false → Kept (change x r k) x m
+change-kept : (x : State) (r : Request) (m : ℕ) (k : Kind) → charges (Some k) && eqb m r.b ≡ false → Kept (change x r k) x m
 unfolding change
 change-kept x r m add_leave e = same-sets _ x m refl refl
 change-kept x r m end_leave e = same-sets _ x m refl refl
@@ -397,28 +396,28 @@ change-kept x r m add_attend e = same-sets _ x m refl refl
 change-kept x r m erase_attend e = same-sets _ x m refl refl
 change-kept x r m add_conf e =
     record {
-      conf = λ s c. ap (λ (t : Bool). cond t (some r.info) (x.conf s c m)) (ends-no (slot r s && eqb c r.a) (eqb m r.b) e);
+      conf = λ s c. ap (λ (t : Bool). cond t (Some r.info) (x.conf s c m)) (ends-no (slot r s && eqb c r.a) (eqb m r.b) e);
       lunch = λ d g. refl;
     }
 change-kept x r m erase_conf e =
-    record { conf = λ s c. ap (λ (t : Bool). cond t none (x.conf s c m)) (ends-no (slot r s) (eqb m r.b) e); lunch = λ d g. refl }
+    record { conf = λ s c. ap (λ (t : Bool). cond t None (x.conf s c m)) (ends-no (slot r s) (eqb m r.b) e); lunch = λ d g. refl }
 change-kept x r m add_lunch e =
     record {
       conf = λ s c. refl;
       lunch = λ d g.
-          ap (λ (t : Bool). cond t (some (record { seats = r.n; info = r.info })) (x.lunch d g m))
+          ap (λ (t : Bool). cond t (Some (record { seats = r.n; info = r.info })) (x.lunch d g m))
           (ends-no (slot r d && eqb g r.a) (eqb m r.b) e);
     }
 change-kept x r m erase_lunch e =
     record {
       conf = λ s c. refl;
-      lunch = λ d g. ap (λ (t : Bool). cond t none (x.lunch d g m)) (ends-no (slot r d && eqb g r.a) (eqb m r.b) e);
+      lunch = λ d g. ap (λ (t : Bool). cond t None (x.lunch d g m)) (ends-no (slot r d && eqb g r.a) (eqb m r.b) e);
     }
 change-kept x r m erase_conf_and_lunch e =
     record {
-      conf = λ s c. ap (λ (t : Bool). cond t none (x.conf s c m)) (ends-no (slot r s) (eqb m r.b) e);
+      conf = λ s c. ap (λ (t : Bool). cond t None (x.conf s c m)) (ends-no (slot r s) (eqb m r.b) e);
       lunch = λ d g.
-          ap (λ (t : Bool). cond t none (x.lunch d g m))
+          ap (λ (t : Bool). cond t None (x.lunch d g m))
           (ends-no (within (date_of_session x.settings r.first) (date_of_session x.settings r.last) d) (eqb m r.b) e);
     }
 change-kept x r m which_meeting e = same-sets _ x m refl refl
@@ -430,13 +429,13 @@ step_kept : (x : State) (r : Request) (m : ℕ) → books_for r m ≡ false → 
 unfolding step books_for
 step_kept x r m h = kind (kind_of r.kind) h
   where
-    done : (k : Kind) (o : Option Refusal) → charges (some k) && eqb m r.b ≡ false → Kept (finish x r k o).state x m
-    done k none e = change-kept x r m k e
-    done k (some f) e = same-sets x x m refl refl
+    done : (k : Kind) (o : Option Refusal) → charges (Some k) && eqb m r.b ≡ false → Kept (finish x r k o).state x m
+    done k None e = change-kept x r m k e
+    done k (Some f) e = same-sets x x m refl refl
 
     kind : (o : Option Kind) → charges o && eqb m r.b ≡ false → Kept (step_kind x r o).state x m
-    kind none e = same-sets x x m refl refl
-    kind (some k) e = done k (judge x r k (always ++ further k)) e
+    kind None e = same-sets x x m refl refl
+    kind (Some k) e = done k (judge x r k (always ++ further k)) e
 
 same-all : (x : State) (m first last : ℕ) → SameFor x x m first last
 same-all x m first last = record { settings = refl; conf = λ s c e. refl; lunch = λ d g e. refl }
@@ -493,14 +492,14 @@ untouched b c m first last h t = go (well_laid b) refl (lawful b) refl
 -- an order leaves of a diary what the step of its request leaves, or all of it where it is kept
 after-order : (l : Ledger) (n : ℕ) (r : Request) (m first last : ℕ) → SameFor (step l.diary r).state l.diary m first last → (o : Option ℕ)
     → SameFor (answer_order l n r o).ledger.diary l.diary m first last
-after-order l n r m first last h none =
+after-order l n r m first last h None =
     counted-state (λ (y : State). SameFor y l.diary m first last) l.diary l.changes r (same-all l.diary m first last) h
-after-order l n r m first last h (some i) = same-all l.diary m first last
+after-order l n r m first last h (Some i) = same-all l.diary m first last
 
 -- a commit that is not refused by 29 as an order that is not kept
 after-commit : (l : Ledger) (r : Request) (m first last : ℕ) → SameFor (step l.diary r).state l.diary m first last → (t : Bool)
     → SameFor (answer_commit l t r).ledger.diary l.diary m first last
-after-commit l r m first last h true = after-order l 0 r m first last h none
+after-commit l r m first last h true = after-order l 0 r m first last h None
 after-commit l r m first last h false = same-all l.diary m first last
 
 -- and so on every list of words, one that questions 1 and 2 refuse included, with the number of an order or with 0 for none
@@ -558,8 +557,8 @@ module _ (p m first last : ℕ) where
 
       go : SameFor (joined (step x (joining p g)).state p gs).state (step x (joining p g)).state m first last → (a : Answer)
           → SameFor (if_done a (joined (step x (joining p g)).state p gs) (step x (joining p g))).state x m first last
-      go rest (Done v) = same-trans _ (step x (joining p g)).state x m first last rest one-guest
-      go rest (answer.Refused n i) = one-guest
+      go rest (Ok v) = same-trans _ (step x (joining p g)).state x m first last rest one-guest
+      go rest (Err refused) = let n = refused.number in let i = refused.place in one-guest
 
   admit-same : (x : State) (gs : List Guest) → SameFor (admit x p gs).state x m first last
   unfolding admit
@@ -567,10 +566,10 @@ module _ (p m first last : ℕ) where
     where
       all : (a : Answer) (y : State) → SameFor y x m first last
           → SameFor (if_done a (record { answer = a; state = y }) (record { answer = a; state = x })).state x m first last
-      all (Done v) y h = h
-      all (answer.Refused n i) y h = same-all x m first last
+      all (Ok v) y h = h
+      all (Err refused) y h = let n = refused.number in let i = refused.place in same-all x m first last
 
-      fits : (t : Bool) → SameFor (cond t (all_or_none x (joined x p gs)) (record { answer = answer.Refused 27 0; state = x })).state x m first last
+      fits : (t : Bool) → SameFor (cond t (all_or_none x (joined x p gs)) (record { answer = refused_with 27 0; state = x })).state x m first last
       fits true = all (joined x p gs).answer (joined x p gs).state (joined_same x gs)
       fits false = same-all x m first last
 
@@ -583,15 +582,15 @@ party-charge b p gs m first last t =
 
 -- what a book that passes charges, where questions 6, 7 and 31 say yes
 pub charge-is : (b : List ℕ) → Passes b → (m first last : ℕ) (t : Tariff) → m < (ledger_of b).diary.settings.meetings → first ≤ last
-    → last < (ledger_of b).diary.settings.dates → tariff_fits t ≡ true → charge b m first last t ≡ Cents (cost (ledger_of b).diary m first last t)
+    → last < (ledger_of b).diary.settings.dates → tariff_fits t ≡ true → charge b m first last t ≡ done_with (cost (ledger_of b).diary m first last t)
 unfolding charged
 charge-is b q m first last t h k l f =
     shown-charge b (ledger_of b) (passes-shows b q) m first last t ∙ rw (lt-ltb m _ h, le-leb first last k, lt-ltb last _ l, f)
 
 -- the cents of a charge, 0 where it is refused
 abbrev pub cents_of : Charged → ℕ
-cents_of (Cents c) = c
-cents_of (Refused n p) = 0
+cents_of (Ok c) = c
+cents_of (Err refused) = let n = refused.number in let p = refused.place in 0
 
 -- "With p = 0 the meetings' charges add up": of every book that passes, for dates of the site and a tariff within its limits
 pub charges-add-up-book : (b : List ℕ) → Passes b → (first last : ℕ) (t : Tariff) → first ≤ last → last < (ledger_of b).diary.settings.dates

@@ -7,8 +7,8 @@ use mathlib.Core.Bool.{true, false, ◌&&◌}
 use mathlib.Core.List.{List, [], ◌∷◌, map}
 use lib.Dec.{eqb}
 use Rattle.model.specs.declared.Settings.{Settings}
-use Rattle.model.specs.declared.Answer.{Answer}
-use Rattle.model.specs.declared.Answer.TheVariants.{Done, Refused}
+use Rattle.model.specs.Answers.{Answer}
+use Rattle.model.specs.Answers.{done_with, refused_with}
 use Rattle.model.specs.Bounded.{list}
 use Rattle.model.specs.Site.{date_of_time}
 use Rattle.model.specs.State.{State, empty_state, reserved}
@@ -53,15 +53,15 @@ requests =
 
 abbrev pub answers : List Answer
 answers =
-    Done 0
-    ∷ Refused 9 5
-    ∷ Done 0
-    ∷ Done 0
-    ∷ Refused 9 4
-    ∷ Done 0
-    ∷ Refused 18 0
-    ∷ Done 0
-    ∷ Done 3
+    done_with 0
+    ∷ refused_with 9 5
+    ∷ done_with 0
+    ∷ done_with 0
+    ∷ refused_with 9 4
+    ∷ done_with 0
+    ∷ refused_with 18 0
+    ∷ done_with 0
+    ∷ done_with 3
     ∷ []
 
 pub early-rides : (run (empty_ledger site) requests).replies ≡ map told answers

@@ -4,7 +4,7 @@
 use Prim.Native.Nat.{ℕ, zero, suc, ◌+◌, ◌-◌, ◌≤◌}
 use mathlib.Core.Path.{◌≡◌, refl, sym, ◌∙◌, ap, ap₂, subst}
 use mathlib.Core.Bool.{Bool, true, false, ◌&&◌, false≢true}
-use mathlib.Core.Option.{Option, none, some}
+use Rattle.std.specs.Prelude.{Option, None, Some}
 use mathlib.Core.List.{List, [], ◌∷◌, ◌++◌}
 use native.Mathlib.Omega.{arith}
 use lib.Dec.{leb, eqb}
@@ -13,8 +13,9 @@ use lib.Seq.{get_or-drop}
 use borrow.Author.Tests.{eqb-true, eq-eqb, ne_eqb, le-leb, leb-false}
 use Rattle.model.specs.declared.Settings.{Settings}
 use Rattle.model.specs.declared.Request.{Request}
-use Rattle.model.specs.declared.Answer.{Answer}
-use Rattle.model.specs.declared.Answer.TheVariants.{Done, Refused}
+use Rattle.model.specs.Answers.{Answer}
+use Rattle.std.specs.Prelude.{Ok, Err}
+use Rattle.model.specs.Answers.{done_with, refused_with}
 use Rattle.model.specs.Bounded.{within, every, one}
 use Rattle.model.specs.State.{State}
 use Rattle.model.specs.Kinds.{Kind, kinds, kind_of, Kind.which_meeting, Kind.count_leave, Kind.seats_left, Kind.free_room}
@@ -37,14 +38,14 @@ past-changes n e =
     omega (arith, leb-false (suc n) 16 b)
 
 module _ (x : State) (r : Request) where
-  finished : (k : Kind) → change x r k ≡ x → (step_kind x r (some k)).state ≡ x
+  finished : (k : Kind) → change x r k ≡ x → (step_kind x r (Some k)).state ≡ x
   finished k e = go (judge x r k (always ++ further k))
     where
       go : (o : Option Refusal) → (finish x r k o).state ≡ x
-      go none = e
-      go (some f) = refl
+      go None = e
+      go (Some f) = refl
 
-  only-asks : (i : ℕ) → (step_kind x r (get_or (drop 17 kinds) i none)).state ≡ x
+  only-asks : (i : ℕ) → (step_kind x r (get_or (drop 17 kinds) i None)).state ≡ x
   unfolding change
   only-asks zero = finished which_meeting refl
   only-asks (suc zero) = finished count_leave refl
@@ -59,73 +60,73 @@ module _ (x : State) (r : Request) where
       go : (n : ℕ) → within 1 16 n ≡ false → (step_kind x r (kind_of n)).state ≡ x
       go zero e = refl
       go (suc n) e =
-          ap (λ (m : ℕ). (step_kind x r (get_or kinds m none)).state) (sym (past-changes n e))
-          ∙ ap (λ (o : Option Kind). (step_kind x r o).state) (sym (get_or-drop 17 kinds (suc n - 17) none))
+          ap (λ (m : ℕ). (step_kind x r (get_or kinds m None)).state) (sym (past-changes n e))
+          ∙ ap (λ (o : Option Kind). (step_kind x r o).state) (sym (get_or-drop 17 kinds (suc n - 17) None))
           ∙ only-asks (suc n - 17)
 
 -- ---- what is counted, by its answer
 
 -- what is done, counted, is done by the step or the party; the diary is the one that it leaves, and the count one more
 pub record Risen (x : State) (n : ℕ) (o : Outcome) (a : Answer) (v : ℕ) : Type 0 where
-  pub done : a ≡ Done v
+  pub done : a ≡ done_with v
   pub state : (raise x n o a).state ≡ o.state
   pub changes : (raise x n o a).changes ≡ suc n
 
-pub risen : (x : State) (n : ℕ) (o : Outcome) (a : Answer) (v : ℕ) → (raise x n o a).answer ≡ Done v → Risen x n o a v
+pub risen : (x : State) (n : ℕ) (o : Outcome) (a : Answer) (v : ℕ) → (raise x n o a).answer ≡ done_with v → Risen x n o a v
 unfolding raise
-risen x n o (Done w) v e = go (eqb n most_changes) refl e
+risen x n o (Ok w) v e = go (eqb n most_changes) refl e
   where
-    go : (t : Bool) → eqb n most_changes ≡ t → (raise x n o (Done w)).answer ≡ Done v → Risen x n o (Done w) v
-    go true q e = absurd (let z : Refused 30 0 ≡ Done v = rw q at e in refused-done z)
+    go : (t : Bool) → eqb n most_changes ≡ t → (raise x n o (done_with w)).answer ≡ done_with v → Risen x n o (done_with w) v
+    go true q e = absurd (let z : refused_with 30 0 ≡ done_with v = rw q at e in refused-done z)
     go false q e = record { done = rw q at e; state = rw q; changes = rw q }
-risen x n o (Refused k p) v e = absurd (refused-done e)
+risen x n o (Err refused) v e = let k = refused.number in let p = refused.place in absurd (refused-done e)
 
 -- what is refused, counted, leaves diary and count
-pub refused-raised : (x : State) (n : ℕ) (o : Outcome) (a : Answer) (k p : ℕ) → (raise x n o a).answer ≡ Refused k p
-    → raise x n o a ≡ record { answer = Refused k p; state = x; changes = n }
+pub refused-raised : (x : State) (n : ℕ) (o : Outcome) (a : Answer) (k p : ℕ) → (raise x n o a).answer ≡ refused_with k p
+    → raise x n o a ≡ record { answer = refused_with k p; state = x; changes = n }
 unfolding raise
-refused-raised x n o (Done w) k p e = go (eqb n most_changes) refl e
+refused-raised x n o (Ok w) k p e = go (eqb n most_changes) refl e
   where
-    go : (t : Bool) → eqb n most_changes ≡ t → (raise x n o (Done w)).answer ≡ Refused k p
-        → raise x n o (Done w) ≡ record { answer = Refused k p; state = x; changes = n }
+    go : (t : Bool) → eqb n most_changes ≡ t → (raise x n o (done_with w)).answer ≡ refused_with k p
+        → raise x n o (done_with w) ≡ record { answer = refused_with k p; state = x; changes = n }
     go true q e =
-        let z : Refused 30 0 ≡ Refused k p = rw q at e in
+        let z : refused_with 30 0 ≡ refused_with k p = rw q at e in
         rw q (ap (λ (a : Answer). record { answer = a; state = x; changes = n }) z)
-    go false q e = absurd (let z : Done w ≡ Refused k p = rw q at e in refused-done (sym z))
-refused-raised x n o (Refused j i) k p e = ap (λ (a : Answer). record { answer = a; state = x; changes = n }) e
+    go false q e = absurd (let z : done_with w ≡ refused_with k p = rw q at e in refused-done (sym z))
+refused-raised x n o (Err refused) k p e = let j = refused.number in let i = refused.place in ap (λ (a : Answer). record { answer = a; state = x; changes = n }) e
 
 -- ---- what a request does
 
 -- It is of a kind that only asks, or of none; it is refused; it would be done, but the count is the greatest; or it is done and raises it.
 pub data Effect (x : State) (n : ℕ) (r : Request) : Type 0 where
   only_asks : is_change r ≡ false → Effect x n r
-  is_refused : (k p : ℕ) → is_change r ≡ true → (step x r).answer ≡ Refused k p → Effect x n r
-  is_full : (v : ℕ) → is_change r ≡ true → (step x r).answer ≡ Done v → n ≡ most_changes → Effect x n r
-  raises : (v : ℕ) → is_change r ≡ true → (step x r).answer ≡ Done v → (n ≡ most_changes → ⊥) → Effect x n r
+  is_refused : (k p : ℕ) → is_change r ≡ true → (step x r).answer ≡ refused_with k p → Effect x n r
+  is_full : (v : ℕ) → is_change r ≡ true → (step x r).answer ≡ done_with v → n ≡ most_changes → Effect x n r
+  raises : (v : ℕ) → is_change r ≡ true → (step x r).answer ≡ done_with v → (n ≡ most_changes → ⊥) → Effect x n r
 
 pub effect : (x : State) (n : ℕ) (r : Request) → Effect x n r
 effect x n r = go (is_change r) refl (step x r).answer refl (eqb n most_changes) refl
   where
     go : (c : Bool) → is_change r ≡ c → (a : Answer) → (step x r).answer ≡ a → (t : Bool) → eqb n most_changes ≡ t → Effect x n r
     go false c a e t q = only_asks c
-    go true c (Refused k p) e t q = is_refused k p c e
-    go true c (Done v) e true q = is_full v c e (eqb-true n most_changes q)
-    go true c (Done v) e false q = raises v c e (λ z. false≢true (sym q ∙ eq-eqb n most_changes z))
+    go true c (Err refused) e t q = let k = refused.number in let p = refused.place in is_refused k p c e
+    go true c (Ok v) e true q = is_full v c e (eqb-true n most_changes q)
+    go true c (Ok v) e false q = raises v c e (λ z. false≢true (sym q ∙ eq-eqb n most_changes z))
 
 -- the four in equations
 module _ (x : State) (n : ℕ) (r : Request) where
   pub only-asked : is_change r ≡ false → counted_step x n r ≡ record { answer = (step x r).answer; state = x; changes = n }
   only-asked c = uncounted x n r c ∙ ap (λ (z : State). record { answer = (step x r).answer; state = z; changes = n }) (query-keeps x r c)
 
-  pub full : (v : ℕ) → is_change r ≡ true → (step x r).answer ≡ Done v → n ≡ most_changes
-      → counted_step x n r ≡ record { answer = Refused 30 0; state = x; changes = n }
+  pub full : (v : ℕ) → is_change r ≡ true → (step x r).answer ≡ done_with v → n ≡ most_changes
+      → counted_step x n r ≡ record { answer = refused_with 30 0; state = x; changes = n }
   full v c e q =
       ap (λ (m : ℕ). counted_step x m r) q
       ∙ counted-full x r v c e
-      ∙ ap (λ (m : ℕ). record { answer = Refused 30 0; state = x; changes = m }) (sym q)
+      ∙ ap (λ (m : ℕ). record { answer = refused_with 30 0; state = x; changes = m }) (sym q)
 
-  pub raised_by : (v : ℕ) → is_change r ≡ true → (step x r).answer ≡ Done v → (n ≡ most_changes → ⊥)
-      → counted_step x n r ≡ record { answer = Done v; state = (step x r).state; changes = suc n }
+  pub raised_by : (v : ℕ) → is_change r ≡ true → (step x r).answer ≡ done_with v → (n ≡ most_changes → ⊥)
+      → counted_step x n r ≡ record { answer = done_with v; state = (step x r).state; changes = suc n }
   unfolding counted_step raise
   raised_by v c e h = rw (c, e, ne_eqb n most_changes h)
 
@@ -147,11 +148,11 @@ quiet_by x n r a e f =
 quiet-asks : (x : State) (n : ℕ) (r : Request) → is_change r ≡ false → Quiet x n r
 quiet-asks x n r c = quiet_by x n r _ (only-asked x n r c) (λ y s h. only-asked y (suc n) r c ∙ ap (answered y (suc n)) s)
 
-quiet-refused : (x : State) (n : ℕ) (r : Request) (k p : ℕ) → is_change r ≡ true → (step x r).answer ≡ Refused k p → Quiet x n r
-quiet-refused x n r k p c e = quiet_by x n r (Refused k p) (counted-refused x n r k p c e) (λ y s h. counted-refused y (suc n) r k p c (s ∙ e))
+quiet-refused : (x : State) (n : ℕ) (r : Request) (k p : ℕ) → is_change r ≡ true → (step x r).answer ≡ refused_with k p → Quiet x n r
+quiet-refused x n r k p c e = quiet_by x n r (refused_with k p) (counted-refused x n r k p c e) (λ y s h. counted-refused y (suc n) r k p c (s ∙ e))
 
-quiet-full : (x : State) (n : ℕ) (r : Request) (v : ℕ) → is_change r ≡ true → (step x r).answer ≡ Done v → n ≡ most_changes → Quiet x n r
-quiet-full x n r v c e q = quiet_by x n r (Refused 30 0) (full x n r v c e q) (λ y s h. absurd (h q))
+quiet-full : (x : State) (n : ℕ) (r : Request) (v : ℕ) → is_change r ≡ true → (step x r).answer ≡ done_with v → n ≡ most_changes → Quiet x n r
+quiet-full x n r v c e q = quiet_by x n r (refused_with 30 0) (full x n r v c e q) (λ y s h. absurd (h q))
 
 -- ---- one request after another
 
@@ -163,7 +164,7 @@ after x n r r' = counted_step (counted_step x n r).state (counted_step x n r).ch
 quiet-first : (x : State) (n : ℕ) (r r' : Request) → Quiet x n r → after x n r r' ≡ counted_step x n r'
 quiet-first x n r r' q = ap (λ (o : Counted). counted_step o.state o.changes r') q.now
 
-after-raise : (x : State) (n : ℕ) (r r' : Request) (v : ℕ) → is_change r ≡ true → (step x r).answer ≡ Done v → (n ≡ most_changes → ⊥)
+after-raise : (x : State) (n : ℕ) (r r' : Request) (v : ℕ) → is_change r ≡ true → (step x r).answer ≡ done_with v → (n ≡ most_changes → ⊥)
     → after x n r r' ≡ counted_step (step x r).state (suc n) r'
 after-raise x n r r' v c e h = ap (λ (o : Counted). counted_step o.state o.changes r') (raised_by x n r v c e h)
 
@@ -179,8 +180,8 @@ pub record OneLeft (x : State) (n : ℕ) (r r' : Request) : Type 0 where
   pub left : suc n ≡ most_changes
   pub one : is_change r ≡ true
   pub other : is_change r' ≡ true
-  pub first : (v : ℕ) × ((step x r).answer ≡ Done v)
-  pub second : (v : ℕ) × ((step x r').answer ≡ Done v)
+  pub first : (v : ℕ) × ((step x r).answer ≡ done_with v)
+  pub second : (v : ℕ) × ((step x r').answer ≡ done_with v)
 
 flip : {x : State} {n : ℕ} {r r' : Request} → Swaps x n r r' → Swaps x n r' r
 flip s = record { second = s.first; first = s.second; state = sym s.state; changes = sym s.changes }
@@ -198,11 +199,11 @@ module _ (x : State) (n : ℕ) (r r' : Request) (apart : Apart x.settings r r') 
       }
 
   -- r is done as a change, and r' leaves diary and count
-  quiet_one : (v : ℕ) → is_change r ≡ true → (step x r).answer ≡ Done v → (n ≡ most_changes → ⊥) → Quiet x n r' → Swaps x n r r'
+  quiet_one : (v : ℕ) → is_change r ≡ true → (step x r).answer ≡ done_with v → (n ≡ most_changes → ⊥) → Quiet x n r' → Swaps x n r r'
   quiet_one v c e h p =
       let a : after x n r r' ≡ answered (step x r).state (suc n) (counted_step x n r').answer
       = after-raise x n r r' v c e h ∙ p.then (step x r).state (exchange-answer x r r' apart) h in
-      let b : after x n r' r ≡ answered (step x r).state (suc n) (Done v) = quiet-first x n r' r p ∙ raised_by x n r v c e h in
+      let b : after x n r' r ≡ answered (step x r).state (suc n) (done_with v) = quiet-first x n r' r p ∙ raised_by x n r v c e h in
       record {
         second = ap (λ (o : Counted). o.answer) a;
         first = ap (λ (o : Counted). o.answer) (b ∙ sym (raised_by x n r v c e h));
@@ -212,9 +213,9 @@ module _ (x : State) (n : ℕ) (r r' : Request) (apart : Apart x.settings r r') 
 
 module _ (x : State) (n : ℕ) where
   -- one done change right after another
-  both-raise : (r r' : Request) → Apart x.settings r r' → (v w : ℕ) → is_change r ≡ true → (step x r).answer ≡ Done v → is_change r' ≡ true
-      → (step x r').answer ≡ Done w → (n ≡ most_changes → ⊥) → (suc n ≡ most_changes → ⊥)
-      → after x n r r' ≡ answered (step (step x r).state r').state (suc (suc n)) (Done w)
+  both-raise : (r r' : Request) → Apart x.settings r r' → (v w : ℕ) → is_change r ≡ true → (step x r).answer ≡ done_with v → is_change r' ≡ true
+      → (step x r').answer ≡ done_with w → (n ≡ most_changes → ⊥) → (suc n ≡ most_changes → ⊥)
+      → after x n r r' ≡ answered (step (step x r).state r').state (suc (suc n)) (done_with w)
   both-raise r r' apart v w c e c' e' h h' =
       after-raise x n r r' v c e h ∙ raised_by (step x r).state (suc n) r' w c' (exchange-answer x r r' apart ∙ e') h'
 
@@ -230,7 +231,7 @@ module _ (x : State) (n : ℕ) where
       right q (is_full v c e f) = quiet-both x n r r' apart q (quiet-full x n r' v c e f)
       right q (raises v c e h) = flip (quiet_one x n r' r back v c e h q)
 
-      left : (v : ℕ) → is_change r ≡ true → (step x r).answer ≡ Done v → (n ≡ most_changes → ⊥) → Effect x n r' → Swaps x n r r'
+      left : (v : ℕ) → is_change r ≡ true → (step x r).answer ≡ done_with v → (n ≡ most_changes → ⊥) → Effect x n r' → Swaps x n r r'
       left v c e h (only_asks c') = quiet_one x n r r' apart v c e h (quiet-asks x n r' c')
       left v c e h (is_refused k p c' e') = quiet_one x n r r' apart v c e h (quiet-refused x n r' k p c' e')
       left v c e h (is_full w c' e' f) = absurd (h f)
@@ -254,7 +255,7 @@ module _ (x : State) (n : ℕ) where
 
 -- of two changes that share no date, where the count can rise by one only, the one that comes first is done, and 30 refuses the other
 pub one_only : (x : State) (n : ℕ) (r r' : Request) → Apart x.settings r r' → OneLeft x n r r'
-    → ((counted_step x n r).answer ≡ (step x r).answer) × ((after x n r r').answer ≡ Refused 30 0)
+    → ((counted_step x n r).answer ≡ (step x r).answer) × ((after x n r r').answer ≡ refused_with 30 0)
 one_only x n r r' apart h =
     let room : n ≡ most_changes → ⊥ = λ z. omega (arith, z, h.left) in (
       ap (λ (o : Counted). o.answer) (raised_by x n r h.first.0 h.one h.first.1 room) ∙ sym h.first.1,
@@ -315,17 +316,17 @@ exchange-counted x n (c ∷ cs) ds r r' apart spare =
     }
 
 -- changes that are all done with 0 raise the count by as many as they are, where it can rise so far
-pub all_done : (x : State) (n : ℕ) (rs : List Request) → every is_change rs ≡ true → (steps x rs).answers ≡ replicate (length rs) (Done 0)
+pub all_done : (x : State) (n : ℕ) (rs : List Request) → every is_change rs ≡ true → (steps x rs).answers ≡ replicate (length rs) (done_with 0)
     → n + length rs ≤ most_changes
-    → counted_steps x n rs ≡ record { answers = replicate (length rs) (Done 0); state = (steps x rs).state; changes = n + length rs }
+    → counted_steps x n rs ≡ record { answers = replicate (length rs) (done_with 0); state = (steps x rs).state; changes = n + length rs }
 unfolding steps counted_steps
 all_done x n [] c e h =
     let q : n ≡ n + 0 = omega arith in
     ap (λ (m : ℕ). record { answers = []; state = x; changes = m }) q
 all_done x n (r ∷ rs) c e h =
-    let d : (step x r).answer ≡ Done 0 = ap (λ (l : List Answer). get_or l 0 (Done 1)) e in
-    let later : (steps (step x r).state rs).answers ≡ replicate (length rs) (Done 0) = ap (λ (l : List Answer). drop 1 l) e in
-    let now : counted_step x n r ≡ answered (step x r).state (suc n) (Done 0)
+    let d : (step x r).answer ≡ done_with 0 = ap (λ (l : List Answer). get_or l 0 (done_with 1)) e in
+    let later : (steps (step x r).state rs).answers ≡ replicate (length rs) (done_with 0) = ap (λ (l : List Answer). drop 1 l) e in
+    let now : counted_step x n r ≡ answered (step x r).state (suc n) (done_with 0)
     = raised_by x n r 0 (and_left (is_change r) _ c) d (λ z. omega (arith, z, h)) in
     let rest = all_done (step x r).state (suc n) rs (and_right (is_change r) _ c) later (omega (arith, h)) in
     let q : suc n + length rs ≡ n + suc (length rs) = omega arith in
@@ -334,8 +335,8 @@ all_done x n (r ∷ rs) c e h =
       state = (counted_steps o.state o.changes rs).state;
       changes = (counted_steps o.state o.changes rs).changes;
     }) now
-    ∙ ap (λ (u : CountedSteps). record { answers = Done 0 ∷ u.answers; state = u.state; changes = u.changes }) rest
-    ∙ ap (λ (m : ℕ). record { answers = Done 0 ∷ replicate (length rs) (Done 0); state = (steps (step x r).state rs).state; changes = m }) q
+    ∙ ap (λ (u : CountedSteps). record { answers = done_with 0 ∷ u.answers; state = u.state; changes = u.changes }) rest
+    ∙ ap (λ (m : ℕ). record { answers = done_with 0 ∷ replicate (length rs) (done_with 0); state = (steps (step x r).state rs).state; changes = m }) q
 
 -- ---- sending again
 
@@ -361,7 +362,7 @@ module _ (x : State) (n : ℕ) (r : Request) where
       go (only_asks c) = same _ n x (only-asked x n r c) (none_more _ (ap (λ (t : Bool). t && is_done (step x r).answer) c))
       go (is_refused k p c e) = same _ n x (counted-refused x n r k p c e) (none_more _ (off (is_change r)))
       go (is_full v c e q) = same _ n x (full x n r v c e q) (none_more _ (off (is_change r)))
-      go (raises v c e h) = same (Done v) (suc n) _ (raised_by x n r v c e h) (rw c (omega arith))
+      go (raises v c e h) = same (done_with v) (suc n) _ (raised_by x n r v c e h) (rw c (omega arith))
 
   -- "Sending a request twice leaves the sets that sending it once leaves."
   pub repeat-counted : (counted_step (counted_step x n r).state (counted_step x n r).changes r).state ≡ (counted_step x n r).state
@@ -408,7 +409,7 @@ changing removal = true
 changing meetings = true
 changing queries = false
 
-asked-kind : (i : ℕ) (k : Kind) → get_or (drop 17 kinds) i none ≡ some k → changing (group k) ≡ false
+asked-kind : (i : ℕ) (k : Kind) → get_or (drop 17 kinds) i None ≡ Some k → changing (group k) ≡ false
 asked-kind zero k e = let z : which_meeting ≡ k = cc in ap (λ (j : Kind). changing (group j)) (sym z)
 asked-kind (suc zero) k e = let z : count_leave ≡ k = cc in ap (λ (j : Kind). changing (group j)) (sym z)
 asked-kind (suc (suc zero)) k e = let z : seats_left ≡ k = cc in ap (λ (j : Kind). changing (group j)) (sym z)
@@ -416,14 +417,14 @@ asked-kind (suc (suc (suc zero))) k e = let z : free_room ≡ k = cc in ap (λ (
 asked-kind (suc (suc (suc (suc i)))) k e = absurd (let z : ◌≡◌ {A = ℕ} 0 1 = cc in omega arith)
 
 -- a request of a kind that is no query is a change
-pub is-change : (r : Request) (k : Kind) → kind_of r.kind ≡ some k → changing (group k) ≡ true → is_change r ≡ true
+pub is-change : (r : Request) (k : Kind) → kind_of r.kind ≡ Some k → changing (group k) ≡ true → is_change r ≡ true
 unfolding kind_of
 is-change r k q g = go r.kind q (is_change r) refl
   where
-    go : (n : ℕ) → kind_of n ≡ some k → (t : Bool) → within 1 16 n ≡ t → t ≡ true
+    go : (n : ℕ) → kind_of n ≡ Some k → (t : Bool) → within 1 16 n ≡ t → t ≡ true
     go n q true e = refl
     go zero q false e = absurd (let z : ◌≡◌ {A = ℕ} 0 1 = cc in omega arith)
     go (suc n) q false e =
         both g
         (asked-kind (suc n - 17) k
-        (get_or-drop 17 kinds (suc n - 17) none ∙ ap (λ (m : ℕ). get_or kinds m none) (past-changes n e) ∙ q))
+        (get_or-drop 17 kinds (suc n - 17) None ∙ ap (λ (m : ℕ). get_or kinds m None) (past-changes n e) ∙ q))

@@ -5,7 +5,7 @@ use Prim.Native.Nat.{ℕ, zero, suc, ◌+◌, ◌*◌, ◌-◌, ◌/◌, ◌≤�
 use mathlib.Core.Path.{◌≡◌, refl, sym, ◌∙◌, ap, ap₂, subst}
 use mathlib.Core.Logic.{◌⊎◌, inl, inr}
 use mathlib.Core.Bool.{Bool, true, false, not, ◌&&◌, ◌||◌, cond, false≢true}
-use mathlib.Core.Option.{Option, none, some}
+use Rattle.std.specs.Prelude.{Option, None, Some}
 use mathlib.Core.List.{List, [], ◌∷◌, ◌++◌, append_assoc, map, map-append}
 use native.Mathlib.Nat.{add-div_right, div-zero, eq-zero-or-pos}
 use native.Mathlib.Omega.{arith}
@@ -14,8 +14,8 @@ use lib.ListN.{length, get_or, drop, length-append}
 use borrow.Author.Tests.{eq-eqb, leb-true, leb-false}
 use Rattle.model.specs.declared.Settings.{Settings}
 use Rattle.model.specs.declared.Request.{Request}
-use Rattle.model.specs.declared.Answer.{Answer}
-use Rattle.model.specs.declared.Answer.TheVariants.{Done, Refused}
+use Rattle.model.specs.Answers.{Answer}
+use Rattle.model.specs.Answers.{done_with, refused_with}
 use Rattle.model.specs.Site.{valid_settings}
 use Rattle.model.specs.State.{State, empty_state}
 use Rattle.model.specs.Kinds.{Kind, Unit, dates, sessions, times, kind_of, row, limit, slots_of, date_of}
@@ -100,7 +100,7 @@ pub slots_apart : (S : Settings) (r r' : Request) → NoDateShared S r r' → r.
 unfolding on_date
 slots_apart S r r' h f f' d e e' = kind (kind_of r.kind) refl (kind_of r'.kind) refl e e'
   where
-    on : (q : Request) (k : Kind) → q.first ≤ q.last → dates_of S q (some k) d ≡ true → SlotOn S (row k).unit q.first q.last d
+    on : (q : Request) (k : Kind) → q.first ≤ q.last → dates_of S q (Some k) d ≡ true → SlotOn S (row k).unit q.first q.last d
     on q k f e =
         let w = within-true _ _ d e in
         let n : q.first + (q.last - q.first) ≡ q.last = omega (arith, f) in
@@ -108,9 +108,9 @@ slots_apart S r r' h f f' d e e' = kind (kind_of r.kind) refl (kind_of r'.kind) 
         (slot-on S (row k).unit q.first (q.last - q.first) d w.0 (rw n w.1))
 
     kind : (o : Option Kind) → kind_of r.kind ≡ o → (o' : Option Kind) → kind_of r'.kind ≡ o' → dates_of S r o d ≡ true → dates_of S r' o' d ≡ true → ⊥
-    kind none q o' q' e e' = false≢true e
-    kind (some k) q none q' e e' = false≢true e'
-    kind (some k) q (some k') q' e e' =
+    kind None q o' q' e e' = false≢true e
+    kind (Some k) q None q' e e' = false≢true e'
+    kind (Some k) q (Some k') q' e e' =
         let a = on r k f e in
         let b = on r' k' f' e' in
         h k k' q q' a.at b.at (true-within _ _ _ a.low a.high) (true-within _ _ _ b.low b.high) (a.on ∙ sym b.on)
@@ -122,7 +122,7 @@ apart-slots S r r' h k k' q q' i i' s s' e =
     h (date_of S (row k).unit i) (ap (λ (o : Option Kind). dates_of S r o (date_of S (row k).unit i)) q ∙ slot-reach S r k i s)
     (ap₂ (λ (o : Option Kind) (d : ℕ). dates_of S r' o d) q' e ∙ slot-reach S r' k' i' s')
 
-pub before-slots : (S : Settings) (r r' : Request) (k k' : Kind) → kind_of r.kind ≡ some k → kind_of r'.kind ≡ some k'
+pub before-slots : (S : Settings) (r r' : Request) (k k' : Kind) → kind_of r.kind ≡ Some k → kind_of r'.kind ≡ Some k'
     → date_of S (row k).unit r.last < date_of S (row k').unit r'.first → NoDateShared S r r'
 before-slots S r r' k k' q q' h = apart-slots S r r' (apart-before S r r' k k' q q' h)
 
@@ -148,21 +148,21 @@ always-alike x y r k e =
     )
   where
     whole : Bool → Option ℕ
-    whole t = cond t none (some 0)
+    whole t = cond t None (Some 0)
 
 -- a request whose first slot is after its last is refused on every diary of the site by the same question
 record TurnedAway (x : State) (r : Request) : Type 0 where
   number : ℕ
   place : ℕ
-  refused : (y : State) → y.settings ≡ x.settings → (step y r).answer ≡ Refused number place
+  refused : (y : State) → y.settings ≡ x.settings → (step y r).answer ≡ refused_with number place
 
 turned-away : (x : State) (r : Request) → r.last < r.first → TurnedAway x r
 unfolding step
 turned-away x r h = kind (kind_of r.kind) refl
   where
-    known : (k : Kind) (o : Option Refusal) → judge x r k always ≡ o → kind_of r.kind ≡ some k → TurnedAway x r
-    known k none e q = absurd (omega (arith, h, (slots-fit x r k (said_in x r k 7 always (judged x r k always e))).0))
-    known k (some f) e q =
+    known : (k : Kind) (o : Option Refusal) → judge x r k always ≡ o → kind_of r.kind ≡ Some k → TurnedAway x r
+    known k None e q = absurd (omega (arith, h, (slots-fit x r k (said_in x r k 7 always (judged x r k always e))).0))
+    known k (Some f) e q =
         record {
           number = f.number;
           place = f.place;
@@ -173,14 +173,14 @@ turned-away x r h = kind (kind_of r.kind) refl
         }
 
     kind : (o : Option Kind) → kind_of r.kind ≡ o → TurnedAway x r
-    kind none q = record { number = 3; place = 0; refused = λ y s. ap (λ (o : Option Kind). (step_kind y r o).answer) q }
-    kind (some k) q = known k (judge x r k always) refl q
+    kind None q = record { number = 3; place = 0; refused = λ y s. ap (λ (o : Option Kind). (step_kind y r o).answer) q }
+    kind (Some k) q = known k (judge x r k always) refl q
 
-refused-leaves : (x : State) (n : ℕ) (r : Request) (k p : ℕ) → (step x r).answer ≡ Refused k p
-    → counted_step x n r ≡ record { answer = Refused k p; state = x; changes = n }
+refused-leaves : (x : State) (n : ℕ) (r : Request) (k p : ℕ) → (step x r).answer ≡ refused_with k p
+    → counted_step x n r ≡ record { answer = refused_with k p; state = x; changes = n }
 refused-leaves x n r k p e = go (is_change r) refl
   where
-    go : (t : Bool) → is_change r ≡ t → counted_step x n r ≡ record { answer = Refused k p; state = x; changes = n }
+    go : (t : Bool) → is_change r ≡ t → counted_step x n r ≡ record { answer = refused_with k p; state = x; changes = n }
     go true c = counted-refused x n r k p c e
     go false c = only-asked x n r c ∙ ap (λ (a : Answer). record { answer = a; state = x; changes = n }) e
 
@@ -189,9 +189,9 @@ turned-swaps : (x : State) (n : ℕ) (r r' : Request) → r.last < r.first → S
 turned-swaps x n r r' h =
     let t = turned-away x r h in
     let o : Counted = counted_step x n r' in
-    let a : counted_step x n r ≡ record { answer = Refused t.number t.place; state = x; changes = n }
+    let a : counted_step x n r ≡ record { answer = refused_with t.number t.place; state = x; changes = n }
     = refused-leaves x n r t.number t.place (t.refused x refl) in
-    let b : counted_step o.state o.changes r ≡ record { answer = Refused t.number t.place; state = o.state; changes = o.changes }
+    let b : counted_step o.state o.changes r ≡ record { answer = refused_with t.number t.place; state = o.state; changes = o.changes }
     = refused-leaves o.state o.changes r t.number t.place (t.refused o.state (counted-settings x n r')) in
     let c : counted_step (counted_step x n r).state (counted_step x n r).changes r' ≡ o = ap (λ (u : Counted). counted_step u.state u.changes r') a in
     record {
@@ -338,20 +338,20 @@ exchange-shown b l h cs ds r r' apart spare =
 
 -- a list of calls on a book that questions 1 and 2 refuse: each is refused, and the book stays
 pub unfit-calls : (b : List ℕ) (u : Unfit b) (cs : List Call)
-    → calls b cs ≡ record { replies = map (λ c. refusing c (Refused u.number 0)) cs; book = b }
+    → calls b cs ≡ record { replies = map (λ c. refusing c (refused_with u.number 0)) cs; book = b }
 unfolding calls
 unfit-calls b u [] = refl
 unfit-calls b u (c ∷ cs) =
     ap (λ (k : Called). record { replies = k.reply ∷ (calls k.book cs).replies; book = (calls k.book cs).book }) (u.refused c)
-    ∙ ap (λ (k : Calls). record { replies = refusing c (Refused u.number 0) ∷ k.replies; book = k.book }) (unfit-calls b u cs)
+    ∙ ap (λ (k : Calls). record { replies = refusing c (refused_with u.number 0) ∷ k.replies; book = k.book }) (unfit-calls b u cs)
 
 exchange-unfit : (b : List ℕ) → Unfit b → (cs ds : List Call) (r r' : Request)
     → ExchangedOn b cs r r' (calls b (cs ++ request r ∷ request r' ∷ ds)) (calls b (cs ++ request r' ∷ request r ∷ ds))
 exchange-unfit b u cs ds r r' =
-    let f : Call → Reply = λ c. refusing c (Refused u.number 0) in
+    let f : Call → Reply = λ c. refusing c (refused_with u.number 0) in
     let all : (k : List Call) → calls b k ≡ record { replies = map f k; book = b } = unfit-calls b u in
     let stays : (calls b cs).book ≡ b = ap (λ (c : Calls). c.book) (all cs) in
-    let told_of : (q : Request) → (call (calls b cs).book q).reply ≡ told (Refused u.number 0)
+    let told_of : (q : Request) → (call (calls b cs).book q).reply ≡ told (refused_with u.number 0)
     = λ q. ap (λ (w : List ℕ). (call w q).reply) stays ∙ ap (λ (c : Called). c.reply) (u.refused (request q)) in
     let a = all (cs ++ request r ∷ request r' ∷ ds) in
     let b' = all (cs ++ request r' ∷ request r ∷ ds) in
@@ -466,7 +466,7 @@ module _ (k : ℕ) (w v a : List ℕ) (cs ds : List Call) (r r' : Request)
             ap₂ (λ (u : List Reply) (n : ℕ). replies_words u ++ drop (3 * n) a) e.0.second as_many
             ∙ words_of (run l cs).replies (answer_to m r') (answer_to m r) e.0.later end;
         book = ap book_words e.1;
-        answer = ap Done (sym as_many);
+        answer = ap done_with (sym as_many);
       }
 
   -- on a book that passes questions 1 and 2, and on a book laid anew

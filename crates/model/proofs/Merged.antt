@@ -5,14 +5,14 @@ use Prim.Native.Nat.{ℕ, suc, ◌+◌, ◌≤◌}
 use mathlib.Core.Path.{◌≡◌, refl, sym, ◌∙◌, ap, ap₂, subst}
 use mathlib.Core.Logic.{◌⊎◌, inl, inr}
 use mathlib.Core.Bool.{Bool, true, false}
-use mathlib.Core.Option.{some}
+use Rattle.std.specs.Prelude.{Some}
 use mathlib.Core.List.{List, [], ◌∷◌, ◌++◌, append-nil, map, map-append}
 use native.Mathlib.Omega.{arith}
 use lib.ListN.{length, replicate, length-map}
 use Rattle.model.specs.declared.Settings.{Settings}
 use Rattle.model.specs.declared.Request.{Request}
-use Rattle.model.specs.declared.Answer.{Answer}
-use Rattle.model.specs.declared.Answer.TheVariants.{Refused}
+use Rattle.model.specs.Answers.{Answer}
+use Rattle.model.specs.Answers.{refused_with}
 use Rattle.model.specs.Site.{valid_settings}
 use Rattle.model.specs.State.{State, empty_state}
 use Rattle.model.specs.Machine.{Counted, most_changes, counted_step, Call, request, Reply, told, Run, run}
@@ -109,7 +109,7 @@ record Passing (x : State) (n : ℕ) (r : Request) (rs : List Request) : Type 0 
   changes : (counted_step (counted_steps x n rs).state (counted_steps x n rs).changes r).changes ≡ (then (counted_step x n r) rs).changes
 
 passing : (x : State) (n : ℕ) (r : Request) (rs : List Request)
-    → ((i : ℕ) (q : Request) → nth rs i ≡ some q → NoDateShared x.settings r q) → n + suc (length rs) ≤ most_changes → Passing x n r rs
+    → ((i : ℕ) (q : Request) → nth rs i ≡ Some q → NoDateShared x.settings r q) → n + suc (length rs) ≤ most_changes → Passing x n r rs
 unfolding counted_steps
 passing x n r [] h room = record { answers = refl; answer = refl; state = refl; changes = refl }
 passing x n r (q ∷ rs) h room =
@@ -286,7 +286,7 @@ merge-shown b l h cs ds w rs rs' apart room =
 
 merge-unfit : (b : List ℕ) → Unfit b → (cs ds : List Call) (w : List Bool) (rs rs' : List Request) → MergedOn b cs ds w rs rs'
 merge-unfit b u cs ds w rs rs' =
-    let f : Call → Reply = λ c. refusing c (Refused u.number 0) in
+    let f : Call → Reply = λ c. refusing c (refused_with u.number 0) in
     let all : (k : List Call) → calls b k ≡ record { replies = map f k; book = b } = unfit-calls b u in
     let stays : (k : List Call) → (calls b k).book ≡ b = λ k. ap (λ (c : Calls). c.book) (all k) in
     let behind : (k ks : List Call) → (calls (calls b k).book ks).replies ≡ map f ks

@@ -7,7 +7,7 @@ use mathlib.Core.List.{List, [], ◌∷◌}
 use lib.ListN.{get_or, take}
 use Rattle.model.specs.declared.Request.{Request}
 use Rattle.model.specs.declared.Guest.{Guest}
-use Rattle.model.specs.declared.Answer.TheVariants.{Done, Refused}
+use Rattle.model.specs.Answers.{done_with, refused_with}
 use Rattle.model.specs.Site.{settings_words}
 use Rattle.model.specs.State.{empty_state, reserved}
 use Rattle.model.specs.Kinds.{kind_of}
@@ -52,19 +52,19 @@ offices =
     ∷ []
 
 pub two-offices : (run (empty_ledger site) offices).replies
-    ≡ asked (Refused 9 0) 0
-    ∷ told (Done 0)
-    ∷ told (Done 0)
-    ∷ asked (Done 0) 2
-    ∷ asked (Done 0) 2
-    ∷ told (Done 0)
-    ∷ told (Refused 29 0)
-    ∷ asked (Refused 12 1) 3
-    ∷ asked (Done 0) 3
-    ∷ told (Done 1)
-    ∷ told (Refused 13 1)
-    ∷ told (Done 0)
-    ∷ told (Done 0)
+    ≡ asked (refused_with 9 0) 0
+    ∷ told (done_with 0)
+    ∷ told (done_with 0)
+    ∷ asked (done_with 0) 2
+    ∷ asked (done_with 0) 2
+    ∷ told (done_with 0)
+    ∷ told (refused_with 29 0)
+    ∷ asked (refused_with 12 1) 3
+    ∷ asked (done_with 0) 3
+    ∷ told (done_with 1)
+    ∷ told (refused_with 13 1)
+    ∷ told (done_with 0)
+    ∷ told (done_with 0)
     ∷ []
 unfolding run counted_step raise step change value kind_of ask test empty_ledger empty_state reserved bookings stands_on conf_held lunch_held meeting_of lowest_free
 two-offices = refl
@@ -102,27 +102,27 @@ sorts =
     ∷ []
 
 pub every-sort : (run (empty_ledger site) sorts).replies
-    ≡ told (Refused 9 0)
-    ∷ told (Done 0)
-    ∷ told (Done 0)
-    ∷ told (Refused 9 0)
-    ∷ asked (Done 0) 1
-    ∷ told (Refused 28 0)
-    ∷ told (Done 0)
-    ∷ told (Done 0)
-    ∷ told (Done 0)
-    ∷ told (Refused 10 3)
-    ∷ told (Done 0)
-    ∷ asked (Done 0) 4
-    ∷ told (Refused 29 0)
-    ∷ told (Done 0)
-    ∷ asked (Done 2) 5
-    ∷ told (Done 2)
-    ∷ told (Refused 29 0)
-    ∷ told (Refused 3 0)
-    ∷ told (Done 0)
-    ∷ told (Done 0)
-    ∷ told (Done 0)
+    ≡ told (refused_with 9 0)
+    ∷ told (done_with 0)
+    ∷ told (done_with 0)
+    ∷ told (refused_with 9 0)
+    ∷ asked (done_with 0) 1
+    ∷ told (refused_with 28 0)
+    ∷ told (done_with 0)
+    ∷ told (done_with 0)
+    ∷ told (done_with 0)
+    ∷ told (refused_with 10 3)
+    ∷ told (done_with 0)
+    ∷ asked (done_with 0) 4
+    ∷ told (refused_with 29 0)
+    ∷ told (done_with 0)
+    ∷ asked (done_with 2) 5
+    ∷ told (done_with 2)
+    ∷ told (refused_with 29 0)
+    ∷ told (refused_with 3 0)
+    ∷ told (done_with 0)
+    ∷ told (done_with 0)
+    ∷ told (done_with 0)
     ∷ []
 unfolding run counted_step counted_party raise admit joined step change value kind_of ask test empty_ledger empty_state reserved bookings stands_on conf_held
     lunch_held meeting_of lowest_free keep empty_tail same_request
@@ -160,21 +160,21 @@ last =
     ∷ []
 
 pub greatest : (run nearly_full last).replies
-    ≡ asked (Done 0) 4294967294
-    ∷ told (Done 0)
-    ∷ told (Refused 30 0)
-    ∷ told (Refused 15 0)
-    ∷ told (Done 1)
-    ∷ told (Done 0)
-    ∷ told (Refused 30 0)
-    ∷ told (Refused 30 0)
-    ∷ told (Refused 30 0)
-    ∷ told (Refused 10 3)
-    ∷ asked (Refused 30 0) 4294967295
-    ∷ told (Refused 30 0)
-    ∷ told (Refused 29 0)
-    ∷ told (Refused 15 0)
-    ∷ told (Done 1)
+    ≡ asked (done_with 0) 4294967294
+    ∷ told (done_with 0)
+    ∷ told (refused_with 30 0)
+    ∷ told (refused_with 15 0)
+    ∷ told (done_with 1)
+    ∷ told (done_with 0)
+    ∷ told (refused_with 30 0)
+    ∷ told (refused_with 30 0)
+    ∷ told (refused_with 30 0)
+    ∷ told (refused_with 10 3)
+    ∷ asked (refused_with 30 0) 4294967295
+    ∷ told (refused_with 30 0)
+    ∷ told (refused_with 29 0)
+    ∷ told (refused_with 15 0)
+    ∷ told (done_with 1)
     ∷ []
 unfolding run counted_step counted_party raise admit joined step change value kind_of ask test empty_ledger empty_state reserved bookings stands_on conf_held
     lunch_held meeting_of lowest_free keep empty_tail same_request

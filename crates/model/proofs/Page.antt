@@ -3,7 +3,7 @@
 use Prim.Native.Nat.{ℕ, zero, suc, ◌+◌, ◌≤◌, ◌<◌, ◌*◌}
 use mathlib.Core.Path.{◌≡◌, refl, sym, ◌∙◌, ap, ap₂}
 use mathlib.Core.Bool.{Bool, true, false, cond}
-use mathlib.Core.Option.{Option, none, some}
+use Rattle.std.specs.Prelude.{Option, None, Some}
 use mathlib.Core.List.{List, [], ◌∷◌, ◌++◌}
 use native.Mathlib.Omega.{arith}
 use lib.Dec.{leb, ltb, eqb}
@@ -11,7 +11,7 @@ use lib.ListN.{length}
 use borrow.Author.Tests.{eqb-true}
 use Rattle.model.specs.declared.Settings.{Settings}
 use Rattle.model.specs.declared.Request.{Request}
-use Rattle.model.specs.declared.Answer.TheVariants.{Refused}
+use Rattle.model.specs.Answers.{refused_with}
 use Rattle.model.specs.Bounded.{is_some, one}
 use Rattle.model.specs.Site.{all_sessions, date_of_session}
 use Rattle.model.specs.State.{State, empty_state, reserved}
@@ -99,7 +99,7 @@ unfolding run counted_step raise step change value kind_of ask test empty_ledger
 session-first = refl
 
 -- "Refused, every byte of the page is as before."
-pub page-kept : (b : List ℕ) (d : ℕ) (p : List ℕ) {n i : ℕ} → (page b d p).answer ≡ Refused n i → (page b d p).page ≡ p
+pub page-kept : (b : List ℕ) (d : ℕ) (p : List ℕ) {n i : ℕ} → (page b d p).answer ≡ refused_with n i → (page b d p).page ≡ p
 unfolding page
 page-kept b d p {n} {i} e =
     go (well_laid b) (lawful b) (ltb d (ledger_of b).diary.settings.dates) (leb (line_width * length ls) (length p)) e
@@ -107,7 +107,7 @@ page-kept b d p {n} {i} e =
     ls : List PageLine
     ls = page_lines (ledger_of b).diary d
 
-    go : (o t s r : Bool) → (page_by o t s r ls p).answer ≡ Refused n i → (page_by o t s r ls p).page ≡ p
+    go : (o t s r : Bool) → (page_by o t s r ls p).answer ≡ refused_with n i → (page_by o t s r ls p).page ≡ p
     go true true true true e = absurd (let z : ◌≡◌ {A = ℕ} 0 1 = cc in omega arith)
     go true true true false e = refl
     go true true false r e = refl
@@ -140,8 +140,8 @@ module _ (x y : State) (s : ℕ) (S : x.settings ≡ y.settings) (conf : (c m : 
       rw (← S) (lowest-same (λ m. is_some (x.conf s c m)) (λ m. is_some (y.conf s c m)) 0 x.settings.meetings (λ m l k. ap is_some (conf c m)))
 
   line_same : (c : ℕ) (o : Option ℕ) → line_of x s c o ≡ line_of y s c o
-  line_same c none = refl
-  line_same c (some m) =
+  line_same c None = refl
+  line_same c (Some m) =
       ap₂ (λ (n i : ℕ). record { session = s; room = c; meeting = m; attending = n; info = i } ∷ []) (attending-same m) (ap info_of (conf c m))
 
   session-same : session_lines x s ≡ session_lines y s

@@ -9,11 +9,13 @@ use native.Mathlib.Omega.{arith}
 use lib.Dec.{eqb}
 use lib.ListN.{length, length-append, replicate}
 use borrow.Author.Tests.{eqb-true}
+use Rattle.model.proofs.Answers.{same-number, same-place}
 use Rattle.model.specs.declared.Settings.{Settings}
 use Rattle.model.specs.declared.Request.{Request}
 use Rattle.model.specs.declared.Guest.{Guest}
-use Rattle.model.specs.declared.Answer.{Answer}
-use Rattle.model.specs.declared.Answer.TheVariants.{Done, Refused}
+use Rattle.model.specs.Answers.{Answer}
+use Rattle.std.specs.Prelude.{Ok, Err}
+use Rattle.model.specs.Answers.{done_with, refused_with}
 use Rattle.model.specs.State.{State, attends}
 use Rattle.model.specs.Bounded.{within, any, failing}
 use Rattle.model.specs.Kinds.{kind_of, Kind.add_attend}
@@ -26,11 +28,11 @@ use Rattle.model.proofs.Done.{Accepted, accepted-step, done-of, refused-keeps, j
 use Rattle.model.proofs.Runs.{AllZero}
 
 abbrev done_at : State → Outcome
-done_at y = record { answer = Done 0; state = y }
+done_at y = record { answer = done_with 0; state = y }
 
 -- a guest who is added: done with 0, and the state with their entries
 module _ (x : State) (m : ℕ) (g : Guest) where
-  pub accepted-guest : (v : ℕ) → (step x (joining m g)).answer ≡ Done v → Accepted x (joining m g) add_attend
+  pub accepted-guest : (v : ℕ) → (step x (joining m g)).answer ≡ done_with v → Accepted x (joining m g) add_attend
   unfolding kind_of
   accepted-guest v e = done-of x (joining m g) add_attend v refl e
 
@@ -44,7 +46,7 @@ module _ (x : State) (m : ℕ) (g : Guest) (gs : List Guest) where
   unfolding joined
   joined-on y e = rw e
 
-  pub joined-off : {n p : ℕ} → (step x (joining m g)).answer ≡ Refused n p → joined x m (g ∷ gs) ≡ step x (joining m g)
+  pub joined-off : {n p : ℕ} → (step x (joining m g)).answer ≡ refused_with n p → joined x m (g ∷ gs) ≡ step x (joining m g)
   unfolding joined
   joined-off e = rw e
 
@@ -61,16 +63,16 @@ pub record FirstOut (x : State) (m : ℕ) (gs : List Guest) (n p : ℕ) : Type 0
   pub reached : State
   pub are : gs ≡ before ++ guest ∷ after
   pub added : AllIn x m before reached
-  pub refused : (step reached (joining m guest)).answer ≡ Refused n p
+  pub refused : (step reached (joining m guest)).answer ≡ refused_with n p
 
 -- one of the two is so
 pub data Fate (x : State) (m : ℕ) (gs : List Guest) : Type 0 where
   all_in : (y : State) → AllIn x m gs y → Fate x m gs
-  first_out : (n p : ℕ) → FirstOut x m gs n p → (joined x m gs).answer ≡ Refused n p → Fate x m gs
+  first_out : (n p : ℕ) → FirstOut x m gs n p → (joined x m gs).answer ≡ refused_with n p → Fate x m gs
 
 -- one guest more in front
 first_step : (x y : State) (r : Request) (rs : List Request) → step x r ≡ done_at y
-    → steps x (r ∷ rs) ≡ record { answers = Done 0 ∷ (steps y rs).answers; state = (steps y rs).state }
+    → steps x (r ∷ rs) ≡ record { answers = done_with 0 ∷ (steps y rs).answers; state = (steps y rs).state }
 unfolding steps
 first_step x y r rs e =
     ap (λ (o : Outcome). record { answers = o.answer ∷ (steps o.state rs).answers; state = (steps o.state rs).state }) e
@@ -81,7 +83,7 @@ all-in x y z m g gs e a =
     record {
       joined = joined-on x m g gs y e ∙ a.joined;
       requests = record {
-        answers = ap (λ (l : Steps). l.answers) q ∙ ap (λ (l : List Answer). Done 0 ∷ l) a.requests.answers;
+        answers = ap (λ (l : Steps). l.answers) q ∙ ap (λ (l : List Answer). done_with 0 ∷ l) a.requests.answers;
         state = ap (λ (l : Steps). l.state) q ∙ a.requests.state;
       };
     }
@@ -108,8 +110,8 @@ fate x m (g ∷ gs) = go (step x (joining m g)).answer refl (fate (change x (joi
         (ap (λ (o : Outcome). o.answer) (joined-on x m g gs y e) ∙ h)
 
     go : (a : Answer) → (step x (joining m g)).answer ≡ a → Fate (change x (joining m g) add_attend) m gs → Fate x m (g ∷ gs)
-    go (Done v) e f = later (change x (joining m g) add_attend) (added x m g (accepted-guest x m g v e)) f
-    go (Refused n p) e f =
+    go (Ok v) e f = later (change x (joining m g) add_attend) (added x m g (accepted-guest x m g v e)) f
+    go (Err refused) e f = let n = refused.number in let p = refused.place in
         first_out n p (
         record {
           before = [];
@@ -125,7 +127,7 @@ fate x m (g ∷ gs) = go (step x (joining m g)).answer refl (fate (change x (joi
 
 -- how an answer of joined is carried over to the party
 module _ (x : State) (m : ℕ) (gs : List Guest) where
-  pub admit-unfit : party_fits gs ≡ false → admit x m gs ≡ record { answer = Refused 27 0; state = x }
+  pub admit-unfit : party_fits gs ≡ false → admit x m gs ≡ record { answer = refused_with 27 0; state = x }
   unfolding admit
   admit-unfit f = rw f
 
@@ -133,35 +135,35 @@ module _ (x : State) (m : ℕ) (gs : List Guest) where
   unfolding admit
   admit-in f y e = rw (f, e)
 
-  pub admit-out : party_fits gs ≡ true → {n p : ℕ} → (joined x m gs).answer ≡ Refused n p → admit x m gs ≡ record { answer = Refused n p; state = x }
+  pub admit-out : party_fits gs ≡ true → {n p : ℕ} → (joined x m gs).answer ≡ refused_with n p → admit x m gs ≡ record { answer = refused_with n p; state = x }
   unfolding admit
   admit-out f e = rw (f, e)
 
 -- guests whose requests are all done are all added
-all-joined : (x : State) (m : ℕ) (gs : List Guest) → (steps x (map (joining m) gs)).answers ≡ replicate (length gs) (Done 0)
+all-joined : (x : State) (m : ℕ) (gs : List Guest) → (steps x (map (joining m) gs)).answers ≡ replicate (length gs) (done_with 0)
     → joined x m gs ≡ done_at (steps x (map (joining m) gs)).state
 unfolding joined steps
 all-joined x m [] e = refl
 all-joined x m (g ∷ gs) e =
     let o : Outcome = step x (joining m g) in
     let later : List Answer = (steps o.state (map (joining m) gs)).answers in
-    let q : o.answer ∷ later ≡ Done 0 ∷ replicate (length gs) (Done 0) = e in
-    let h : o.answer ≡ Done 0 = cc in
-    let t : later ≡ replicate (length gs) (Done 0) = cc in
+    let q : o.answer ∷ later ≡ done_with 0 ∷ replicate (length gs) (done_with 0) = e in
+    let h : o.answer ≡ done_with 0 = cc in
+    let t : later ≡ replicate (length gs) (done_with 0) = cc in
     joined-on x m g gs o.state (λ j. record { answer = h j; state = o.state }) ∙ all-joined o.state m gs t
 
 module _ (x : State) (m : ℕ) (gs : List Guest) where
   -- "A party that is done is its guests' requests of kind 10 sent one by one: all are done, and they lead to the same state."
-  pub party-done : (v : ℕ) → (admit x m gs).answer ≡ Done v → AllIn x m gs (admit x m gs).state
+  pub party-done : (v : ℕ) → (admit x m gs).answer ≡ done_with v → AllIn x m gs (admit x m gs).state
   party-done v e = go (party_fits gs) refl (fate x m gs)
     where
       go : (f : Bool) → party_fits gs ≡ f → Fate x m gs → AllIn x m gs (admit x m gs).state
       go true f (all_in y a) = rw (admit-in x m gs f y a.joined) a
       go true f (first_out n p out h) =
-          absurd (let q : Refused n p ≡ Done v = sym (ap (λ (o : Outcome). o.answer) (admit-out x m gs f h)) ∙ e in
+          absurd (let q : refused_with n p ≡ done_with v = sym (ap (λ (o : Outcome). o.answer) (admit-out x m gs f h)) ∙ e in
           let z : ◌≡◌ {A = ℕ} 0 1 = cc in omega arith)
       go false f _ =
-          absurd (let q : Refused 27 0 ≡ Done v = sym (ap (λ (o : Outcome). o.answer) (admit-unfit x m gs f)) ∙ e in
+          absurd (let q : refused_with 27 0 ≡ done_with v = sym (ap (λ (o : Outcome). o.answer) (admit-unfit x m gs f)) ∙ e in
           let z : ◌≡◌ {A = ℕ} 0 1 = cc in omega arith)
 
   -- "Where all of them are done, so is the party."
@@ -169,26 +171,26 @@ module _ (x : State) (m : ℕ) (gs : List Guest) where
   party-all f y a = admit-in x m gs f y (all-joined x m gs a.answers ∙ ap done_at a.state)
 
   -- "A party that is refused, and not for its size, names the first guest whom kind 10 would refuse after those before."
-  pub party-refused : party_fits gs ≡ true → (n p : ℕ) → (admit x m gs).answer ≡ Refused n p → FirstOut x m gs n p
+  pub party-refused : party_fits gs ≡ true → (n p : ℕ) → (admit x m gs).answer ≡ refused_with n p → FirstOut x m gs n p
   party-refused f n p e = go (fate x m gs)
     where
       go : Fate x m gs → FirstOut x m gs n p
       go (all_in y a) =
-          absurd (let q : Done 0 ≡ Refused n p = sym (ap (λ (o : Outcome). o.answer) (admit-in x m gs f y a.joined)) ∙ e in
+          absurd (let q : done_with 0 ≡ refused_with n p = sym (ap (λ (o : Outcome). o.answer) (admit-in x m gs f y a.joined)) ∙ e in
           let z : ◌≡◌ {A = ℕ} 0 1 = cc in omega arith)
       go (first_out k i out h) =
-          let q : Refused k i ≡ Refused n p = sym (ap (λ (o : Outcome). o.answer) (admit-out x m gs f h)) ∙ e in
-          let u : k ≡ n = cc in
-          let w : i ≡ p = cc in
+          let q : refused_with k i ≡ refused_with n p = sym (ap (λ (o : Outcome). o.answer) (admit-out x m gs f h)) ∙ e in
+          let u : k ≡ n = same-number k i n p q in
+          let w : i ≡ p = same-place k i n p q in
           rw (u, w) at out
 
   -- "A party that is refused changes no set."
-  pub party-keeps : (n p : ℕ) → (admit x m gs).answer ≡ Refused n p → (admit x m gs).state ≡ x
+  pub party-keeps : (n p : ℕ) → (admit x m gs).answer ≡ refused_with n p → (admit x m gs).state ≡ x
   party-keeps n p e = go (party_fits gs) refl (fate x m gs)
     where
       go : (f : Bool) → party_fits gs ≡ f → Fate x m gs → (admit x m gs).state ≡ x
       go true f (all_in y a) =
-          absurd (let q : Done 0 ≡ Refused n p = sym (ap (λ (o : Outcome). o.answer) (admit-in x m gs f y a.joined)) ∙ e in
+          absurd (let q : done_with 0 ≡ refused_with n p = sym (ap (λ (o : Outcome). o.answer) (admit-in x m gs f y a.joined)) ∙ e in
           let z : ◌≡◌ {A = ℕ} 0 1 = cc in omega arith)
       go true f (first_out k i out h) = ap (λ (o : Outcome). o.state) (admit-out x m gs f h)
       go false f _ = ap (λ (o : Outcome). o.state) (admit-unfit x m gs f)
@@ -199,19 +201,19 @@ unfolding joined
 party-of-one x m g = go (step x (joining m g)).answer refl
   where
     go : (a : Answer) → (step x (joining m g)).answer ≡ a → admit x m (g ∷ []) ≡ step x (joining m g)
-    go (Done v) e =
+    go (Ok v) e =
         let h = added x m g (accepted-guest x m g v e) in
         let y : State = change x (joining m g) add_attend in
         admit-in x m (g ∷ []) refl y (joined-on x m g [] y h) ∙ sym h
-    go (Refused n p) e =
+    go (Err refused) e = let n = refused.number in let p = refused.place in
         admit-out x m (g ∷ []) refl (ap (λ (o : Outcome). o.answer) (joined-off x m g [] e) ∙ e)
         ∙ (λ j. record { answer = sym e j; state = sym (refused-keeps x (joining m g) n p e) j })
 
 -- "A party leaves the settings."
 if-settings : (S : Settings) (a : Answer) (later refused : Outcome) → later.state.settings ≡ S → refused.state.settings ≡ S
     → (if_done a later refused).state.settings ≡ S
-if-settings S (Done v) later refused e f = e
-if-settings S (Refused n p) later refused e f = f
+if-settings S (Ok v) later refused e f = e
+if-settings S (Err f) later refused e h = h
 
 joined-settings : (x : State) (m : ℕ) (gs : List Guest) → (joined x m gs).state.settings ≡ x.settings
 unfolding joined
@@ -228,7 +230,7 @@ admit-settings x m gs = go (party_fits gs)
     o : Outcome
     o = joined x m gs
 
-    go : (f : Bool) → (cond f (all_or_none x o) (record { answer = Refused 27 0; state = x })).state.settings ≡ x.settings
+    go : (f : Bool) → (cond f (all_or_none x o) (record { answer = refused_with 27 0; state = x })).state.settings ≡ x.settings
     go true = if-settings x.settings o.answer o _ (joined-settings x m gs) refl
     go false = refl
 
@@ -282,17 +284,17 @@ module _ (x : State) (m : ℕ) (g h : Guest) (apart : g.visitor ≡ h.visitor �
       entry k i a v = slot (joining m k) i && eqb a m && eqb v k.visitor
 
 -- the first guest of a list that is all added
-front-in : (x : State) (m : ℕ) (g : Guest) (gs : List Guest) (v : ℕ) → (joined x m (g ∷ gs)).answer ≡ Done v → Accepted x (joining m g) add_attend
+front-in : (x : State) (m : ℕ) (g : Guest) (gs : List Guest) (v : ℕ) → (joined x m (g ∷ gs)).answer ≡ done_with v → Accepted x (joining m g) add_attend
 front-in x m g gs v e = go (step x (joining m g)).answer refl
   where
     go : (a : Answer) → (step x (joining m g)).answer ≡ a → Accepted x (joining m g) add_attend
-    go (Done w) q = accepted-guest x m g w q
-    go (Refused n p) q =
-        absurd (let r : Refused n p ≡ Done v = sym (ap (λ (o : Outcome). o.answer) (joined-off x m g gs q) ∙ q) ∙ e in
+    go (Ok w) q = accepted-guest x m g w q
+    go (Err refused) q = let n = refused.number in let p = refused.place in
+        absurd (let r : refused_with n p ≡ done_with v = sym (ap (λ (o : Outcome). o.answer) (joined-off x m g gs q) ∙ q) ∙ e in
         let z : ◌≡◌ {A = ℕ} 0 1 = cc in omega arith)
 
 -- two guests at the front of a list, both added
-two-added : (x : State) (m : ℕ) (g h : Guest) (gs : List Guest) → (g.visitor ≡ h.visitor → ⊥) → (v : ℕ) → (joined x m (g ∷ h ∷ gs)).answer ≡ Done v
+two-added : (x : State) (m : ℕ) (g h : Guest) (gs : List Guest) → (g.visitor ≡ h.visitor → ⊥) → (v : ℕ) → (joined x m (g ∷ h ∷ gs)).answer ≡ done_with v
     → joined x m (h ∷ g ∷ gs) ≡ joined x m (g ∷ h ∷ gs)
 two-added x m g h gs apart v e =
     joined-on x m h (g ∷ gs) y' (added x m h b') ∙ joined-on y' m g gs (change y' (joining m g) add_attend) (added y' m g a')
@@ -334,10 +336,10 @@ joined-append x m (c ∷ cs) ds = go (step x (joining m c)).answer refl (joined-
 
     go : (a : Answer) → (step x (joining m c)).answer ≡ a → joined y m (cs ++ ds) ≡ go_on m ds (joined y m cs)
         → joined x m (c ∷ cs ++ ds) ≡ go_on m ds (joined x m (c ∷ cs))
-    go (Done v) e later =
+    go (Ok v) e later =
         let h : step x (joining m c) ≡ done_at y = added x m c (accepted-guest x m c v e) in
         joined-on x m c (cs ++ ds) y h ∙ later ∙ ap (go_on m ds) (sym (joined-on x m c cs y h))
-    go (Refused n p) e later =
+    go (Err refused) e later = let n = refused.number in let p = refused.place in
         let o : Outcome = step x (joining m c) in
         let q : go_on m ds o ≡ o = ap (λ (a : Answer). if_done a (joined o.state m ds) o) e in
         joined-off x m c (cs ++ ds) e ∙ sym q ∙ ap (go_on m ds) (sym (joined-off x m c cs e))
@@ -345,29 +347,29 @@ joined-append x m (c ∷ cs) ds = go (step x (joining m c)).answer refl (joined-
 -- "In a party that is done guests who are different visitors can change places, neighbour by neighbour: the party is done, and leads to
 -- the same state."
 module _ (x : State) (m : ℕ) (cs ds : List Guest) (g h : Guest) (apart : g.visitor ≡ h.visitor → ⊥) where
-  same-joined : (v : ℕ) → (joined x m (cs ++ g ∷ h ∷ ds)).answer ≡ Done v → joined x m (cs ++ h ∷ g ∷ ds) ≡ joined x m (cs ++ g ∷ h ∷ ds)
+  same-joined : (v : ℕ) → (joined x m (cs ++ g ∷ h ∷ ds)).answer ≡ done_with v → joined x m (cs ++ h ∷ g ∷ ds) ≡ joined x m (cs ++ g ∷ h ∷ ds)
   same-joined v e = joined-append x m cs (h ∷ g ∷ ds) ∙ go (joined x m cs).answer refl ∙ sym (joined-append x m cs (g ∷ h ∷ ds))
     where
       o : Outcome
       o = joined x m cs
 
       go : (a : Answer) → o.answer ≡ a → go_on m (h ∷ g ∷ ds) o ≡ go_on m (g ∷ h ∷ ds) o
-      go (Done w) q =
+      go (Ok w) q =
           let f : go_on m (g ∷ h ∷ ds) o ≡ joined o.state m (g ∷ h ∷ ds)
           = ap (λ (a : Answer). if_done a (joined o.state m (g ∷ h ∷ ds)) o) q in
-          let d : (joined o.state m (g ∷ h ∷ ds)).answer ≡ Done v
+          let d : (joined o.state m (g ∷ h ∷ ds)).answer ≡ done_with v
           = sym (ap (λ (o : Outcome). o.answer) (joined-append x m cs (g ∷ h ∷ ds) ∙ f)) ∙ e in
           ap (λ (a : Answer). if_done a (joined o.state m (h ∷ g ∷ ds)) o) q ∙ two-added o.state m g h ds apart v d ∙ sym f
-      go (Refused n p) q =
+      go (Err refused) q = let n = refused.number in let p = refused.place in
           ap (λ (a : Answer). if_done a (joined o.state m (h ∷ g ∷ ds)) o) q
           ∙ sym (ap (λ (a : Answer). if_done a (joined o.state m (g ∷ h ∷ ds)) o) q)
 
   same-fits : party_fits (cs ++ h ∷ g ∷ ds) ≡ party_fits (cs ++ g ∷ h ∷ ds)
   same-fits = ap (within 1 64) (length-append cs (h ∷ g ∷ ds) ∙ sym (length-append cs (g ∷ h ∷ ds)))
 
-  pub party-order : (v : ℕ) → (admit x m (cs ++ g ∷ h ∷ ds)).answer ≡ Done v → admit x m (cs ++ h ∷ g ∷ ds) ≡ admit x m (cs ++ g ∷ h ∷ ds)
+  pub party-order : (v : ℕ) → (admit x m (cs ++ g ∷ h ∷ ds)).answer ≡ done_with v → admit x m (cs ++ h ∷ g ∷ ds) ≡ admit x m (cs ++ g ∷ h ∷ ds)
   unfolding admit
   party-order v e =
-      let d : (joined x m (cs ++ g ∷ h ∷ ds)).answer ≡ Done 0
+      let d : (joined x m (cs ++ g ∷ h ∷ ds)).answer ≡ done_with 0
       = ap (λ (o : Outcome). o.answer) (party-done x m (cs ++ g ∷ h ∷ ds) v e).joined in
-      ap₂ (λ (f : Bool) (o : Outcome). cond f (all_or_none x o) (record { answer = Refused 27 0; state = x })) same-fits (same-joined 0 d)
+      ap₂ (λ (f : Bool) (o : Outcome). cond f (all_or_none x o) (record { answer = refused_with 27 0; state = x })) same-fits (same-joined 0 d)

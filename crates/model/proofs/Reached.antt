@@ -6,7 +6,7 @@ use Prim.Native.Nat.{ℕ, zero, suc, ◌+◌, ◌-◌, ◌/◌, ◌%◌, ◌≤�
 use mathlib.Core.Path.{◌≡◌, refl, sym, ◌∙◌, ap, subst}
 use mathlib.Core.Logic.{◌↔◌}
 use mathlib.Core.Bool.{Bool, true, false, ◌||◌, cond}
-use mathlib.Core.Option.{Option, none, some}
+use Rattle.std.specs.Prelude.{Option, None, Some}
 use mathlib.Core.List.{List, [], ◌∷◌, ◌++◌, map}
 use native.Mathlib.Nat.{le_refl}
 use native.Mathlib.Omega.{arith}
@@ -16,8 +16,8 @@ use lib.Seq.{set-get_or}
 use borrow.Author.Tests.{lt-ltb, ltb-true, eqb-true}
 use Rattle.model.specs.declared.Settings.{Settings}
 use Rattle.model.specs.declared.Request.{Request}
-use Rattle.model.specs.declared.Answer.{Answer}
-use Rattle.model.specs.declared.Answer.TheVariants.{Done}
+use Rattle.model.specs.Answers.{Answer}
+use Rattle.model.specs.Answers.{done_with}
 use Rattle.model.specs.Bounded.{every, is_some, within}
 use Rattle.model.specs.Site.{valid_settings}
 use Rattle.model.specs.State.{State, empty_state, Lunch, Pairs, hotels, rides, attends, confs, lunches}
@@ -120,17 +120,17 @@ small S e lunches i a b n =
 
 -- information and seats come from the book
 module _ (b : List ℕ) (h : every is_word b ≡ true) where
-  info-word : (i c m w : ℕ) → (state_of b).conf i c m ≡ some w → w < 4294967296
+  info-word : (i c m w : ℕ) → (state_of b).conf i c m ≡ Some w → w < 4294967296
   unfolding state_of read_state
   info-word i c m w e = go (holds (settings_of b) b conf_pairs i c m) e
     where
-      go : (t : Bool) → cond t (some (get_or b (address (settings_of b) conf_pairs i c 1) 0)) none ≡ some w → w < 4294967296
+      go : (t : Bool) → cond t (Some (get_or b (address (settings_of b) conf_pairs i c 1) 0)) None ≡ Some w → w < 4294967296
       go true q =
           let z : get_or b (address (settings_of b) conf_pairs i c 1) 0 ≡ w = cc in
           omega (arith, z, word_at b (address (settings_of b) conf_pairs i c 1) h)
       go false q = absurd (let z : ◌≡◌ {A = ℕ} 0 1 = cc in omega arith)
 
-  lunch-words : (d g m : ℕ) (l : Lunch) → (state_of b).lunch d g m ≡ some l → (l.seats < 4294967296) × (l.info < 4294967296)
+  lunch-words : (d g m : ℕ) (l : Lunch) → (state_of b).lunch d g m ≡ Some l → (l.seats < 4294967296) × (l.info < 4294967296)
   unfolding state_of read_state
   lunch-words d g m l e = go (holds (settings_of b) b lunch_triples d m g) e
     where
@@ -140,7 +140,7 @@ module _ (b : List ℕ) (h : every is_word b ≡ true) where
       info : ℕ
       info = address (settings_of b) lunch_triples d m 2
 
-      go : (t : Bool) → cond t (some (record { seats = get_or b seats 0; info = get_or b info 0 })) none ≡ some l
+      go : (t : Bool) → cond t (Some (record { seats = get_or b seats 0; info = get_or b info 0 })) None ≡ Some l
           → (l.seats < 4294967296) × (l.info < 4294967296)
       go true q =
           let z : record { seats = get_or b seats 0; info = get_or b info 0 } ≡ l = cc in (
@@ -150,8 +150,8 @@ module _ (b : List ℕ) (h : every is_word b ≡ true) where
       go false q = absurd (let z : ◌≡◌ {A = ℕ} 0 1 = cc in omega arith)
 
 -- the requests that build a state whose information and seats are words
-module _ (x : State) (s : Sound x) (infos : (i c m w : ℕ) → x.conf i c m ≡ some w → w < 4294967296)
-    (seats : (d g m : ℕ) (l : Lunch) → x.lunch d g m ≡ some l → (l.seats < 4294967296) × (l.info < 4294967296)) where
+module _ (x : State) (s : Sound x) (infos : (i c m w : ℕ) → x.conf i c m ≡ Some w → w < 4294967296)
+    (seats : (d g m : ℕ) (l : Lunch) → x.lunch d g m ≡ Some l → (l.seats < 4294967296) × (l.info < 4294967296)) where
   v : Valid x.settings
   v = valid-is x.settings s.valid
 
@@ -160,14 +160,14 @@ module _ (x : State) (s : Sound x) (infos : (i c m w : ℕ) → x.conf i c m ≡
   plain k i a c true l n = adding-words k i a c 0 0 l (n refl).slot (n refl).first (n refl).second (omega arith) (omega arith)
 
   conf : (i a c : ℕ) (o : Option ℕ) → x.conf i a c ≡ o → Made of_words (add_conf_if i a c o)
-  conf i a c none e = tt
-  conf i a c (some w) e =
+  conf i a c None e = tt
+  conf i a c (Some w) e =
       let n : Small i a c = small x.settings s.valid confs i a c (s.pairs confs i a c (ap is_some e)) in
       adding-words 12 i a c 0 w (omega arith) n.slot n.first n.second (omega arith) (infos i a c w e)
 
   lunch : (i a c : ℕ) (o : Option Lunch) → x.lunch i a c ≡ o → Made of_words (add_lunch_if i a c o)
-  lunch i a c none e = tt
-  lunch i a c (some l) e =
+  lunch i a c None e = tt
+  lunch i a c (Some l) e =
       let n : Small i a c = small x.settings s.valid lunches i a c (s.pairs lunches i a c (ap is_some e)) in
       adding-words 14 i a c l.seats l.info (omega arith) n.slot n.first n.second (seats i a c l e).0 (seats i a c l e).1
 
@@ -222,7 +222,7 @@ abbrev pub idle : Request
 idle = record { kind = 3; a = 0; b = 0; first = 0; last = 0; n = 0; info = 0 }
 
 -- on an empty diary there is nothing to remove: it is done, and leaves every set empty
-idle-done : (S : Settings) → valid_settings S ≡ true → step (empty_state S) idle ≡ record { answer = Done 0; state = empty_state S }
+idle-done : (S : Settings) → valid_settings S ≡ true → step (empty_state S) idle ≡ record { answer = done_with 0; state = empty_state S }
 unfolding kind_of ask test value empty_state
 idle-done S e =
     let x : State = empty_state S in
@@ -247,7 +247,7 @@ idles S e (suc k) =
     subst (λ (o : Outcome).
     AllZero (record { answers = o.answer ∷ (steps o.state (replicate k idle)).answers; state = (steps o.state (replicate k idle)).state }) (suc k) (empty_state S))
     (sym (idle-done S e))
-    (record { answers = ap (λ (l : List Answer). Done 0 ∷ l) (idles S e k).answers; state = (idles S e k).state })
+    (record { answers = ap (λ (l : List Answer). done_with 0 ∷ l) (idles S e k).answers; state = (idles S e k).state })
 
 every_append : {A : Type 0} (f : A → Bool) (l m : List A) → every f l ≡ true → every f m ≡ true → every f (l ++ m) ≡ true
 every_append f [] m e g = g
@@ -294,7 +294,7 @@ pub record Reached (b : List ℕ) : Type 0 where
 -- all of them are done, and the count is how many they are
 pub record Built (b : List ℕ) : Type 0 where
   pub reached : Reached b
-  pub done : (calls (fresh_book reached.settings) (sent reached.list)).replies ≡ map told (replicate (length reached.list) (Done 0))
+  pub done : (calls (fresh_book reached.settings) (sent reached.list)).replies ≡ map told (replicate (length reached.list) (done_with 0))
   pub count : last_word b ≡ length reached.list
 
 -- the requests for the entries of a sound ledger with an empty tail, behind k that change nothing
@@ -313,7 +313,7 @@ module _ (l : Ledger) (s : LedgerSound l) (t : l.tail ≡ empty_tail) (k : ℕ) 
   long = length-append (replicate k idle) (entries_of x) ∙ ap (λ (n : ℕ). n + length (entries_of x)) (length-replicate {A = Request} k idle)
 
   through : run (empty_ledger S) (sent rs)
-      ≡ record { replies = map told (replicate (length rs) (Done 0)); ledger = with_changes l (length rs) }
+      ≡ record { replies = map told (replicate (length rs) (done_with 0)); ledger = with_changes l (length rs) }
   unfolding empty_ledger x S rs
   through =
       let a : AllZero (steps (empty_state S) rs) (k + length (entries_of x)) x
@@ -322,8 +322,8 @@ module _ (l : Ledger) (s : LedgerSound l) (t : l.tail ≡ empty_tail) (k : ℕ) 
       run-sent (empty_ledger S) rs
       ∙ ap (steps_run empty_tail)
       (all_done (empty_state S) 0 rs (every_append is_change (replicate k idle) (entries_of x) (every-replicate is_change k idle refl) (entries-change x))
-      (a.answers ∙ ap (λ (n : ℕ). replicate n (Done 0)) (sym long)) (omega (arith, fit, long)))
-      ∙ (λ i. record { replies = map told (replicate (length rs) (Done 0)); ledger = record { diary = a.state i; tail = sym t i; changes = z i } })
+      (a.answers ∙ ap (λ (n : ℕ). replicate n (done_with 0)) (sym long)) (omega (arith, fit, long)))
+      ∙ (λ i. record { replies = map told (replicate (length rs) (done_with 0)); ledger = record { diary = a.state i; tail = sym t i; changes = z i } })
 
   build : every of_words (entries_of l.diary) ≡ true → Built (book_words (with_changes l (k + length (entries_of l.diary))))
   unfolding x S rs

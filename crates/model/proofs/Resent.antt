@@ -5,7 +5,7 @@ use Prim.Native.Nat.{ℕ, zero, suc, ◌+◌, ◌*◌, ◌≤◌, ◌<◌}
 use mathlib.Core.Path.{◌≡◌, refl, sym, ◌∙◌, ap, ap₂, subst}
 use mathlib.Core.Logic.{◌⊎◌, inl, inr}
 use mathlib.Core.Bool.{Bool, true, false, not, cond, false≢true}
-use mathlib.Core.Option.{Option, none, some}
+use Rattle.std.specs.Prelude.{Option, None, Some}
 use mathlib.Core.List.{List, [], ◌∷◌, ◌++◌}
 use native.Mathlib.Omega.{arith}
 use lib.Dec.{ltb, eqb}
@@ -14,8 +14,9 @@ use lib.Seq.{take_at}
 use borrow.Author.Tests.{eq-eqb, eqb-true, ltb-true, ltb-false}
 use Rattle.model.specs.declared.Settings.{Settings}
 use Rattle.model.specs.declared.Request.{Request}
-use Rattle.model.specs.declared.Answer.{Answer}
-use Rattle.model.specs.declared.Answer.TheVariants.{Done, Refused}
+use Rattle.model.specs.Answers.{Answer}
+use Rattle.std.specs.Prelude.{Ok, Err}
+use Rattle.model.specs.Answers.{refused_with}
 use Rattle.model.specs.Bounded.{is_some}
 use Rattle.model.specs.Site.{valid_settings}
 use Rattle.model.specs.Messages.{answer_words, order_length, same_request}
@@ -59,29 +60,29 @@ pub kept-stays : (l : Ledger) (n : ℕ) (r : Request) → IsKept l n → (perfor
 kept-stays l n r e = go (kept_at l.tail n) e
   where
     go : (o : Option ℕ) → is_some o ≡ true → (answer_order l n r o).ledger ≡ l
-    go none e = absurd (false≢true e)
-    go (some i) e = kept_leaves l n r i
+    go None e = absurd (false≢true e)
+    go (Some i) e = kept_leaves l n r i
 
 -- sent again, it gets the answer that is kept with it
 pub sent-again : (l : Ledger) (n : ℕ) (r : Request) (a : Answer) → Kept l n r a → perform l (ordered n r) ≡ record { reply = told a; ledger = l }
 sent-again l n r a k =
     ap (answer_order l n r) k.at
     ∙ ap (λ (b : Answer). record { reply = told b; ledger = l })
-    (ap (λ (q : Request). cond (same_request q r) (entry_at l.tail k.place).answer (Refused 28 0)) k.request
-    ∙ ap (λ (t : Bool). cond t (entry_at l.tail k.place).answer (Refused 28 0)) (same-request r)
+    (ap (λ (q : Request). cond (same_request q r) (entry_at l.tail k.place).answer (refused_with 28 0)) k.request
+    ∙ ap (λ (t : Bool). cond t (entry_at l.tail k.place).answer (refused_with 28 0)) (same-request r)
     ∙ k.answer)
 
 -- with other words it is refused by 28
 pub sent-otherwise : (l : Ledger) (n : ℕ) (r q : Request) (a : Answer) → Kept l n r a → same_request r q ≡ false
-    → perform l (ordered n q) ≡ record { reply = told (Refused 28 0); ledger = l }
+    → perform l (ordered n q) ≡ record { reply = told (refused_with 28 0); ledger = l }
 sent-otherwise l n r q a k f =
     ap (answer_order l n q) k.at
     ∙ ap (λ (b : Answer). record { reply = told b; ledger = l })
-    (ap (λ (p : Request). cond (same_request p q) (entry_at l.tail k.place).answer (Refused 28 0)) k.request
-    ∙ ap (λ (t : Bool). cond t (entry_at l.tail k.place).answer (Refused 28 0)) f)
+    (ap (λ (p : Request). cond (same_request p q) (entry_at l.tail k.place).answer (refused_with 28 0)) k.request
+    ∙ ap (λ (t : Bool). cond t (entry_at l.tail k.place).answer (refused_with 28 0)) f)
 
 -- an order kept anew: its entry, and the places after it is kept
-module _ (l : Ledger) (s : LedgerSound l) (m : ℕ) (q : Request) (new : kept_at l.tail (suc m) ≡ none) where
+module _ (l : Ledger) (s : LedgerSound l) (m : ℕ) (q : Request) (new : kept_at l.tail (suc m) ≡ None) where
   abbrev entry : Entry
   entry = record { order = suc m; request = q; answer = answer_to l q }
 
@@ -91,7 +92,7 @@ module _ (l : Ledger) (s : LedgerSound l) (m : ℕ) (q : Request) (new : kept_at
   else : (i : ℕ) → (i ≡ l.tail.next → ⊥) → entry_at (keep l.tail entry) i ≡ entry_at l.tail i
   else i h = kept-else l.tail entry i h
 
-  first-at : kept_at (keep l.tail entry) (suc m) ≡ some l.tail.next
+  first-at : kept_at (keep l.tail entry) (suc m) ≡ Some l.tail.next
   first-at =
       kept_by (keep l.tail entry) (suc m) l.tail.next (λ z. omega (arith, z)) s.tail.next (ap (λ (e : Entry). e.order) there)
       (λ j h e. none_kept l.tail m new j (omega (arith, h, s.tail.next)) (sym (ap (λ (e : Entry). e.order) (else j (λ z. omega (arith, h, z)))) ∙ e))
@@ -107,7 +108,7 @@ module _ (l : Ledger) (s : LedgerSound l) (m : ℕ) (q : Request) (new : kept_at
       }
 
   -- another one, kept at place p: its number stands nowhere else. It stays there, or p was the next place.
-  module _ (n p : ℕ) (at : kept_at l.tail n ≡ some p) where
+  module _ (n p : ℕ) (at : kept_at l.tail n ≡ Some p) where
     some-n : n ≡ 0 → ⊥
     some-n = (kept-first l.tail n at).0
 
@@ -132,17 +133,17 @@ module _ (l : Ledger) (s : LedgerSound l) (m : ℕ) (q : Request) (new : kept_at
         here-or-not j l.tail.next (λ z. other (sym (ap (λ (e : Entry). e.order) (ap (entry_at (keep l.tail entry)) z ∙ there)) ∙ e))
         (λ z. alone j h (λ y. z (d y)) (sym (ap (λ (e : Entry). e.order) (else j z)) ∙ e))
 
-    pub gone : p ≡ l.tail.next → kept_at (keep l.tail entry) n ≡ none
+    pub gone : p ≡ l.tail.next → kept_at (keep l.tail entry) n ≡ None
     gone e = not-kept (keep l.tail entry) n (λ j h. elsewhere j h (λ y. y ∙ e))
 
-    pub stays : (p ≡ l.tail.next → ⊥) → kept_at (keep l.tail entry) n ≡ some p
+    pub stays : (p ≡ l.tail.next → ⊥) → kept_at (keep l.tail entry) n ≡ Some p
     stays h =
         kept_by (keep l.tail entry) n p some-n place (ap (λ (e : Entry). e.order) (else p h) ∙ order)
         (λ j g. elsewhere j (omega (arith, g, place)) (λ y. absurd (omega (arith, g, y))))
 
   module _ (n : ℕ) (r : Request) (a : Answer) where
     pub others-stay : Kept l n r a
-        → (kept_at (keep l.tail entry) n ≡ none) ⊎ Kept (stepped (keep l.tail entry) (counted_step l.diary l.changes q)).ledger n r a
+        → (kept_at (keep l.tail entry) n ≡ None) ⊎ Kept (stepped (keep l.tail entry) (counted_step l.diary l.changes q)).ledger n r a
     others-stay k =
         here-or-not k.place l.tail.next (λ e. inl (gone n k.place k.at e))
         (λ h.
@@ -181,7 +182,7 @@ module _ (l : Ledger) (s : LedgerSound l) (m : ℕ) (q : Request) (new : kept_at
             }
 
 -- an order that is not kept gets the answer of its request, and is then kept with it
-pub first-kept : (l : Ledger) → LedgerSound l → (n : ℕ) (r : Request) → kept_at l.tail (suc n) ≡ none
+pub first-kept : (l : Ledger) → LedgerSound l → (n : ℕ) (r : Request) → kept_at l.tail (suc n) ≡ None
     → ((perform l (ordered (suc n) r)).reply ≡ told (answer_to l r)) × Kept (perform l (ordered (suc n) r)).ledger (suc n) r (answer_to l r)
 first-kept l s n r o =
     subst (λ (p : Performed). (p.reply ≡ told (answer_to l r)) × Kept p.ledger (suc n) r (answer_to l r))
@@ -193,13 +194,13 @@ first-kept l s n r o =
 -- an order that is kept after a call and was kept before it is kept as it was
 module _ (l : Ledger) (s : LedgerSound l) (n : ℕ) (r : Request) (a : Answer) (k : Kept l n r a) where
   after-order : (m : ℕ) (q : Request) (o : Option ℕ) → kept_at l.tail m ≡ o → IsKept (answer_order l m q o).ledger n → Kept (answer_order l m q o).ledger n r a
-  after-order m q (some i) e h = k
-  after-order zero q none e h = record { place = k.place; at = k.at; request = k.request; answer = k.answer }
-  after-order (suc m) q none e h = go (others-stay l s m q e n r a k)
+  after-order m q (Some i) e h = k
+  after-order zero q None e h = record { place = k.place; at = k.at; request = k.request; answer = k.answer }
+  after-order (suc m) q None e h = go (others-stay l s m q e n r a k)
     where
-      go : (kept_at (keep l.tail (record { order = suc m; request = q; answer = answer_to l q })) n ≡ none)
-          ⊎ Kept (answer_order l (suc m) q none).ledger n r a
-          → Kept (answer_order l (suc m) q none).ledger n r a
+      go : (kept_at (keep l.tail (record { order = suc m; request = q; answer = answer_to l q })) n ≡ None)
+          ⊎ Kept (answer_order l (suc m) q None).ledger n r a
+          → Kept (answer_order l (suc m) q None).ledger n r a
       go (inl z) = absurd (false≢true (sym (ap is_some z) ∙ h))
       go (inr k) = k
 
@@ -210,7 +211,7 @@ module _ (l : Ledger) (s : LedgerSound l) (n : ℕ) (r : Request) (a : Answer) (
   kept-after (commit m q) h = go (eqb m l.changes) h
     where
       go : (t : Bool) → IsKept (answer_commit l t q).ledger n → Kept (answer_commit l t q).ledger n r a
-      go true h = after-order 0 q none refl h
+      go true h = after-order 0 q None refl h
       go false h = k
 
 -- so that an order kept through a list of calls gets at its end the answer that it got when it was sent
@@ -226,23 +227,23 @@ pub record Sent (l : Ledger) (cs : List Call) (n : ℕ) (r : Request) (a : Answe
   pub before : List Call
   pub after : List Call
   pub list : cs ≡ before ++ ordered n r ∷ after
-  pub new : kept_at (run l before).ledger.tail n ≡ none
+  pub new : kept_at (run l before).ledger.tail n ≡ None
   pub reply : (perform (run l before).ledger (ordered n r)).reply ≡ told a
 
 module _ (n : ℕ) (r : Request) (a : Answer) where
   before-order : (l : Ledger) → LedgerSound l → (m : ℕ) (q : Request) (o : Option ℕ) → kept_at l.tail m ≡ o → Kept (answer_order l m q o).ledger n r a
-      → Kept l n r a ⊎ ((ordered m q ≡ ordered n r) × (kept_at l.tail n ≡ none) × ((answer_order l m q o).reply ≡ told a))
-  before-order l s m q (some i) e k = inl k
-  before-order l s zero q none e k = inl (record { place = k.place; at = k.at; request = k.request; answer = k.answer })
-  before-order l s (suc m) q none e k = go (kept-before l s m q e n r a k)
+      → Kept l n r a ⊎ ((ordered m q ≡ ordered n r) × (kept_at l.tail n ≡ None) × ((answer_order l m q o).reply ≡ told a))
+  before-order l s m q (Some i) e k = inl k
+  before-order l s zero q None e k = inl (record { place = k.place; at = k.at; request = k.request; answer = k.answer })
+  before-order l s (suc m) q None e k = go (kept-before l s m q e n r a k)
     where
       go : Kept l n r a ⊎ ((suc m ≡ n) × (q ≡ r) × (answer_to l q ≡ a))
-          → Kept l n r a ⊎ ((ordered (suc m) q ≡ ordered n r) × (kept_at l.tail n ≡ none) × ((answer_order l (suc m) q none).reply ≡ told a))
+          → Kept l n r a ⊎ ((ordered (suc m) q ≡ ordered n r) × (kept_at l.tail n ≡ None) × ((answer_order l (suc m) q None).reply ≡ told a))
       go (inl k) = inl k
       go (inr p) = inr (ap₂ ordered p.0 p.1, ap (kept_at l.tail) (sym p.0) ∙ e, ap told p.2)
 
   before-call : (l : Ledger) → LedgerSound l → (c : Call) → Kept (perform l c).ledger n r a
-      → Kept l n r a ⊎ ((c ≡ ordered n r) × (kept_at l.tail n ≡ none) × ((perform l c).reply ≡ told a))
+      → Kept l n r a ⊎ ((c ≡ ordered n r) × (kept_at l.tail n ≡ None) × ((perform l c).reply ≡ told a))
   before-call l s (ordered m q) k = before-order l s m q (kept_at l.tail m) refl k
   before-call l s (party m gs) k = inl (record { place = k.place; at = k.at; request = k.request; answer = k.answer })
   before-call l s (ask q) k = inl k
@@ -257,7 +258,7 @@ module _ (n : ℕ) (r : Request) (a : Answer) where
   kept-was-sent l s [] k = inl k
   kept-was-sent l s (c ∷ cs) k = go (kept-was-sent (perform l c).ledger (perform-sound l s c) cs k)
     where
-      now : Kept l n r a ⊎ ((c ≡ ordered n r) × (kept_at l.tail n ≡ none) × ((perform l c).reply ≡ told a)) → Kept l n r a ⊎ Sent l (c ∷ cs) n r a
+      now : Kept l n r a ⊎ ((c ≡ ordered n r) × (kept_at l.tail n ≡ None) × ((perform l c).reply ≡ told a)) → Kept l n r a ⊎ Sent l (c ∷ cs) n r a
       now (inl k) = inl k
       now (inr p) =
           inr
@@ -326,7 +327,7 @@ before-all i h = go (eqb (suc i) ring_places) refl
 
 -- an order at place p, before which k others can be kept
 record Stands (l : Ledger) (n p k : ℕ) : Type 0 where
-  at : kept_at l.tail n ≡ some p
+  at : kept_at l.tail n ≡ Some p
   most : k < ring_places
   before : Before l.tail.next p k
 
@@ -347,9 +348,9 @@ module _ (n p : ℕ) where
     where
       go : (o : Option ℕ) → kept_at l.tail (suc i) ≡ o → (k : ℕ) → cond (not (is_some o)) 1 0 + m ≤ k → Stands l n p k
           → (j : ℕ) × (m ≤ j) × Stands (answer_order l (suc i) q o).ledger n p j
-      go (some at) f k e h = (k, omega (arith, e), h)
-      go none f zero e h = absurd (omega (arith, e))
-      go none f (suc k) e h = (
+      go (Some at) f k e h = (k, omega (arith, e), h)
+      go None f zero e h = absurd (omega (arith, e))
+      go None f (suc k) e h = (
         k,
         omega (arith, e),
         record {
@@ -366,7 +367,7 @@ module _ (n p : ℕ) where
       (ap is_some a.2.at, stands-through (perform l c).ledger (perform-sound l s c) a.0 a.2 cs a.1)
 
 -- "An order is kept until 64 new ones have come behind it": on any sound ledger, through every list of calls with fewer
-pub kept-behind : (l : Ledger) → LedgerSound l → (n : ℕ) (r : Request) → kept_at l.tail (suc n) ≡ none → (cs : List Call)
+pub kept-behind : (l : Ledger) → LedgerSound l → (n : ℕ) (r : Request) → kept_at l.tail (suc n) ≡ None → (cs : List Call)
     → new_orders (perform l (ordered (suc n) r)).ledger cs < ring_places → KeptThrough (perform l (ordered (suc n) r)).ledger (suc n) cs
 unfolding keep
 kept-behind l s n r new cs e =
@@ -376,7 +377,7 @@ kept-behind l s n r new cs e =
     cs (omega (arith, e))
 
 -- so an order that is sent again behind fewer than 64 new ones gets the answer that it got first, and changes nothing
-pub once-done : (l : Ledger) → LedgerSound l → (n : ℕ) (r : Request) → kept_at l.tail (suc n) ≡ none → (cs : List Call)
+pub once-done : (l : Ledger) → LedgerSound l → (n : ℕ) (r : Request) → kept_at l.tail (suc n) ≡ None → (cs : List Call)
     → new_orders (perform l (ordered (suc n) r)).ledger cs < ring_places
     → perform (run l (ordered (suc n) r ∷ cs)).ledger (ordered (suc n) r)
     ≡ record { reply = (perform l (ordered (suc n) r)).reply; ledger = (run l (ordered (suc n) r ∷ cs)).ledger }
@@ -444,8 +445,8 @@ all_told l (ordered n r ∷ cs) h = go (kept_at l.tail n) (λ (m : Ledger). all_
   where
     go : (o : Option ℕ) → ((m : Ledger) → AllTold (run m cs).replies)
         → AllTold ((answer_order l n r o).reply ∷ (run (answer_order l n r o).ledger cs).replies)
-    go none later = later (answer_order l n r none).ledger
-    go (some i) later = later l
+    go None later = later (answer_order l n r None).ledger
+    go (Some i) later = later l
 all_told l (party m gs ∷ cs) h = absurd h
 all_told l (ask r ∷ cs) h = absurd h
 all_told l (commit n r ∷ cs) h = absurd h
@@ -462,10 +463,10 @@ unfolding once_answered replies_words
 words-once [] rs h e w = refl
 words-once (s ∷ ss) [] h e w = absurd (omega (arith, e))
 words-once (s ∷ ss) (asked a n ∷ rs) h e w = absurd h
-words-once (once c ∷ ss) (told (Done v) ∷ rs) h e w = ap (λ (v' : List ℕ). 0 ∷ 0 ∷ v ∷ v') (words-once ss rs h (omega (arith, e)) w)
-words-once (once c ∷ ss) (told (Refused n p) ∷ rs) h e w = ap (λ (v : List ℕ). n ∷ p ∷ 0 ∷ v) (words-once ss rs h (omega (arith, e)) w)
-words-once (again m r ∷ ss) (told (Done v) ∷ rs) h e w = words-once ss rs h (omega (arith, e)) w
-words-once (again m r ∷ ss) (told (Refused n p) ∷ rs) h e w = words-once ss rs h (omega (arith, e)) w
+words-once (once c ∷ ss) (told (Ok v) ∷ rs) h e w = ap (λ (v' : List ℕ). 0 ∷ 0 ∷ v ∷ v') (words-once ss rs h (omega (arith, e)) w)
+words-once (once c ∷ ss) (told (Err refused) ∷ rs) h e w = let n = refused.number in let p = refused.place in ap (λ (v : List ℕ). n ∷ p ∷ 0 ∷ v) (words-once ss rs h (omega (arith, e)) w)
+words-once (again m r ∷ ss) (told (Ok v) ∷ rs) h e w = words-once ss rs h (omega (arith, e)) w
+words-once (again m r ∷ ss) (told (Err refused) ∷ rs) h e w = let n = refused.number in let p = refused.place in words-once ss rs h (omega (arith, e)) w
 
 pub run_long : (l : Ledger) (cs : List Call) → length (run l cs).replies ≡ length cs
 unfolding run

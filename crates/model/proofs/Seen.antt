@@ -5,17 +5,19 @@ use Prim.Native.Nat.{ℕ, zero, suc, ◌+◌, ◌≤◌, ◌<◌}
 use mathlib.Core.Path.{◌≡◌, refl, sym, ◌∙◌, ap, ap₂}
 use mathlib.Core.Logic.{◌↔◌, ◌⊎◌, inl, inr}
 use mathlib.Core.Bool.{Bool, true, false, not, ◌&&◌, false≢true}
-use mathlib.Core.Option.{Option, none, some}
+use Rattle.std.specs.Prelude.{Option, None, Some}
 use mathlib.Core.List.{List, [], ◌∷◌}
 use native.Mathlib.Nat.{le_refl, le_trans}
 use native.Mathlib.Omega.{arith}
 use lib.Dec.{leb, eqb}
 use borrow.Author.Tests.{eqb-true, eq-eqb, ne_eqb, leb-true, leb-false}
+use Rattle.model.proofs.Answers.{same-number}
 use Rattle.model.specs.declared.Settings.{Settings}
 use Rattle.model.specs.declared.Request.{Request}
 use Rattle.model.specs.declared.Guest.{Guest}
-use Rattle.model.specs.declared.Answer.{Answer}
-use Rattle.model.specs.declared.Answer.TheVariants.{Done, Refused}
+use Rattle.model.specs.Answers.{Answer}
+use Rattle.std.specs.Prelude.{Ok, Err}
+use Rattle.model.specs.Answers.{done_with, refused_with}
 use Rattle.model.specs.Bounded.{is_some, one}
 use Rattle.model.specs.Site.{valid_settings}
 use Rattle.model.specs.State.{State}
@@ -88,16 +90,16 @@ party-later x n m gs = go (counted_party x n m gs).answer refl
 
     go : (a : Answer) → (raise x n o o.answer).answer ≡ a
         → (((raise x n o o.answer).state ≡ x) × ((raise x n o o.answer).changes ≡ n)) ⊎ ((raise x n o o.answer).changes ≡ suc n)
-    go (Done v) e = inr (risen x n o o.answer v e).changes
-    go (Refused k p) e =
+    go (Ok v) e = inr (risen x n o o.answer v e).changes
+    go (Err refused) e = let k = refused.number in let p = refused.place in
         let h = refused-raised x n o o.answer k p e in
         inl (ap (λ (c : Counted). c.state) h, ap (λ (c : Counted). c.changes) h)
 
 -- so every call leads from a ledger to a later one
 order-later : (l : Ledger) (n : ℕ) (r : Request) (o : Option ℕ) → Later l (answer_order l n r o).ledger
-order-later l n r none =
-    later-by l (counted_step l.diary l.changes r) (request-later l.diary l.changes r) (answer_order l n r none).ledger refl refl
-order-later l n r (some i) = later_refl l
+order-later l n r None =
+    later-by l (counted_step l.diary l.changes r) (request-later l.diary l.changes r) (answer_order l n r None).ledger refl refl
+order-later l n r (Some i) = later_refl l
 
 pub call-later : (l : Ledger) (c : Call) → Later l (perform l c).ledger
 call-later l (ordered n r) = order-later l n r (kept_at l.tail n)
@@ -107,7 +109,7 @@ call-later l (ask r) = later_refl l
 call-later l (commit n r) = go (eqb n l.changes)
   where
     go : (t : Bool) → Later l (answer_commit l t r).ledger
-    go true = order-later l 0 r none
+    go true = order-later l 0 r None
     go false = later_refl l
 
 -- ---- a list of calls
@@ -141,36 +143,36 @@ same_count l cs i j e = go (leb i j) refl
     go false q = sym ((at-later l cs j i (omega (arith, leb-false i j q))).same (sym e))
 
 -- the reply to call i of a list is that of the ledger that it is made on
-pub reply-at : (l : Ledger) (cs : List Call) (i : ℕ) (c : Call) → nth cs i ≡ some c → nth (run l cs).replies i ≡ some (perform (ledger_at l cs i) c).reply
+pub reply-at : (l : Ledger) (cs : List Call) (i : ℕ) (c : Call) → nth cs i ≡ Some c → nth (run l cs).replies i ≡ Some (perform (ledger_at l cs i) c).reply
 unfolding run
 reply-at l [] i c e = absurd (let z : ◌≡◌ {A = ℕ} 0 1 = cc in omega arith)
 reply-at l (d ∷ cs) zero c e =
     let q : d ≡ c = cc in
-    ap (λ (d : Call). some (perform l d).reply) q
+    ap (λ (d : Call). Some (perform l d).reply) q
 reply-at l (d ∷ cs) (suc i) c e = reply-at (perform l d).ledger cs i c e
 
 -- a commit that 29 does not refuse names the count of the ledger, and gets the answer of the request
-pub not-refused : (l : Ledger) (n : ℕ) (r : Request) (a : Answer) → (perform l (commit n r)).reply ≡ told a → (a ≡ Refused 29 0 → ⊥)
+pub not-refused : (l : Ledger) (n : ℕ) (r : Request) (a : Answer) → (perform l (commit n r)).reply ≡ told a → (a ≡ refused_with 29 0 → ⊥)
     → (n ≡ l.changes) × (a ≡ answer_to l r)
 not-refused l n r a e h = go (eqb n l.changes) refl e
   where
     go : (t : Bool) → eqb n l.changes ≡ t → (answer_commit l t r).reply ≡ told a → (n ≡ l.changes) × (a ≡ answer_to l r)
     go true q e = let z : answer_to l r ≡ a = cc in (eqb-true n l.changes q, sym z)
-    go false q e = absurd (let z : Refused 29 0 ≡ a = cc in h (sym z))
+    go false q e = absurd (let z : refused_with 29 0 ≡ a = cc in h (sym z))
 
 -- "What you were shown is what you get, or you are told that something has changed": call i asks about a request and is told the answer a
 -- and the count n, call j commits the request at n and is told b; then b is a, or the refusal by 29. Wherever i and j stand, and whatever
 -- the other calls are.
-pub seen : (l : Ledger) (cs : List Call) (i j : ℕ) (r : Request) (a b : Answer) (n : ℕ) → nth cs i ≡ some (ask r)
-    → nth (run l cs).replies i ≡ some (asked a n) → nth cs j ≡ some (commit n r) → nth (run l cs).replies j ≡ some (told b)
-    → (b ≡ Refused 29 0 → ⊥) → b ≡ a
+pub seen : (l : Ledger) (cs : List Call) (i j : ℕ) (r : Request) (a b : Answer) (n : ℕ) → nth cs i ≡ Some (ask r)
+    → nth (run l cs).replies i ≡ Some (asked a n) → nth cs j ≡ Some (commit n r) → nth (run l cs).replies j ≡ Some (told b)
+    → (b ≡ refused_with 29 0 → ⊥) → b ≡ a
 seen l cs i j r a b n ci ri cj rj h =
     let li : Ledger = ledger_at l cs i in
     let lj : Ledger = ledger_at l cs j in
-    let p : some (asked (answer_to li r) li.changes) ≡ some (asked a n) = sym (reply-at l cs i (ask r) ci) ∙ ri in
+    let p : Some (asked (answer_to li r) li.changes) ≡ Some (asked a n) = sym (reply-at l cs i (ask r) ci) ∙ ri in
     let shown : answer_to li r ≡ a = cc in
     let at : li.changes ≡ n = cc in
-    let w : some (perform lj (commit n r)).reply ≡ some (told b) = sym (reply-at l cs j (commit n r) cj) ∙ rj in
+    let w : Some (perform lj (commit n r)).reply ≡ Some (told b) = sym (reply-at l cs j (commit n r) cj) ∙ rj in
     let t : (perform lj (commit n r)).reply ≡ told b = cc in
     let g = not-refused lj n r b t h in
     let same : li.changes ≡ lj.changes = at ∙ g.0 in
@@ -181,7 +183,7 @@ seen l cs i j r a b n ci ri cj rj h =
 -- a book passes questions 1 and 2, or one of them refuses every call and the book stays
 pub record Unfit (b : List ℕ) : Type 0 where
   pub number : ℕ
-  pub refused : (c : Call) → call_on b c ≡ record { reply = refusing c (Refused number 0); book = b }
+  pub refused : (c : Call) → call_on b c ≡ record { reply = refusing c (refused_with number 0); book = b }
 
 pub fit-or-not : (b : List ℕ) → Passes b ⊎ Unfit b
 unfolding call_on
@@ -193,20 +195,20 @@ fit-or-not b = go (well_laid b) refl (lawful b) refl
     go false e t f = inr (record { number = 1; refused = λ c. rw e })
 
 -- the replies of a list on a book that does not pass
-reply-unfit : (b : List ℕ) (u : Unfit b) (cs : List Call) (i : ℕ) (c : Call) → nth cs i ≡ some c
-    → nth (calls b cs).replies i ≡ some (refusing c (Refused u.number 0))
+reply-unfit : (b : List ℕ) (u : Unfit b) (cs : List Call) (i : ℕ) (c : Call) → nth cs i ≡ Some c
+    → nth (calls b cs).replies i ≡ Some (refusing c (refused_with u.number 0))
 unfolding calls
 reply-unfit b u [] i c e = absurd (let z : ◌≡◌ {A = ℕ} 0 1 = cc in omega arith)
 reply-unfit b u (d ∷ cs) zero c e =
     let q : d ≡ c = cc in
-    ap (λ (k : Called). some k.reply) (u.refused d) ∙ ap (λ (d : Call). some (refusing d (Refused u.number 0))) q
+    ap (λ (k : Called). Some k.reply) (u.refused d) ∙ ap (λ (d : Call). Some (refusing d (refused_with u.number 0))) q
 reply-unfit b u (d ∷ cs) (suc i) c e =
     ap (λ (k : Called). nth (calls k.book cs).replies i) (u.refused d) ∙ reply-unfit b u cs i c e
 
 -- the claim on every list of words, one that questions 1 and 2 refuse included: there all answers are that refusal
-pub seen-words : (w : List ℕ) (cs : List Call) (i j : ℕ) (r : Request) (a b : Answer) (n : ℕ) → nth cs i ≡ some (ask r)
-    → nth (calls w cs).replies i ≡ some (asked a n) → nth cs j ≡ some (commit n r) → nth (calls w cs).replies j ≡ some (told b)
-    → (b ≡ Refused 29 0 → ⊥) → b ≡ a
+pub seen-words : (w : List ℕ) (cs : List Call) (i j : ℕ) (r : Request) (a b : Answer) (n : ℕ) → nth cs i ≡ Some (ask r)
+    → nth (calls w cs).replies i ≡ Some (asked a n) → nth cs j ≡ Some (commit n r) → nth (calls w cs).replies j ≡ Some (told b)
+    → (b ≡ refused_with 29 0 → ⊥) → b ≡ a
 seen-words w cs i j r a b n ci ri cj rj h = go (fit-or-not w)
   where
     go : Passes w ⊎ Unfit w → b ≡ a
@@ -214,16 +216,16 @@ seen-words w cs i j r a b n ci ri cj rj h = go (fit-or-not w)
         let e : (calls w cs).replies ≡ (run (ledger_of w) cs).replies = ap (λ (k : Calls). k.replies) (shown-calls w (ledger_of w) (passes-shows w q) cs) in
         seen (ledger_of w) cs i j r a b n ci (rw e at ri) cj (rw e at rj) h
     go (inr u) =
-        let p : some (asked (Refused u.number 0) 0) ≡ some (asked a n) = sym (reply-unfit w u cs i (ask r) ci) ∙ ri in
-        let t : some (told (Refused u.number 0)) ≡ some (told b) = sym (reply-unfit w u cs j (commit n r) cj) ∙ rj in
-        let x : Refused u.number 0 ≡ a = cc in
-        let y : Refused u.number 0 ≡ b = cc in
+        let p : Some (asked (refused_with u.number 0) 0) ≡ Some (asked a n) = sym (reply-unfit w u cs i (ask r) ci) ∙ ri in
+        let t : Some (told (refused_with u.number 0)) ≡ Some (told b) = sym (reply-unfit w u cs j (commit n r) cj) ∙ rj in
+        let x : refused_with u.number 0 ≡ a = cc in
+        let y : refused_with u.number 0 ≡ b = cc in
         sym y ∙ x
 
 -- and so from a fresh book on
-pub seen-fresh : (S : Settings) → valid_settings S ≡ true → (cs : List Call) (i j : ℕ) (r : Request) (a b : Answer) (n : ℕ) → nth cs i ≡ some (ask r)
-    → nth (calls (fresh_book S) cs).replies i ≡ some (asked a n) → nth cs j ≡ some (commit n r)
-    → nth (calls (fresh_book S) cs).replies j ≡ some (told b) → (b ≡ Refused 29 0 → ⊥) → b ≡ a
+pub seen-fresh : (S : Settings) → valid_settings S ≡ true → (cs : List Call) (i j : ℕ) (r : Request) (a b : Answer) (n : ℕ) → nth cs i ≡ Some (ask r)
+    → nth (calls (fresh_book S) cs).replies i ≡ Some (asked a n) → nth cs j ≡ Some (commit n r)
+    → nth (calls (fresh_book S) cs).replies j ≡ Some (told b) → (b ≡ refused_with 29 0 → ⊥) → b ≡ a
 seen-fresh S e cs i j r a b n = seen-words (fresh_book S) cs i j r a b n
 
 -- ---- asking
@@ -250,8 +252,8 @@ ask-fails b f r a e = go (fit-or-not b)
     go : Passes b ⊎ Unfit b → (call_ask b r).reply ≡ asked a 0
     go (inl q) = absurd (f q)
     go (inr u) =
-        let t : told (Refused u.number 0) ≡ told a = sym (ap (λ (k : Called). k.reply) (u.refused (request r))) ∙ e in
-        let z : Refused u.number 0 ≡ a = cc in
+        let t : told (refused_with u.number 0) ≡ told a = sym (ap (λ (k : Called). k.reply) (u.refused (request r))) ∙ e in
+        let z : refused_with u.number 0 ≡ a = cc in
         ap (λ (k : Called). k.reply) (u.refused (ask r)) ∙ ap (λ (a : Answer). asked a 0) z
 
 -- it never looks into the ring: two ledgers of one diary and one count say the same
@@ -263,7 +265,7 @@ ask-ringless l m r d n = ap₂ (λ (x : State) (k : ℕ). asked (counted_step x 
 commit-at : (l : Ledger) (n : ℕ) (r : Request) → n ≡ l.changes → perform l (commit n r) ≡ perform l (request r)
 commit-at l n r e = ap (λ (t : Bool). answer_commit l t r) (eq-eqb n l.changes e)
 
-commit-off : (l : Ledger) (n : ℕ) (r : Request) → (n ≡ l.changes → ⊥) → perform l (commit n r) ≡ record { reply = told (Refused 29 0); ledger = l }
+commit-off : (l : Ledger) (n : ℕ) (r : Request) → (n ≡ l.changes → ⊥) → perform l (commit n r) ≡ record { reply = told (refused_with 29 0); ledger = l }
 commit-off l n r h = ap (λ (t : Bool). answer_commit l t r) (ne_eqb n l.changes h)
 
 -- committed at its last word, a request is the request without an order, whatever the words are
@@ -280,12 +282,12 @@ commit-is-request b r = go (fit-or-not b)
 
 -- at any other count it is refused by 29, before all questions of the request, and the book stays
 pub commit-refused : (b : List ℕ) → Passes b → (n : ℕ) (r : Request) → (n ≡ last_word b → ⊥)
-    → call_commit b n r ≡ record { reply = told (Refused 29 0); book = b }
+    → call_commit b n r ≡ record { reply = told (refused_with 29 0); book = b }
 commit-refused b q n r h =
     let s : Shows b (ledger_of b) = passes-shows b q in
     shown-call b (ledger_of b) s (commit n r)
     ∙ ap called (commit-off (ledger_of b) n r (λ e. h (e ∙ count-last b q)))
-    ∙ ap (λ (w : List ℕ). record { reply = told (Refused 29 0); book = w }) (sym s.is)
+    ∙ ap (λ (w : List ℕ). record { reply = told (refused_with 29 0); book = w }) (sym s.is)
 
 -- asked and committed at once at the count that it was told, a request gets the answer that it was told, whatever the words are
 pub ask-commit : (b : List ℕ) (r : Request) (a : Answer) (n : ℕ) → (call_ask b r).reply ≡ asked a n → (call_commit (call_ask b r).book n r).reply ≡ told a
@@ -302,8 +304,8 @@ ask-commit b r a n e = ap (λ (w : List ℕ). (call_commit w n r).reply) (ask-ke
         ∙ ap (λ (p : Performed). p.reply) (commit-at (ledger_of b) n r (sym z))
         ∙ ap told y
     go (inr u) =
-        let t : asked (Refused u.number 0) 0 ≡ asked a n = sym (ap (λ (k : Called). k.reply) (u.refused (ask r))) ∙ e in
-        let z : Refused u.number 0 ≡ a = cc in
+        let t : asked (refused_with u.number 0) 0 ≡ asked a n = sym (ap (λ (k : Called). k.reply) (u.refused (ask r))) ∙ e in
+        let z : refused_with u.number 0 ≡ a = cc in
         ap (λ (k : Called). k.reply) (u.refused (commit n r)) ∙ ap told z
 
 -- committing leaves the ring
@@ -342,45 +344,45 @@ other-date-commit b n r d h p = go (commit-book b n r)
 
 module _ (x : State) (n : ℕ) (r : Request) where
   -- 30 is asked last: it refuses exactly the change that every other question passes, where the count is the greatest
-  pub thirty-last : ((counted_step x n r).answer ≡ Refused 30 0) ↔ ((is_change r ≡ true) × ((n ≡ most_changes) × ((v : ℕ) × ((step x r).answer ≡ Done v))))
+  pub thirty-last : ((counted_step x n r).answer ≡ refused_with 30 0) ↔ ((is_change r ≡ true) × ((n ≡ most_changes) × ((v : ℕ) × ((step x r).answer ≡ done_with v))))
   thirty-last = (to (effect x n r), λ h. ap (λ (o : Counted). o.answer) (full x n r h.1.1.0 h.0 h.1.1.1 h.1.0))
     where
       -- the step gives no 30
-      other : (p : ℕ) → (step x r).answer ≡ Refused 30 p → ⊥
+      other : (p : ℕ) → (step x r).answer ≡ refused_with 30 p → ⊥
       other p e = let h : 30 < 23 = refused-most x r 30 p e in omega (arith, h)
 
-      to : Effect x n r → (counted_step x n r).answer ≡ Refused 30 0 → (is_change r ≡ true) × ((n ≡ most_changes) × ((v : ℕ) × ((step x r).answer ≡ Done v)))
+      to : Effect x n r → (counted_step x n r).answer ≡ refused_with 30 0 → (is_change r ≡ true) × ((n ≡ most_changes) × ((v : ℕ) × ((step x r).answer ≡ done_with v)))
       to (only_asks c) e = absurd (other 0 (sym (ap (λ (o : Counted). o.answer) (only-asked x n r c)) ∙ e))
       to (is_refused k p c f) e =
-          let z : Refused k p ≡ Refused 30 0 = sym (ap (λ (o : Counted). o.answer) (counted-refused x n r k p c f)) ∙ e in
+          let z : refused_with k p ≡ refused_with 30 0 = sym (ap (λ (o : Counted). o.answer) (counted-refused x n r k p c f)) ∙ e in
           absurd (other 0 (f ∙ z))
       to (is_full v c f q) e = (c, (q, (v, f)))
       to (raises v c f h) e =
-          absurd (let z : Done v ≡ Refused 30 0 = sym (ap (λ (o : Counted). o.answer) (raised_by x n r v c f h)) ∙ e in
+          absurd (let z : done_with v ≡ refused_with 30 0 = sym (ap (λ (o : Counted). o.answer) (raised_by x n r v c f h)) ∙ e in
           let w : ◌≡◌ {A = ℕ} 0 1 = cc in omega arith)
 
   -- nothing but a commit is refused by 29
-  pub never-29 : (p : ℕ) → (counted_step x n r).answer ≡ Refused 29 p → ⊥
+  pub never-29 : (p : ℕ) → (counted_step x n r).answer ≡ refused_with 29 p → ⊥
   never-29 p e = go (effect x n r)
     where
-      other : (step x r).answer ≡ Refused 29 p → ⊥
+      other : (step x r).answer ≡ refused_with 29 p → ⊥
       other e = let h : 29 < 23 = refused-most x r 29 p e in omega (arith, h)
 
       go : Effect x n r → ⊥
       go (only_asks c) = other (sym (ap (λ (o : Counted). o.answer) (only-asked x n r c)) ∙ e)
       go (is_refused k i c f) =
-          let z : Refused k i ≡ Refused 29 p = sym (ap (λ (o : Counted). o.answer) (counted-refused x n r k i c f)) ∙ e in
+          let z : refused_with k i ≡ refused_with 29 p = sym (ap (λ (o : Counted). o.answer) (counted-refused x n r k i c f)) ∙ e in
           other (f ∙ z)
       go (is_full v c f q) =
-          let z : Refused 30 0 ≡ Refused 29 p = sym (ap (λ (o : Counted). o.answer) (full x n r v c f q)) ∙ e in
-          let w : ◌≡◌ {A = ℕ} 30 29 = cc in omega (arith, w)
+          let z : refused_with 30 0 ≡ refused_with 29 p = sym (ap (λ (o : Counted). o.answer) (full x n r v c f q)) ∙ e in
+          let w : ◌≡◌ {A = ℕ} 30 29 = same-number 30 0 29 p z in omega (arith, w)
       go (raises v c f h) =
-          let z : Done v ≡ Refused 29 p = sym (ap (λ (o : Counted). o.answer) (raised_by x n r v c f h)) ∙ e in
+          let z : done_with v ≡ refused_with 29 p = sym (ap (λ (o : Counted). o.answer) (raised_by x n r v c f h)) ∙ e in
           let w : ◌≡◌ {A = ℕ} 0 1 = cc in omega arith
 
 -- of a party 30 is asked once, behind all its guests
 pub party-thirty : (x : State) (n m : ℕ) (gs : List Guest)
-    → ((counted_party x n m gs).answer ≡ Refused 30 0) ↔ ((n ≡ most_changes) × ((v : ℕ) × ((admit x m gs).answer ≡ Done v)))
+    → ((counted_party x n m gs).answer ≡ refused_with 30 0) ↔ ((n ≡ most_changes) × ((v : ℕ) × ((admit x m gs).answer ≡ done_with v)))
 unfolding counted_party raise
 party-thirty x n m gs = (to (admit x m gs).answer refl, λ h. rw (h.1.1, eq-eqb n most_changes h.0))
   where
@@ -388,7 +390,7 @@ party-thirty x n m gs = (to (admit x m gs).answer refl, λ h. rw (h.1.1, eq-eqb 
     o = admit x m gs
 
     -- no guest is refused by 30, and no party for its size
-    other : (p : ℕ) → (admit x m gs).answer ≡ Refused 30 p → ⊥
+    other : (p : ℕ) → (admit x m gs).answer ≡ refused_with 30 p → ⊥
     other p e = go (party_fits gs) refl
       where
         go : (f : Bool) → party_fits gs ≡ f → ⊥
@@ -397,44 +399,44 @@ party-thirty x n m gs = (to (admit x m gs).answer refl, λ h. rw (h.1.1, eq-eqb 
             let h : 30 < 23 = refused-most out.reached (joining m out.guest) 30 p out.refused in
             omega (arith, h)
         go false f =
-            let z : Refused 27 0 ≡ Refused 30 p = sym (ap (λ (o : Outcome). o.answer) (admit-unfit x m gs f)) ∙ e in
-            let w : ◌≡◌ {A = ℕ} 27 30 = cc in omega (arith, w)
+            let z : refused_with 27 0 ≡ refused_with 30 p = sym (ap (λ (o : Outcome). o.answer) (admit-unfit x m gs f)) ∙ e in
+            let w : ◌≡◌ {A = ℕ} 27 30 = same-number 27 0 30 p z in omega (arith, w)
 
-    to : (a : Answer) → (admit x m gs).answer ≡ a → (raise x n o o.answer).answer ≡ Refused 30 0
-        → (n ≡ most_changes) × ((v : ℕ) × ((admit x m gs).answer ≡ Done v))
-    to (Refused k p) e h =
-        absurd (let z : Refused k p ≡ Refused 30 0 = sym (ap (λ (a : Answer). (raise x n o a).answer) e) ∙ h in
+    to : (a : Answer) → (admit x m gs).answer ≡ a → (raise x n o o.answer).answer ≡ refused_with 30 0
+        → (n ≡ most_changes) × ((v : ℕ) × ((admit x m gs).answer ≡ done_with v))
+    to (Err refused) e h = let k = refused.number in let p = refused.place in
+        absurd (let z : refused_with k p ≡ refused_with 30 0 = sym (ap (λ (a : Answer). (raise x n o a).answer) e) ∙ h in
         other 0 (e ∙ z))
-    to (Done v) e h = (full_by (eqb n most_changes) refl, (v, e))
+    to (Ok v) e h = (full_by (eqb n most_changes) refl, (v, e))
       where
         full_by : (t : Bool) → eqb n most_changes ≡ t → n ≡ most_changes
         full_by true q = eqb-true n most_changes q
         full_by false q =
-            absurd (let z : Done v ≡ Refused 30 0 = sym (ap (λ (o : Counted). o.answer) (raise-free v q)) ∙ h' in
+            absurd (let z : done_with v ≡ refused_with 30 0 = sym (ap (λ (o : Counted). o.answer) (raise-free v q)) ∙ h' in
             let w : ◌≡◌ {A = ℕ} 0 1 = cc in omega arith)
           where
-            h' : (raise x n o (Done v)).answer ≡ Refused 30 0
+            h' : (raise x n o (done_with v)).answer ≡ refused_with 30 0
             h' = sym (ap (λ (a : Answer). (raise x n o a).answer) e) ∙ h
 
-            raise-free : (v : ℕ) → eqb n most_changes ≡ false → raise x n o (Done v) ≡ record { answer = Done v; state = o.state; changes = suc n }
+            raise-free : (v : ℕ) → eqb n most_changes ≡ false → raise x n o (done_with v) ≡ record { answer = done_with v; state = o.state; changes = suc n }
             raise-free v q = rw q
 
 -- on a book that passes: 29 exactly where the count that is named is not the last word
-pub twenty-nine : (b : List ℕ) → Passes b → (n : ℕ) (r : Request) → ((call_commit b n r).reply ≡ told (Refused 29 0)) ↔ (n ≡ last_word b → ⊥)
+pub twenty-nine : (b : List ℕ) → Passes b → (n : ℕ) (r : Request) → ((call_commit b n r).reply ≡ told (refused_with 29 0)) ↔ (n ≡ last_word b → ⊥)
 twenty-nine b q n r = (λ e at. no_more e at, λ h. ap (λ (k : Called). k.reply) (commit-refused b q n r h))
   where
-    no_more : (call_commit b n r).reply ≡ told (Refused 29 0) → n ≡ last_word b → ⊥
+    no_more : (call_commit b n r).reply ≡ told (refused_with 29 0) → n ≡ last_word b → ⊥
     no_more e at =
-        let t : told (answer_to (ledger_of b) r) ≡ told (Refused 29 0)
+        let t : told (answer_to (ledger_of b) r) ≡ told (refused_with 29 0)
         = sym (ap (λ (k : Called). k.reply) (shown-call b (ledger_of b) (passes-shows b q) (request r)))
         ∙ sym (ap (λ (k : Called). k.reply) (commit-is-request b r))
         ∙ ap (λ (m : ℕ). (call_commit b m r).reply) (sym at) ∙ e in
-        let z : answer_to (ledger_of b) r ≡ Refused 29 0 = cc in
+        let z : answer_to (ledger_of b) r ≡ refused_with 29 0 = cc in
         never-29 (ledger_of b).diary (ledger_of b).changes r 0 z
 
 -- and 30 exactly where the last word is the greatest and the request a change that every other question passes
-pub thirty : (b : List ℕ) → Passes b → (r : Request) → ((call b r).reply ≡ told (Refused 30 0))
-    ↔ ((is_change r ≡ true) × ((last_word b ≡ most_changes) × ((v : ℕ) × ((step (ledger_of b).diary r).answer ≡ Done v))))
+pub thirty : (b : List ℕ) → Passes b → (r : Request) → ((call b r).reply ≡ told (refused_with 30 0))
+    ↔ ((is_change r ≡ true) × ((last_word b ≡ most_changes) × ((v : ℕ) × ((step (ledger_of b).diary r).answer ≡ done_with v))))
 thirty b q r =
     let l : Ledger = ledger_of b in
     let s : (call b r).reply ≡ told (answer_to l r) = ap (λ (k : Called). k.reply) (shown-call b l (passes-shows b q) (request r)) in
@@ -448,8 +450,8 @@ thirty b q r =
 -- a call raises the count by one or not at all, and by one exactly where it counts as a change
 order-counts : (l : Ledger) (n : ℕ) (r : Request) (o : Option ℕ)
     → (answer_order l n r o).ledger.changes ≡ l.changes + one (not (is_some o) && is_change r && says_done (answer_order l n r o).reply)
-order-counts l n r none = counted-by-one l.diary l.changes r
-order-counts l n r (some i) = omega arith
+order-counts l n r None = counted-by-one l.diary l.changes r
+order-counts l n r (Some i) = omega arith
 
 pub call-counts : (l : Ledger) (c : Call) → (perform l c).ledger.changes ≡ l.changes + one (counts l c)
 unfolding counted_party
@@ -463,10 +465,10 @@ call-counts l (party m gs) = go (counted_party l.diary l.changes m gs).answer re
     p = raise l.diary l.changes o o.answer
 
     go : (a : Answer) → p.answer ≡ a → p.changes ≡ l.changes + one (is_done p.answer)
-    go (Done v) e =
+    go (Ok v) e =
         let n : suc l.changes ≡ l.changes + 1 = omega arith in
         (risen l.diary l.changes o o.answer v e).changes ∙ n ∙ ap (λ (a : Answer). l.changes + one (is_done a)) (sym e)
-    go (Refused k i) e =
+    go (Err refused) e = let k = refused.number in let i = refused.place in
         let n : l.changes ≡ l.changes + 0 = omega arith in
         ap (λ (c : Counted). c.changes) (refused-raised l.diary l.changes o o.answer k i e) ∙ n
         ∙ ap (λ (a : Answer). l.changes + one (is_done a)) (sym e)

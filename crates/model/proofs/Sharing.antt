@@ -8,7 +8,7 @@ use mathlib.Core.Bool.{true, false}
 use mathlib.Core.List.{List, [], ◌∷◌}
 use native.Mathlib.Omega.{arith}
 use Rattle.model.specs.declared.Request.{Request}
-use Rattle.model.specs.declared.Answer.TheVariants.{Done, Refused}
+use Rattle.model.specs.Answers.{done_with, refused_with}
 use Rattle.model.specs.State.{empty_state, reserved}
 use Rattle.model.specs.Kinds.{kind_of, Kind.add_leave, Kind.add_ride, Kind.add_standing, Kind.add_lunch}
 use Rattle.model.specs.Questions.{bookings, stands_on, conf_held, lunch_held, meeting_of, lowest_free, ask, test}
@@ -38,7 +38,7 @@ leave = row 1 0 1 0 1 0 0
 abbrev hotel : Request
 hotel = row 4 0 1 0 1 0 0
 
-pub leave-and-hotel : either_order (empty_ledger site) leave hotel ≡ (told (Done 0) ∷ told (Done 0) ∷ [], told (Refused 9 0) ∷ told (Done 0) ∷ [])
+pub leave-and-hotel : either_order (empty_ledger site) leave hotel ≡ (told (done_with 0) ∷ told (done_with 0) ∷ [], told (refused_with 9 0) ∷ told (done_with 0) ∷ [])
 unfolding run counted_step raise step change value kind_of ask test empty_ledger empty_state reserved bookings stands_on conf_held lunch_held meeting_of lowest_free
 leave-and-hotel = refl
 
@@ -49,7 +49,7 @@ standing = row 8 0 0 1 1 0 0
 abbrev lunch : ℕ → Request
 lunch d = row 14 0 0 d d 4 7
 
-pub standing-and-lunch : either_order (empty_ledger site) standing (lunch 0) ≡ (told (Done 0) ∷ told (Done 0) ∷ [], told (Refused 10 0) ∷ told (Done 0) ∷ [])
+pub standing-and-lunch : either_order (empty_ledger site) standing (lunch 0) ≡ (told (done_with 0) ∷ told (done_with 0) ∷ [], told (refused_with 10 0) ∷ told (done_with 0) ∷ [])
 unfolding run counted_step raise step change value kind_of ask test empty_ledger empty_state reserved bookings stands_on conf_held lunch_held meeting_of lowest_free
 standing-and-lunch = refl
 
@@ -62,7 +62,7 @@ pub session-off-date : NoDateShared site standing (lunch 1)
 unfolding kind_of
 session-off-date = before-slots site standing (lunch 1) add_standing add_lunch refl refl (omega arith)
 
-pub standing-or-lunch : either_order (empty_ledger site) standing (lunch 1) ≡ (told (Done 0) ∷ told (Refused 10 1) ∷ [], told (Refused 10 1) ∷ told (Done 0) ∷ [])
+pub standing-or-lunch : either_order (empty_ledger site) standing (lunch 1) ≡ (told (done_with 0) ∷ told (refused_with 10 1) ∷ [], told (refused_with 10 1) ∷ told (done_with 0) ∷ [])
 unfolding run counted_step raise step change value kind_of ask test empty_ledger empty_state reserved bookings stands_on conf_held lunch_held meeting_of lowest_free
 standing-or-lunch = refl
 
@@ -75,7 +75,7 @@ abbrev ride : Request
 ride = row 6 0 0 4 4 0 0
 
 -- leave on date 0 and a ride at time 4 share date 0
-pub leave-and-ride : either_order (empty_ledger Early.site) (leave_on 0) ride ≡ (told (Done 0) ∷ told (Done 0) ∷ [], told (Refused 9 4) ∷ told (Done 0) ∷ [])
+pub leave-and-ride : either_order (empty_ledger Early.site) (leave_on 0) ride ≡ (told (done_with 0) ∷ told (done_with 0) ∷ [], told (refused_with 9 4) ∷ told (done_with 0) ∷ [])
 unfolding run counted_step raise step change value kind_of ask test empty_ledger empty_state reserved bookings stands_on conf_held lunch_held meeting_of lowest_free
 leave-and-ride = refl
 
@@ -88,7 +88,7 @@ pub time-off-date : NoDateShared Early.site ride (leave_on 1)
 unfolding kind_of
 time-off-date = before-slots Early.site ride (leave_on 1) add_ride add_leave refl refl (omega arith)
 
-pub leave-or-ride : either_order (empty_ledger Early.site) (leave_on 1) ride ≡ (told (Done 0) ∷ told (Refused 9 4) ∷ [], told (Refused 9 4) ∷ told (Done 0) ∷ [])
+pub leave-or-ride : either_order (empty_ledger Early.site) (leave_on 1) ride ≡ (told (done_with 0) ∷ told (refused_with 9 4) ∷ [], told (refused_with 9 4) ∷ told (done_with 0) ∷ [])
 unfolding run counted_step raise step change value kind_of ask test empty_ledger empty_state reserved bookings stands_on conf_held lunch_held meeting_of lowest_free
 leave-or-ride = refl
 
@@ -101,7 +101,7 @@ times-apart = before-slots Early.site ride (row 6 0 0 5 5 0 0) add_ride add_ride
 
 -- leave on two dates where the count can rise by one only: they share no date, and the one that comes first is done
 pub one-change-left : either_order (with_changes (empty_ledger site) 4294967294) (leave_on 0) (leave_on 1)
-    ≡ (told (Done 0) ∷ told (Refused 30 0) ∷ [], told (Done 0) ∷ told (Refused 30 0) ∷ [])
+    ≡ (told (done_with 0) ∷ told (refused_with 30 0) ∷ [], told (done_with 0) ∷ told (refused_with 30 0) ∷ [])
 unfolding run counted_step raise step change value kind_of ask test empty_ledger empty_state reserved bookings stands_on conf_held lunch_held meeting_of lowest_free
 one-change-left = refl
 
@@ -114,16 +114,16 @@ reception = row 1 0 1 0 0 0 0 ∷ row 4 0 1 0 0 0 0 ∷ row 1 0 2 0 0 0 0 ∷ ro
 abbrev catering : List Request
 catering = row 8 0 0 2 3 0 0 ∷ row 14 0 0 1 1 4 7 ∷ row 14 0 1 1 1 1 0 ∷ []
 
-pub reception-alone : (run (empty_ledger site) (sent reception)).replies ≡ told (Done 0) ∷ told (Done 0) ∷ told (Done 0) ∷ told (Refused 12 0) ∷ []
+pub reception-alone : (run (empty_ledger site) (sent reception)).replies ≡ told (done_with 0) ∷ told (done_with 0) ∷ told (done_with 0) ∷ told (refused_with 12 0) ∷ []
 unfolding run counted_step raise step change value kind_of ask test empty_ledger empty_state reserved bookings stands_on conf_held lunch_held meeting_of lowest_free
 reception-alone = refl
 
-pub catering-alone : (run (empty_ledger site) (sent catering)).replies ≡ told (Done 0) ∷ told (Done 0) ∷ told (Refused 10 1) ∷ []
+pub catering-alone : (run (empty_ledger site) (sent catering)).replies ≡ told (done_with 0) ∷ told (done_with 0) ∷ told (refused_with 10 1) ∷ []
 unfolding run counted_step raise step change value kind_of ask test empty_ledger empty_state reserved bookings stands_on conf_held lunch_held meeting_of lowest_free
 catering-alone = refl
 
 -- catering first, then by turns
 pub side_by_side : (run (empty_ledger site) (sent (merge (false ∷ true ∷ false ∷ true ∷ false ∷ []) reception catering))).replies
-    ≡ told (Done 0) ∷ told (Done 0) ∷ told (Done 0) ∷ told (Done 0) ∷ told (Refused 10 1) ∷ told (Done 0) ∷ told (Refused 12 0) ∷ []
+    ≡ told (done_with 0) ∷ told (done_with 0) ∷ told (done_with 0) ∷ told (done_with 0) ∷ told (refused_with 10 1) ∷ told (done_with 0) ∷ told (refused_with 12 0) ∷ []
 unfolding run counted_step raise step change value kind_of ask test empty_ledger empty_state reserved bookings stands_on conf_held lunch_held meeting_of lowest_free
 side_by_side = refl

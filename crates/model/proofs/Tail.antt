@@ -4,7 +4,7 @@
 use Prim.Native.Nat.{ℕ, zero, suc, ◌+◌, ◌*◌, ◌-◌, ◌≤◌, ◌<◌}
 use mathlib.Core.Path.{◌≡◌, refl, sym, ap, ap₂, ◌∙◌, subst}
 use mathlib.Core.Bool.{Bool, true, false, not, ◌||◌, cond, false≢true}
-use mathlib.Core.Option.{none, some}
+use Rattle.std.specs.Prelude.{None, Some}
 use mathlib.Core.List.{List, [], ◌∷◌, ◌++◌, append_assoc}
 use native.Mathlib.Omega.{arith}
 use lib.Dec.{eqb}
@@ -12,8 +12,9 @@ use lib.ListN.{length, get_or, take, drop, set, replicate, length-append, length
 use lib.Seq.{length-take-le, take-suc, take_all, get_or-take, get_or-drop, take-append-add, drop-append-add, sets, sets-eq, set_at, get_or-set_same, get_or-set_other, take-add, drop_at, get_or_at, drop-drop, ext_get_or}
 use borrow.Author.Tests.{eqb-true, eq-eqb, ne_eqb, lt-ltb, ltb-true}
 use Rattle.model.specs.declared.Request.{Request}
-use Rattle.model.specs.declared.Answer.{Answer}
-use Rattle.model.specs.declared.Answer.TheVariants.{Done, Refused}
+use Rattle.model.specs.Answers.{Answer}
+use Rattle.std.specs.Prelude.{Ok, Err}
+use Rattle.model.specs.Answers.{refused_with}
 use Rattle.model.specs.Bounded.{any, all, list}
 use Rattle.model.specs.Messages.{answer_words, told_by}
 use Rattle.model.specs.Tail.{Tail, Entry, empty_entry, ring_places, entry_at, kept_at, place_after, keep, noted, entry_length, entry_words}
@@ -42,16 +43,21 @@ entry-words e = go e.answer
   where
     go : (a : Answer) → Tellable a → (w : List ℕ) → entry_of (entry_words (record { order = e.order; request = e.request; answer = a }) ++ w)
         ≡ record { order = e.order; request = e.request; answer = a }
-    go (Done v) h w = refl
-    go (Refused zero p) h w = absurd (h p refl)
-    go (Refused (suc n) p) h w = refl
+    go (Ok v) h w = refl
+    go (Err refused) h w = numbered refused.number h
+      where
+        numbered : (n : ℕ) → Tellable (refused_with n refused.place)
+            → entry_of (entry_words (record { order = e.order; request = e.request; answer = refused_with n refused.place }) ++ w)
+            ≡ record { order = e.order; request = e.request; answer = refused_with n refused.place }
+        numbered zero h = absurd (h refused.place refl)
+        numbered (suc n) h = refl
 
 entry-long : (e : Entry) → length (entry_words e) ≡ entry_length
 entry-long e = go e.answer
   where
     go : (a : Answer) → length (entry_words (record { order = e.order; request = e.request; answer = a })) ≡ entry_length
-    go (Done v) = refl
-    go (Refused n p) = refl
+    go (Ok v) = refl
+    go (Err refused) = let n = refused.number in let p = refused.place in refl
 
 -- the first words of a list, one by one
 take-list : (n : ℕ) (w : List ℕ) → n ≤ length w → take n w ≡ list (λ i. get_or w i 0) n
@@ -293,10 +299,9 @@ module _ (t : Tail) (s : TailSound t) where
     where
       go : (e : Entry) (a : Answer) → e.answer ≡ a → Tellable a
           → cond (eqb (get_or (entry_words e) 8 0) 0) (eqb (get_or (entry_words e) 9 0) 0) (eqb (get_or (entry_words e) 10 0) 0) ≡ true
-      go e (Done v) q k = rw q
-      go e (Refused zero p) q k = absurd (k p refl)
-      go e (Refused (suc n) p) q k =
-          let f : eqb (suc n) 0 ≡ false = never _ (λ q. omega (arith, eqb-true (suc n) 0 q)) in
+      go e (Ok v) q k = rw q
+      go e (Err refused) q k =
+          let f : eqb refused.number 0 ≡ false = never _ (λ z. k refused.place (λ i. refused_with (eqb-true refused.number 0 z i) refused.place)) in
           rw (q, f)
 
   pub tail-kept : tail_kept (tail_words t) ≡ true
@@ -410,43 +415,43 @@ keep-words w n k e =
     ∙ set_at (ring_words es') i [] (place_after i) ring_length (ring_long es' ∙ omega (arith, length-set es i e, s.places))
 
 -- the numbers of a ring without an order
-pub none_kept : (t : Tail) (n : ℕ) → kept_at t (suc n) ≡ none → (i : ℕ) → i < ring_places → (entry_at t i).order ≡ suc n → ⊥
+pub none_kept : (t : Tail) (n : ℕ) → kept_at t (suc n) ≡ None → (i : ℕ) → i < ring_places → (entry_at t i).order ≡ suc n → ⊥
 none_kept t n e i h q =
     let numbered : ℕ → Bool = λ i. eqb (entry_at t i).order (suc n) in
-    let each : Lowest numbered 0 ring_places none = subst (Lowest numbered 0 ring_places) e (lowest-is numbered 0 ring_places) in
+    let each : Lowest numbered 0 ring_places None = subst (Lowest numbered 0 ring_places) e (lowest-is numbered 0 ring_places) in
     both (eq-eqb _ _ q) (each i (omega arith) (omega (arith, h)))
 
 -- where an order is kept: its number stands there, and at no place before
-pub kept-first : (t : Tail) (n : ℕ) {i : ℕ} → kept_at t n ≡ some i → (n ≡ 0 → ⊥) × At (λ i. eqb (entry_at t i).order n) 0 ring_places i
+pub kept-first : (t : Tail) (n : ℕ) {i : ℕ} → kept_at t n ≡ Some i → (n ≡ 0 → ⊥) × At (λ i. eqb (entry_at t i).order n) 0 ring_places i
 kept-first t zero e = absurd (let z : ◌≡◌ {A = ℕ} 0 1 = cc in omega arith)
 kept-first t (suc n) {i} e =
     let numbered : ℕ → Bool = λ i. eqb (entry_at t i).order (suc n) in
     (λ z. omega (arith, z), subst (Lowest numbered 0 ring_places) e (lowest-is numbered 0 ring_places))
 
-pub kept-place : (t : Tail) (n : ℕ) {i : ℕ} → kept_at t n ≡ some i → i < ring_places
+pub kept-place : (t : Tail) (n : ℕ) {i : ℕ} → kept_at t n ≡ Some i → i < ring_places
 kept-place t n e = omega (arith, (kept-first t n e).1.high)
 
-pub kept-order : (t : Tail) (n : ℕ) {i : ℕ} → kept_at t n ≡ some i → (entry_at t i).order ≡ n
+pub kept-order : (t : Tail) (n : ℕ) {i : ℕ} → kept_at t n ≡ Some i → (entry_at t i).order ≡ n
 kept-order t n {i} e = eqb-true (entry_at t i).order n (kept-first t n e).1.holds
 
 -- an order is kept where its number stands and no place before has it, and nowhere if no place has it
 pub kept_by : (t : Tail) (n i : ℕ) → (n ≡ 0 → ⊥) → i < ring_places → (entry_at t i).order ≡ n → ((j : ℕ) → j < i → (entry_at t j).order ≡ n → ⊥)
-    → kept_at t n ≡ some i
+    → kept_at t n ≡ Some i
 kept_by t zero i z h e f = absurd (z refl)
 kept_by t (suc n) i z h e f =
-    lowest_by _ 0 ring_places (some i)
+    lowest_by _ 0 ring_places (Some i)
     (record { low = omega arith; high = omega (arith, h); holds = eq-eqb _ _ e; first = λ j l g. ne_eqb _ _ (f j g) })
 
-pub not-kept : (t : Tail) (n : ℕ) → ((i : ℕ) → i < ring_places → (entry_at t i).order ≡ n → ⊥) → kept_at t n ≡ none
+pub not-kept : (t : Tail) (n : ℕ) → ((i : ℕ) → i < ring_places → (entry_at t i).order ≡ n → ⊥) → kept_at t n ≡ None
 not-kept t zero f = refl
-not-kept t (suc n) f = lowest_by _ 0 ring_places none (λ j l h. ne_eqb _ _ (f j (omega (arith, h))))
+not-kept t (suc n) f = lowest_by _ 0 ring_places None (λ j l h. ne_eqb _ _ (f j (omega (arith, h))))
 
 -- an order is noted by keeping its entry, whatever the answer
 pub noted-is : (t : Tail) (n : ℕ) → (n ≡ 0 → ⊥) → (r : Request) (a : Answer) → keep t (record { order = n; request = r; answer = a }) ≡ noted t n r a
 noted-is t zero h r a = absurd (h refl)
 noted-is t (suc n) h r a = refl
 
-pub noted-sound : (t : Tail) → TailSound t → (n : ℕ) → kept_at t n ≡ none → (r : Request) (a : Answer) → Tellable a → TailSound (noted t n r a)
+pub noted-sound : (t : Tail) → TailSound t → (n : ℕ) → kept_at t n ≡ None → (r : Request) (a : Answer) → Tellable a → TailSound (noted t n r a)
 noted-sound t s zero e r a h = s
 noted-sound t s (suc n) e r a h =
     let some-n : suc n ≡ 0 → ⊥ = λ z. omega (arith, z) in

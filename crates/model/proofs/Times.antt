@@ -48,10 +48,10 @@ run_of p lo hi n a b h =
     is : (t : ℕ) → t < n → (b : Bool) → leb lo t && ltb t hi ≡ b → one (p t) ≡ one b
     is t l b q = ap one (h t l ∙ q)
 
-module _ (S : Settings) (some : 1 ≤ S.times) where
+module _ (S : Settings) (Some : 1 ≤ S.times) where
   -- every time of the book is on one of its dates
   pub time-date-lt : (t : ℕ) → t < all_times S → date_of_time S t < S.dates
-  time-date-lt t h = (div-lt_iff_lt-mul {k = S.times} some).1 (omega (arith, h))
+  time-date-lt t h = (div-lt_iff_lt-mul {k = S.times} Some).1 (omega (arith, h))
 
   -- a time is on date d or later from its first time on
   product : (d : ℕ) → suc d * S.times ≡ S.times + d * S.times
@@ -59,11 +59,11 @@ module _ (S : Settings) (some : 1 ≤ S.times) where
 
   from_first : (d t : ℕ) → d ≤ date_of_time S t → beginning S d ≤ t
   from_first zero t h = omega arith
-  from_first (suc d) t h = omega (arith, some, product d, (le-div_iff_mul-le {k = S.times} some).0 h)
+  from_first (suc d) t h = omega (arith, Some, product d, (le-div_iff_mul-le {k = S.times} Some).0 h)
 
   first_on : (d t : ℕ) → beginning S d ≤ t → d ≤ date_of_time S t
   first_on zero t h = omega arith
-  first_on (suc d) t h = (le-div_iff_mul-le {k = S.times} some).1 (omega (arith, h))
+  first_on (suc d) t h = (le-div_iff_mul-le {k = S.times} Some).1 (omega (arith, h))
 
   -- the times of date d are those from its first one to before the first one of the next date
   pub date-is : (d t : ℕ) → eqb (date_of_time S t) d ≡ leb (beginning S d) t && ltb t (beginning S (suc d))

@@ -3,15 +3,17 @@
 use Prim.Native.Nat.{ℕ, zero, suc, ◌<◌}
 use mathlib.Core.Path.{◌≡◌, refl, sym, ◌∙◌, ap}
 use mathlib.Core.Bool.{Bool, true, false, cond}
-use mathlib.Core.Option.{Option, none, some}
+use Rattle.std.specs.Prelude.{Option, None, Some}
 use mathlib.Core.List.{List, [], ◌∷◌, ◌++◌}
 use native.Mathlib.Omega.{arith}
 use lib.Dec.{eqb}
 use lib.ListN.{length, get_or}
 use borrow.Author.Tests.{eqb-true}
+use Rattle.model.proofs.Answers.{number_in}
 use Rattle.model.specs.declared.Request.{Request}
-use Rattle.model.specs.declared.Answer.{Answer}
-use Rattle.model.specs.declared.Answer.TheVariants.{Done, Refused}
+use Rattle.model.specs.Answers.{Answer}
+use Rattle.std.specs.Prelude.{Ok, Err}
+use Rattle.model.specs.Answers.{done_with, refused_with}
 use Rattle.model.specs.State.{State}
 use Rattle.model.specs.Kinds.{Kind, kind_of}
 use Rattle.model.specs.Questions.{Question, number, always, further, ask, judge, refusal, Refusal}
@@ -23,33 +25,33 @@ use Rattle.model.proofs.Search.{never}
 
 -- an answer that three words can tell: a refusal has a number other than 0
 abbrev pub Tellable : Answer → Type 0
-Tellable a = (p : ℕ) → a ≡ Refused 0 p → ⊥
+Tellable a = (p : ℕ) → a ≡ refused_with 0 p → ⊥
 
 abbrev number_of : Answer → ℕ
-number_of (Done v) = 1
-number_of (Refused n p) = n
+number_of (Ok v) = 1
+number_of (Err refused) = let n = refused.number in let p = refused.place in n
 
-pub done-tellable : (v : ℕ) → Tellable (Done v)
+pub done-tellable : (v : ℕ) → Tellable (done_with v)
 done-tellable v p e =
-    let z : number_of (Done v) ≡ number_of (Refused 0 p) = ap number_of e in
+    let z : number_of (done_with v) ≡ number_of (refused_with 0 p) = ap number_of e in
     omega (arith, z)
 
-pub refused-tellable : (n p : ℕ) → 0 < n → Tellable (Refused n p)
+pub refused-tellable : (n p : ℕ) → 0 < n → Tellable (refused_with n p)
 refused-tellable n p h q e =
-    let z : number_of (Refused n p) ≡ number_of (Refused 0 q) = ap number_of e in
+    let z : number_of (refused_with n p) ≡ number_of (refused_with 0 q) = ap number_of e in
     omega (arith, h, z)
 
 -- an answer has three words, and so has the reply to a request, with an order or without
 pub answer-long : (a : Answer) → length (answer_words a) ≡ 3
-answer-long (Done v) = refl
-answer-long (Refused n p) = refl
+answer-long (Ok v) = refl
+answer-long (Err refused) = let n = refused.number in let p = refused.place in refl
 
 pub reply-long : (l : Ledger) (n : ℕ) (r : Request) → length (reply_words (perform l (ordered n r)).reply) ≡ 3
 reply-long l n r = go (kept_at l.tail n)
   where
     go : (o : Option ℕ) → length (reply_words (answer_order l n r o).reply) ≡ 3
-    go none = answer-long (counted_step l.diary l.changes r).answer
-    go (some i) = answer-long (kept_answer (entry_at l.tail i) r)
+    go None = answer-long (counted_step l.diary l.changes r).answer
+    go (Some i) = answer-long (kept_answer (entry_at l.tail i) r)
 
 -- replies that tell the same tell the same answer
 pub same-told : {a a' : Answer} → told a ≡ told a' → a ≡ a'
@@ -71,9 +73,12 @@ abbrev pub read : List ℕ → Answer
 read w = told_by (get_or w 0 0) (get_or w 1 0) (get_or w 2 0)
 
 pub told_back : (a : Answer) → Tellable a → (l : List ℕ) → read (answer_words a ++ l) ≡ a
-told_back (Done v) h l = refl
-told_back (Refused zero p) h l = absurd (h p refl)
-told_back (Refused (suc n) p) h l = refl
+told_back (Ok v) h l = refl
+told_back (Err refused) h l = go refused.number h
+  where
+    go : (n : ℕ) → Tellable (refused_with n refused.place) → read (answer_words (refused_with n refused.place) ++ l) ≡ refused_with n refused.place
+    go zero h = absurd (h refused.place refl)
+    go (suc n) h = refl
 
 some_number : (q : Question) → 0 < number q
 some_number Question.unused_zero = omega arith
@@ -98,25 +103,25 @@ some_number Question.attends_one = omega arith
 some_number Question.room_free = omega arith
 
 module _ (x : State) (r : Request) where
-  judged-number : (k : Kind) (qs : List Question) (f : Refusal) → judge x r k qs ≡ some f → 0 < f.number
+  judged-number : (k : Kind) (qs : List Question) (f : Refusal) → judge x r k qs ≡ Some f → 0 < f.number
   judged-number k [] f e = absurd (let z : ◌≡◌ {A = ℕ} 0 1 = cc in omega arith)
   judged-number k (q ∷ qs) f e = go (ask x r k q) e (judged-number k qs f)
     where
-      go : (o : Option ℕ) → refusal q o (judge x r k qs) ≡ some f → (judge x r k qs ≡ some f → 0 < f.number) → 0 < f.number
-      go none h later = later h
-      go (some p) h later = let z : number q ≡ f.number = cc in omega (arith, some_number q, z)
+      go : (o : Option ℕ) → refusal q o (judge x r k qs) ≡ Some f → (judge x r k qs ≡ Some f → 0 < f.number) → 0 < f.number
+      go None h later = later h
+      go (Some p) h later = let z : number q ≡ f.number = cc in omega (arith, some_number q, z)
 
-  refused-number : (n p : ℕ) → (step x r).answer ≡ Refused n p → 0 < n
+  refused-number : (n p : ℕ) → (step x r).answer ≡ refused_with n p → 0 < n
   unfolding step
   refused-number n p e = of-kind (kind_of r.kind) e
     where
-      of-kind : (o : Option Kind) → (step_kind x r o).answer ≡ Refused n p → 0 < n
-      of-kind none h = let z : 3 ≡ n = cc in omega (arith, z)
-      of-kind (some k) h = go (judge x r k (always ++ further k)) refl h
+      of-kind : (o : Option Kind) → (step_kind x r o).answer ≡ refused_with n p → 0 < n
+      of-kind None h = let z : 3 ≡ n = ap number_in h in omega (arith, z)
+      of-kind (Some k) h = go (judge x r k (always ++ further k)) refl h
         where
-          go : (o : Option Refusal) → judge x r k (always ++ further k) ≡ o → (finish x r k o).answer ≡ Refused n p → 0 < n
-          go none q h = absurd (let z : ◌≡◌ {A = ℕ} 0 1 = cc in omega arith)
-          go (some f) q h = let z : f.number ≡ n = cc in omega (arith, judged-number k (always ++ further k) f q, z)
+          go : (o : Option Refusal) → judge x r k (always ++ further k) ≡ o → (finish x r k o).answer ≡ refused_with n p → 0 < n
+          go None q h = absurd (let z : ◌≡◌ {A = ℕ} 0 1 = cc in omega arith)
+          go (Some f) q h = let z : f.number ≡ n = ap number_in h in omega (arith, judged-number k (always ++ further k) f q, z)
 
 pub step-tellable : (x : State) (r : Request) → Tellable (step x r).answer
 step-tellable x r p e = let h : 0 < 0 = refused-number x r 0 p e in omega (arith, h)
@@ -145,22 +150,22 @@ most-number Question.attends_one = omega arith
 most-number Question.room_free = omega arith
 
 module _ (x : State) (r : Request) where
-  judged-most : (k : Kind) (qs : List Question) (f : Refusal) → judge x r k qs ≡ some f → f.number < 23
+  judged-most : (k : Kind) (qs : List Question) (f : Refusal) → judge x r k qs ≡ Some f → f.number < 23
   judged-most k [] f e = absurd (let z : ◌≡◌ {A = ℕ} 0 1 = cc in omega arith)
   judged-most k (q ∷ qs) f e = go (ask x r k q) e (judged-most k qs f)
     where
-      go : (o : Option ℕ) → refusal q o (judge x r k qs) ≡ some f → (judge x r k qs ≡ some f → f.number < 23) → f.number < 23
-      go none h later = later h
-      go (some p) h later = let z : number q ≡ f.number = cc in omega (arith, most-number q, z)
+      go : (o : Option ℕ) → refusal q o (judge x r k qs) ≡ Some f → (judge x r k qs ≡ Some f → f.number < 23) → f.number < 23
+      go None h later = later h
+      go (Some p) h later = let z : number q ≡ f.number = cc in omega (arith, most-number q, z)
 
-  pub refused-most : (n p : ℕ) → (step x r).answer ≡ Refused n p → n < 23
+  pub refused-most : (n p : ℕ) → (step x r).answer ≡ refused_with n p → n < 23
   unfolding step
   refused-most n p e = of-kind (kind_of r.kind) e
     where
-      of-kind : (o : Option Kind) → (step_kind x r o).answer ≡ Refused n p → n < 23
-      of-kind none h = let z : 3 ≡ n = cc in omega (arith, z)
-      of-kind (some k) h = go (judge x r k (always ++ further k)) refl h
+      of-kind : (o : Option Kind) → (step_kind x r o).answer ≡ refused_with n p → n < 23
+      of-kind None h = let z : 3 ≡ n = ap number_in h in omega (arith, z)
+      of-kind (Some k) h = go (judge x r k (always ++ further k)) refl h
         where
-          go : (o : Option Refusal) → judge x r k (always ++ further k) ≡ o → (finish x r k o).answer ≡ Refused n p → n < 23
-          go none q h = absurd (let z : ◌≡◌ {A = ℕ} 0 1 = cc in omega arith)
-          go (some f) q h = let z : f.number ≡ n = cc in omega (arith, judged-most k (always ++ further k) f q, z)
+          go : (o : Option Refusal) → judge x r k (always ++ further k) ≡ o → (finish x r k o).answer ≡ refused_with n p → n < 23
+          go None q h = absurd (let z : ◌≡◌ {A = ℕ} 0 1 = cc in omega arith)
+          go (Some f) q h = let z : f.number ≡ n = ap number_in h in omega (arith, judged-most k (always ++ further k) f q, z)

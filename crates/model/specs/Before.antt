@@ -4,11 +4,12 @@
 -- answers of then, is proved (proofs/Before).
 -- Assumes nothing.
 use Rattle.std.specs.Prelude.{ℕ, ◌+◌, ◌/◌, Bool, true, false, ◌&&◌, cond, List, [], ◌∷◌, ◌++◌, ltb, eqb, length, take, drop}
-use Rattle.std.proofs.Math.Option.{Option, none, some}
+use Rattle.std.specs.Prelude.{Option, None, Some}
 use Rattle.model.specs.declared.Settings.{Settings}
 use Rattle.model.specs.declared.Request.{Request}
 use Rattle.model.specs.declared.Guest.{Guest}
-use Rattle.model.specs.declared.Answer.TheVariants.{Done, Refused}
+use Rattle.std.specs.Prelude.{Err}
+use Rattle.model.specs.Answers.{done_with, refused_with}
 use Rattle.model.specs.Bounded.{all, within, conj, every, failing, count2}
 use Rattle.model.specs.Site.{capacity, all_sessions, all_times, date_of_session, dining_most}
 use Rattle.model.specs.State.{State, Pairs, hotels, rides, attends}
@@ -47,12 +48,12 @@ module _ (date : Settings → ℕ → ℕ) where
       (cond (eqb (number q) 18) (eqb (bookings_by x r.b i i) 0) (test x r k q i))
 
   abbrev pub placed_by : State → Request → Kind → Scope → (ℕ → Bool) → Option ℕ
-  placed_by x r k whole t = cond (t 0) none (some 0)
+  placed_by x r k whole t = cond (t 0) None (Some 0)
   placed_by x r k each_slot t = failing t r.first r.last
   placed_by x r k each_date t = failing t (date_by x.settings (row k).unit r.first) (date_by x.settings (row k).unit r.last)
 
   abbrev pub judge_by : State → Request → Kind → List Question → Option Refusal
-  judge_by x r k [] = none
+  judge_by x r k [] = None
   judge_by x r k (q ∷ qs) = let later = judge_by x r k qs in refusal q (placed_by x r k (scope q) (test_by x r k q)) later
 
   -- what kind 3 takes away and counts
@@ -74,24 +75,24 @@ module _ (date : Settings → ℕ → ℕ) where
 
   -- the machine
   abbrev pub finish_by : State → Request → Kind → Option Refusal → Outcome
-  finish_by x r k none = record { answer = Done (value_by x r k); state = change_by x r k }
-  finish_by x r k (some f) = record { answer = Refused f.number f.place; state = x }
+  finish_by x r k None = record { answer = done_with (value_by x r k); state = change_by x r k }
+  finish_by x r k (Some f) = record { answer = Err f; state = x }
 
   abbrev pub step_kind_by : State → Request → Option Kind → Outcome
-  step_kind_by x r none = record { answer = Refused 3 0; state = x }
-  step_kind_by x r (some k) = finish_by x r k (judge_by x r k (always ++ further k))
+  step_kind_by x r None = record { answer = refused_with 3 0; state = x }
+  step_kind_by x r (Some k) = finish_by x r k (judge_by x r k (always ++ further k))
 
   unfoldable pub step_by : State → Request → Outcome
   step_by x r = step_kind_by x r (kind_of r.kind)
 
   unfoldable pub joined_by : State → ℕ → List Guest → Outcome
-  joined_by x m [] = record { answer = Done 0; state = x }
+  joined_by x m [] = record { answer = done_with 0; state = x }
   joined_by x m (g ∷ gs) =
       let o = step_by x (joining m g) in
       if_done o.answer (joined_by o.state m gs) o
 
   unfoldable pub admit_by : State → ℕ → List Guest → Outcome
-  admit_by x m gs = cond (party_fits gs) (all_or_none x (joined_by x m gs)) (record { answer = Refused 27 0; state = x })
+  admit_by x m gs = cond (party_fits gs) (all_or_none x (joined_by x m gs)) (record { answer = refused_with 27 0; state = x })
 
   unfoldable pub counted_step_by : State → ℕ → Request → Counted
   counted_step_by x n r =
@@ -104,14 +105,14 @@ module _ (date : Settings → ℕ → ℕ) where
       raise x n o o.answer
 
   abbrev pub answer_order_by : Ledger → ℕ → Request → Option ℕ → Performed
-  answer_order_by l n r none =
+  answer_order_by l n r None =
       let o = counted_step_by l.diary l.changes r in
       stepped (noted l.tail n r o.answer) o
-  answer_order_by l n r (some i) = record { reply = told (kept_answer (entry_at l.tail i) r); ledger = l }
+  answer_order_by l n r (Some i) = record { reply = told (kept_answer (entry_at l.tail i) r); ledger = l }
 
   abbrev pub answer_commit_by : Ledger → Bool → Request → Performed
-  answer_commit_by l true r = answer_order_by l 0 r none
-  answer_commit_by l false r = record { reply = told (Refused 29 0); ledger = l }
+  answer_commit_by l true r = answer_order_by l 0 r None
+  answer_commit_by l false r = record { reply = told (refused_with 29 0); ledger = l }
 
   abbrev pub perform_by : Ledger → Call → Performed
   perform_by l (ordered n r) = answer_order_by l n r (kept_at l.tail n)

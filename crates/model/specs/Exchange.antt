@@ -1,7 +1,7 @@
 -- Two offices, two dates (section 21): when two requests share no date, which requests questions 3 to 7 let pass, and two lists merged.
 -- Assumes nothing.
 use Rattle.std.specs.Prelude.{ℕ, ◌≡◌, Bool, true, false, not, cond, List, [], ◌∷◌, ◌++◌, replicate}
-use Rattle.std.proofs.Math.Option.{none, some}
+use Rattle.std.specs.Prelude.{None, Some}
 use Rattle.model.specs.declared.Settings.{Settings}
 use Rattle.model.specs.declared.Request.{Request}
 use Rattle.model.specs.State.{State}
@@ -14,18 +14,18 @@ use Rattle.model.specs.Seen.{nth}
 -- a time is on the date that rule 2.2 gives it. A request of no kind has no slots, nor has one whose first is after its last (rule 21.1).
 abbrev pub NoDateShared : Settings → Request → Request → Type 0
 NoDateShared S r r' =
-    (k k' : Kind) → kind_of r.kind ≡ some k → kind_of r'.kind ≡ some k' → (i i' : ℕ) → slot r i ≡ true → slot r' i' ≡ true
+    (k k' : Kind) → kind_of r.kind ≡ Some k → kind_of r'.kind ≡ Some k' → (i i' : ℕ) → slot r i ≡ true → slot r' i' ≡ true
     → date_of S (row k).unit i ≡ date_of S (row k').unit i' → ⊥
 
 -- no request of the one list shares a date with one of the other
 abbrev pub NoDatesShared : Settings → List Request → List Request → Type 0
-NoDatesShared S rs rs' = (i i' : ℕ) (r r' : Request) → nth rs i ≡ some r → nth rs' i' ≡ some r' → NoDateShared S r r'
+NoDatesShared S rs rs' = (i i' : ℕ) (r r' : Request) → nth rs i ≡ Some r → nth rs' i' ≡ Some r' → NoDateShared S r r'
 
 -- the request passes questions 3 to 7, which ask the settings alone: it is of some kind, and those of every kind are answered yes
 pub record PastSeven (x : State) (r : Request) : Type 0 where
   pub kind : Kind
-  pub known : kind_of r.kind ≡ some kind
-  pub judged : judge x r kind always ≡ none
+  pub known : kind_of r.kind ≡ Some kind
+  pub judged : judge x r kind always ≡ None
 
 -- Two lists merged by a list of choices: true takes the next of the first, false the next of the second. Where that list has no more, the
 -- rest of the other follows; behind the last choice comes what is left, the first list's before the second's.

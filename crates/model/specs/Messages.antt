@@ -2,19 +2,20 @@
 -- Assumes nothing.
 use Rattle.std.specs.Prelude.{ℕ, zero, suc, Bool, ◌&&◌, List, [], ◌∷◌, eqb, get_or}
 use Rattle.model.specs.declared.Request.{Request}
-use Rattle.model.specs.declared.Answer.{Answer}
-use Rattle.model.specs.declared.Answer.TheVariants.{Done, Refused}
+use Rattle.model.specs.Answers.{Answer}
+use Rattle.std.specs.Prelude.{Ok, Err}
+use Rattle.model.specs.Answers.{done_with, refused_with}
 
 -- the three words of an answer: number, place, value; number and place are 0 when it is done, the value is 0 when it is refused
 -- (rule 6.2)
 abbrev pub answer_words : Answer → List ℕ
-answer_words (Done v) = 0 ∷ 0 ∷ v ∷ []
-answer_words (Refused n p) = n ∷ p ∷ 0 ∷ []
+answer_words (Ok v) = 0 ∷ 0 ∷ v ∷ []
+answer_words (Err e) = e.number ∷ e.place ∷ 0 ∷ []
 
 -- the answer that three words tell: refused has a number other than 0
 abbrev pub told_by : ℕ → ℕ → ℕ → Answer
-told_by zero p v = Done v
-told_by (suc n) p v = Refused (suc n) p
+told_by zero p v = done_with v
+told_by (suc n) p v = refused_with (suc n) p
 
 -- how many words a request has, and how many with the number of its order behind them (section 4, rule 18.1)
 abbrev pub request_length : ℕ

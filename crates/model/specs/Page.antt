@@ -2,9 +2,9 @@
 -- its front.
 -- Assumes nothing.
 use Rattle.std.specs.Prelude.{ℕ, zero, suc, ◌*◌, Bool, true, false, cond, List, [], ◌∷◌, ◌++◌, leb, ltb, eqb, length, drop}
-use Rattle.std.proofs.Math.Option.{Option, none, some}
-use Rattle.model.specs.declared.Answer.{Answer}
-use Rattle.model.specs.declared.Answer.TheVariants.{Done, Refused}
+use Rattle.std.specs.Prelude.{Option, None, Some}
+use Rattle.model.specs.Answers.{Answer}
+use Rattle.model.specs.Answers.{done_with, refused_with}
 use Rattle.model.specs.Bounded.{lowest, is_some, count}
 use Rattle.model.specs.Site.{all_sessions, date_of_session}
 use Rattle.model.specs.State.{State}
@@ -36,8 +36,8 @@ holder x s c = lowest (λ m. is_some (x.conf s c m)) 0 x.settings.meetings
 
 -- the line of a room in a session, if a meeting holds it, attended or not (rule 16.1)
 abbrev pub line_of : State → ℕ → ℕ → Option ℕ → List PageLine
-line_of x s c none = []
-line_of x s c (some m) =
+line_of x s c None = []
+line_of x s c (Some m) =
     record {
       session = s;
       room = c;
@@ -79,10 +79,10 @@ pub record Paged : Type 0 where
 
 -- refused, every byte stays; done, the lines stand first, and the bytes behind them stay (rules 16.4, 16.5)
 abbrev pub refused_page : ℕ → List ℕ → Paged
-refused_page n p = record { answer = Refused n 0; page = p }
+refused_page n p = record { answer = refused_with n 0; page = p }
 
 abbrev pub written : List PageLine → List ℕ → Paged
-written ls p = record { answer = Done (length ls); page = page_bytes ls ++ drop (line_width * length ls) p }
+written ls p = record { answer = done_with (length ls); page = page_bytes ls ++ drop (line_width * length ls) p }
 
 -- by what questions 1, 2, 7 and 26 say, in this order (rule 16.4)
 abbrev pub page_by : Bool → Bool → Bool → Bool → List PageLine → List ℕ → Paged

@@ -1,9 +1,9 @@
 -- Orders sent again (rule 18.7): what it is for an order to be kept, and lists of calls in which orders are sent again while they are.
 -- Assumes nothing.
 use Rattle.std.specs.Prelude.{ℕ, zero, suc, ◌+◌, ◌≡◌, Bool, true, false, not, cond, List, [], ◌∷◌, ◌++◌, take, drop}
-use Rattle.std.proofs.Math.Option.{some}
+use Rattle.std.specs.Prelude.{Some}
 use Rattle.model.specs.declared.Request.{Request}
-use Rattle.model.specs.declared.Answer.{Answer}
+use Rattle.model.specs.Answers.{Answer}
 use Rattle.model.specs.Bounded.{is_some}
 use Rattle.model.specs.Tail.{entry_at, kept_at}
 use Rattle.model.specs.Ledger.{Ledger}
@@ -16,7 +16,7 @@ IsKept l n = is_some (kept_at l.tail n) ≡ true
 -- it keeps the order with the request r and the answer a
 pub record Kept (l : Ledger) (n : ℕ) (r : Request) (a : Answer) : Type 0 where
   pub place : ℕ
-  pub at : kept_at l.tail n ≡ some place
+  pub at : kept_at l.tail n ≡ Some place
   pub request : (entry_at l.tail place).request ≡ r
   pub answer : (entry_at l.tail place).answer ≡ a
 

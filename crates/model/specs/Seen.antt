@@ -2,9 +2,9 @@
 -- reply at a place of a list with the ledger that the call is made on, and which calls count as changes.
 -- Assumes nothing.
 use Rattle.std.specs.Prelude.{ℕ, zero, suc, ◌+◌, ◌-◌, Bool, true, false, not, ◌&&◌, List, [], ◌∷◌, length, get_or, set}
-use Rattle.std.proofs.Math.Option.{Option, none, some}
-use Rattle.model.specs.declared.Answer.{Answer}
-use Rattle.model.specs.declared.Answer.TheVariants.{Done, Refused}
+use Rattle.std.specs.Prelude.{Option, None, Some}
+use Rattle.model.specs.Answers.{Answer}
+use Rattle.std.specs.Prelude.{Ok, Err}
 use Rattle.model.specs.Bounded.{is_some, one}
 use Rattle.model.specs.Tail.{kept_at}
 use Rattle.model.specs.Ledger.{Ledger}
@@ -29,8 +29,8 @@ raised k l = with_changes l (l.changes + k)
 
 -- what stands at place i of a list, the first at 0
 abbrev pub nth : {A : Type 0} → List A → ℕ → Option A
-nth [] i = none
-nth (a ∷ l) zero = some a
+nth [] i = None
+nth (a ∷ l) zero = Some a
 nth (a ∷ l) (suc i) = nth l i
 
 -- the ledger that call i of a list is made on: the one that the calls before it leave
@@ -41,8 +41,8 @@ ledger_at l (c ∷ cs) (suc i) = ledger_at (perform l c).ledger cs i
 
 -- a reply that says that something was done
 abbrev pub is_done : Answer → Bool
-is_done (Done v) = true
-is_done (Refused n p) = false
+is_done (Ok v) = true
+is_done (Err e) = let n = e.number in let p = e.place in false
 
 abbrev pub says_done : Reply → Bool
 says_done (told a) = is_done a

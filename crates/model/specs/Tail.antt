@@ -2,10 +2,10 @@
 -- its reading and its law are defined here; their laws are in proofs/Tail.
 -- Assumes nothing.
 use Rattle.std.specs.Prelude.{ℕ, zero, suc, ◌+◌, ◌*◌, Bool, not, ◌&&◌, ◌||◌, cond, List, [], ◌∷◌, ◌++◌, ltb, eqb, get_or, drop, set, replicate}
-use Rattle.std.proofs.Math.Option.{Option, none}
+use Rattle.std.specs.Prelude.{Option, None}
 use Rattle.model.specs.declared.Request.{Request}
-use Rattle.model.specs.declared.Answer.{Answer}
-use Rattle.model.specs.declared.Answer.TheVariants.{Done}
+use Rattle.model.specs.Answers.{Answer}
+use Rattle.model.specs.Answers.{done_with}
 use Rattle.model.specs.Bounded.{lowest, any, all, conj}
 use Rattle.model.specs.Messages.{answer_words, told_by, sent_words, request_of}
 
@@ -17,7 +17,7 @@ pub record Entry : Type 0 where
 
 -- an entry that keeps no order: its words are zeros
 abbrev pub empty_entry : Entry
-empty_entry = record { order = 0; request = request_of []; answer = Done 0 }
+empty_entry = record { order = 0; request = request_of []; answer = done_with 0 }
 
 -- how many orders are kept
 abbrev pub ring_places : ℕ
@@ -33,7 +33,7 @@ entry_at t i = get_or t.ring i empty_entry
 
 -- the place of an order that is kept; 0 is the number of no order (rules 18.1, 18.3)
 abbrev pub kept_at : Tail → ℕ → Option ℕ
-kept_at t zero = none
+kept_at t zero = None
 kept_at t (suc n) = lowest (λ i. eqb (entry_at t i).order (suc n)) 0 ring_places
 
 -- the place after a place: behind the last comes the first

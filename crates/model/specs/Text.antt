@@ -1,7 +1,7 @@
 -- Text: numbers as bytes, in hexadecimal (rule 11.2) and in base ten.
 -- Assumes nothing.
 use Rattle.std.specs.Prelude.{ℕ, zero, suc, ◌+◌, ◌-◌, ◌*◌, ◌/◌, ◌%◌, ◌^◌, ◌&&◌, cond, List, [], ◌∷◌, ◌++◌, leb, ltb, eqb}
-use Rattle.std.proofs.Math.Option.{Option, none, some}
+use Rattle.std.specs.Prelude.{Option, None, Some}
 use Rattle.model.specs.Bounded.{found, within, list}
 
 -- hexadecimal in lower case: the byte of a digit below 16; the value of a byte, if it is one of the sixteen digits (rule 11.2)
@@ -9,7 +9,7 @@ abbrev pub digit : ℕ → ℕ
 digit d = cond (leb d 9) (48 + d) (87 + d)
 
 abbrev pub digit_value : ℕ → Option ℕ
-digit_value b = cond (within 48 57 b) (some (b - 48)) (cond (within 97 102 b) (some (b - 87)) none)
+digit_value b = cond (within 48 57 b) (Some (b - 48)) (cond (within 97 102 b) (Some (b - 87)) None)
 
 -- the eight digits of a word, the highest first, and those of a list of words, one behind the other
 abbrev pub word_digits : ℕ → List ℕ
@@ -40,9 +40,9 @@ decimal_field (suc p) n = decimal_place n p ∷ decimal_field p n
 
 -- the number that a field shows: spaces, and then digits alone, at least one
 unfoldable pub decimal_from : ℕ → List ℕ → Option ℕ
-decimal_from n [] = some n
-decimal_from n (b ∷ bs) = cond (within 48 57 b) (decimal_from (n * 10 + (b - 48)) bs) none
+decimal_from n [] = Some n
+decimal_from n (b ∷ bs) = cond (within 48 57 b) (decimal_from (n * 10 + (b - 48)) bs) None
 
 unfoldable pub decimal_shown : List ℕ → Option ℕ
-decimal_shown [] = none
+decimal_shown [] = None
 decimal_shown (b ∷ bs) = cond (eqb b 32) (decimal_shown bs) (decimal_from 0 (b ∷ bs))

@@ -9,8 +9,8 @@ use lib.Dec.{leb, ltb, eqb}
 use lib.ListN.{length, take}
 use borrow.Author.Tests.{eqb-true, eq-eqb, le-leb, lt-ltb, lt-leb, le-ltb}
 use Rattle.model.specs.declared.Settings.{Settings}
-use Rattle.model.specs.declared.Answer.{Answer}
-use Rattle.model.specs.declared.Answer.TheVariants.{Done, Refused}
+use Rattle.model.specs.Answers.{Answer}
+use Rattle.model.specs.Answers.{done_with, refused_with}
 use Rattle.model.specs.Bounded.{within}
 use Rattle.model.specs.Kinds.{sessions}
 use Rattle.model.specs.Site.{all_sessions, date_of_session}
@@ -62,27 +62,27 @@ module _ {S : Settings} {b : List ℕ} (good : Good S b) (d lo hi : ℕ) (l : lo
       (subst (λ (S : Settings). OnDates S sessions d d lo hi) (sym (ap (λ (x : State). x.settings) (good-state good))) on)
 
   -- question 26 says no, and yes
-  pub too_short : {n : ℕ} {p : List ℕ} → n ≡ length (between (state_of b) lo hi) → length p < n * 31 → paged (Refused 26 0) p ≡ fitted (state_of b) d p
+  pub too_short : {n : ℕ} {p : List ℕ} → n ≡ length (between (state_of b) lo hi) → length p < n * 31 → paged (refused_with 26 0) p ≡ fitted (state_of b) d p
   too_short {n} {p} e h =
       let k : length p < 31 * length (page_lines (state_of b) d) = omega (arith, h, e ∙ ap length date-lines) in
       rw (lt-leb (31 * length (page_lines (state_of b) d)) (length p) k)
 
   pub long-enough : {n : ℕ} {p q : List ℕ} → n ≡ length (between (state_of b) lo hi) → n * 31 ≤ length p
-      → Put p q 0 (page_bytes (between (state_of b) lo hi)) → paged (Done n) q ≡ fitted (state_of b) d p
+      → Put p q 0 (page_bytes (between (state_of b) lo hi)) → paged (done_with n) q ≡ fitted (state_of b) d p
   long-enough {n} {p} {q} e h w =
       let v : Put p q 0 (page_bytes (page_lines (state_of b) d)) = rw date-lines at w in
       let m : n ≡ length (page_lines (state_of b) d) = e ∙ ap length date-lines in
       let k : 31 * length (page_lines (state_of b) d) ≤ length p = omega (arith, h, m) in
       rw (le-leb (31 * length (page_lines (state_of b) d)) (length p) k)
-      (ap₂ paged (ap Done m) (put_front (bytes-length (page_lines (state_of b) d)) v))
+      (ap₂ paged (ap done_with m) (put_front (bytes-length (page_lines (state_of b) d)) v))
 
 -- any words as a book: questions 1 and 2
-pub page-refused : (b : List ℕ) (d : ℕ) (p : List ℕ) {n i : ℕ} → check b ≡ Refused n i → paged (Refused n i) p ≡ page b d p
+pub page-refused : (b : List ℕ) (d : ℕ) (p : List ℕ) {n i : ℕ} → check b ≡ refused_with n i → paged (refused_with n i) p ≡ page b d p
 unfolding check page
 page-refused b d p {n} {i} e = go (well_laid b) refl (lawful b) refl e
   where
-    go : (o : Bool) → well_laid b ≡ o → (t : Bool) → lawful b ≡ t → check b ≡ Refused n i → paged (Refused n i) p ≡ page b d p
-    go true q true s e = absurd (let f : Done 0 ≡ Refused n i = rw (q, s) at e in let z : ◌≡◌ {A = ℕ} 0 1 = cc in omega arith)
+    go : (o : Bool) → well_laid b ≡ o → (t : Bool) → lawful b ≡ t → check b ≡ refused_with n i → paged (refused_with n i) p ≡ page b d p
+    go true q true s e = absurd (let f : done_with 0 ≡ refused_with n i = rw (q, s) at e in let z : ◌≡◌ {A = ℕ} 0 1 = cc in omega arith)
     go true q false s e = rw (q, s) (ap (λ (a : Answer). paged a p) (sym (rw (q, s) at e)))
     go false q t s e = rw q (ap (λ (a : Answer). paged a p) (sym (rw q at e)))
 
@@ -92,7 +92,7 @@ module _ {S : Settings} {b : List ℕ} (good : GoodBook S b) (d : ℕ) (p : List
   unfolding ledger_of read_state
   dates-are = ap (λ (x : State). x.settings.dates) (good-state (good-part good))
 
-  pub page-late : S.dates ≤ d → paged (Refused 7 0) p ≡ page b d p
+  pub page-late : S.dates ≤ d → paged (refused_with 7 0) p ≡ page b d p
   unfolding page
   page-late h = rw (good.laid, good.lawful, dates-are, le-ltb d S.dates h)
 

@@ -4,13 +4,13 @@ use Prim.Native.Nat.{ℕ, zero, suc, ◌+◌, ◌*◌, ◌^◌, ◌≤◌, ◌<�
 use native.Mathlib.Omega.{arith}
 use mathlib.Core.Path.{◌≡◌, refl, sym, ◌∙◌, ap}
 use mathlib.Core.Bool.{Bool, true, false, cond}
-use mathlib.Core.Option.{Option, none, some}
+use Rattle.std.specs.Prelude.{Option, None, Some}
 use mathlib.Core.List.{List, [], ◌∷◌, ◌++◌}
 use lib.Dec.{leb, ltb, eqb}
 use lib.ListN.{length, take, drop, length-append, length-drop}
 use lib.Seq.{take_at, drop_at, drop-drop}
 use borrow.Author.Tests.{leb-true}
-use Rattle.model.specs.declared.Answer.TheVariants.{Done}
+use Rattle.model.specs.Answers.{done_with}
 use Rattle.model.specs.Bounded.{is_some}
 use Rattle.model.specs.Site.{valid_settings, all_sessions, date_of_session}
 use Rattle.model.specs.State.{State}
@@ -44,7 +44,7 @@ filled-by ls p h =
     }
 
 -- "Done, the page begins with 31 bytes a line, and nothing behind them has changed."
-pub page-filled : (b : List ℕ) (d : ℕ) (p : List ℕ) {n : ℕ} → (page b d p).answer ≡ Done n → Filled (page_lines (ledger_of b).diary d) p n
+pub page-filled : (b : List ℕ) (d : ℕ) (p : List ℕ) {n : ℕ} → (page b d p).answer ≡ done_with n → Filled (page_lines (ledger_of b).diary d) p n
     (page b d p).page
 unfolding page
 page-filled b d p {n} e = go (well_laid b) (lawful b) (ltb d (ledger_of b).diary.settings.dates) (leb (31 * length ls) (length p)) refl e
@@ -52,9 +52,9 @@ page-filled b d p {n} e = go (well_laid b) (lawful b) (ltb d (ledger_of b).diary
     ls : List PageLine
     ls = page_lines (ledger_of b).diary d
 
-    go : (o t s r : Bool) → leb (31 * length ls) (length p) ≡ r → (page_by o t s r ls p).answer ≡ Done n → Filled ls p n (page_by o t s r ls p).page
+    go : (o t s r : Bool) → leb (31 * length ls) (length p) ≡ r → (page_by o t s r ls p).answer ≡ done_with n → Filled ls p n (page_by o t s r ls p).page
     go true true true true f e =
-        let m : length ls ≡ n = let z : Done (length ls) ≡ Done n = e in cc in
+        let m : length ls ≡ n = let z : done_with (length ls) ≡ done_with n = e in cc in
         rw (← m) (filled-by ls p (leb-true _ _ f))
     go true true true false f e = absurd (let z : ◌≡◌ {A = ℕ} 0 1 = cc in omega arith)
     go true true false r f e = absurd (let z : ◌≡◌ {A = ℕ} 0 1 = cc in omega arith)
@@ -67,11 +67,11 @@ columns from n bytes = take n (drop from bytes)
 
 -- each number of a line is what its columns show
 pub record Reads (l : PageLine) : Type 0 where
-  pub session : decimal_shown (columns 0 5 (line_bytes l)) ≡ some l.session
-  pub room : decimal_shown (columns 5 4 (line_bytes l)) ≡ some l.room
-  pub meeting : decimal_shown (columns 9 4 (line_bytes l)) ≡ some l.meeting
-  pub attending : decimal_shown (columns 13 6 (line_bytes l)) ≡ some l.attending
-  pub info : decimal_shown (columns 19 11 (line_bytes l)) ≡ some l.info
+  pub session : decimal_shown (columns 0 5 (line_bytes l)) ≡ Some l.session
+  pub room : decimal_shown (columns 5 4 (line_bytes l)) ≡ Some l.room
+  pub meeting : decimal_shown (columns 9 4 (line_bytes l)) ≡ Some l.meeting
+  pub attending : decimal_shown (columns 13 6 (line_bytes l)) ≡ Some l.attending
+  pub info : decimal_shown (columns 19 11 (line_bytes l)) ≡ Some l.info
 
 -- a line whose numbers fit its columns
 pub record Fitting (l : PageLine) : Type 0 where
@@ -83,7 +83,7 @@ pub record Fitting (l : PageLine) : Type 0 where
 
 -- a field behind m bytes
 field_at : (front rest : List ℕ) (w n m : ℕ) → length front ≡ m → 0 < w → n < 10 ^ w → decimal_shown
-    (columns m w (front ++ (decimal_field w n ++ rest))) ≡ some n
+    (columns m w (front ++ (decimal_field w n ++ rest))) ≡ Some n
 field_at front rest w n m e h k =
     ap (λ (l : List ℕ). decimal_shown (take w l)) (drop_at front (decimal_field w n ++ rest) m e)
     ∙ ap decimal_shown (take_at (decimal_field w n) rest w (field-length w n))
@@ -152,8 +152,8 @@ lines-read x d v w =
 
     held : (s c : ℕ) → s < all_sessions x.settings → c < x.settings.rooms → (o : Option ℕ)
         → Lowest (λ m. is_some (x.conf s c m)) 0 x.settings.meetings o → EachLine Reads (line_of x s c o)
-    held s c i j none h = tt
-    held s c i j (some m) h =
+    held s c i j None h = tt
+    held s c i j (Some m) h =
         let g = ranges-by x.settings v in (
           line_reads _
               (record {

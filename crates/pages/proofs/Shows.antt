@@ -6,7 +6,7 @@ use native.Mathlib.Numerals.{add-one}
 use native.Mathlib.Omega.{arith}
 use mathlib.Core.Path.{◌≡◌, refl, sym, ◌∙◌, ap, ap₂}
 use mathlib.Core.Bool.{Bool, true, cond, not}
-use mathlib.Core.Option.{Option, none, some}
+use Rattle.std.specs.Prelude.{Option, None, Some}
 use mathlib.Core.List.{List, [], ◌∷◌}
 use lib.Dec.{eqb}
 use lib.ListN.{length, get_or, set, length-set}
@@ -95,7 +95,7 @@ module _ (S : Settings) (b : List ℕ) (good : Good S b) (s : ℕ) (hs : s < all
     info-is m e =
         let h : holds S b conf_pairs s c m ≡ true = holds-is S b conf_pairs s c m hs hc ∙ eq-eqb _ (m + 1) e in
         ap (λ (x : State). info_of (x.conf s c m)) (good-state good)
-        ∙ ap (λ (t : Bool). info_of (cond t (some (at S b conf_pairs s c 1)) none)) h
+        ∙ ap (λ (t : Bool). info_of (cond t (Some (at S b conf_pairs s c 1)) None)) h
         ∙ sym (word-is S b conf_pairs s c 1)
 
     pub no_line : cell_at (grid_of S conf_pairs) b s c ≡ 0 → [] ≡ room_line (state_of b) s c

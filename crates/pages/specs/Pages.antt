@@ -1,7 +1,7 @@
 -- Parts of a page, as the code makes them.
 -- Assumes nothing.
 use Rattle.std.specs.Prelude.{ℕ, suc, ◌+◌, ◌*◌, ◌-◌, ◌≤◌, ◌<◌, ◌≡◌, true, List, leb, length, get_or}
-use Rattle.model.specs.declared.Answer.{Answer}
+use Rattle.model.specs.Answers.{Answer}
 use Rattle.model.specs.State.{State}
 use Rattle.model.specs.Page.{PageLine, Paged, join_from, attending, session_lines, page_lines, page_bytes, line_width, page_by}
 use Rattle.text.specs.Put.{Put}

@@ -3,7 +3,6 @@ ghost use Rattle.std.specs.Prelude.{◌≡◌, ◌≤◌, ◌<◌};
 ghost use Rattle.model.specs.Site.{all_sessions};
 ghost use Rattle.model.specs.Page.{session_lines};
 ghost use Rattle.model.specs.Reading.{state_of};
-ghost use Rattle.book.specs.Grids.{Sited};
 ghost use Rattle.book.specs.Good.{Good};
 ghost use Rattle.book.specs.Lent.{reading};
 ghost use Rattle.pages.specs.Pages.{Count, between};
@@ -14,16 +13,13 @@ use queries::bookings::full;
 
 fn lines_in(diary: &[u32], site: Site, session: Session) -> u32
     requires good { Good site.settings (reading diary.now) }
-    requires sited { Sited site }
     requires session_bound { session.0 < all_sessions site.settings }
     ensures { Count (session_lines (state_of (reading diary.now)) session.0) 64 result }
 {
     let rooms = site.settings.rooms;
     let mut n: u32 = 0;
-    let mut room: u32 = 0;
-    while room < rooms {
+    for room in 0..rooms {
         n += full(cell(diary, site.grids.conf, session.0, room));
-        room += 1;
     }
     n
 }
@@ -31,16 +27,12 @@ fn lines_in(diary: &[u32], site: Site, session: Session) -> u32
 // The sessions from `from` to before `to`.
 pub fn lines_between(diary: &[u32], site: Site, from: Session, to: Session) -> u32
     requires good { Good site.settings (reading diary.now) }
-    requires sited { Sited site }
     requires from_le_to { (from.0 ≤ to.0) × (to.0 ≤ all_sessions site.settings) }
     ensures { Count (between (state_of (reading diary.now)) from.0 to.0) 409600 result }
 {
-    let end = to.0;
     let mut n: u32 = 0;
-    let mut i = from.0;
-    while i < end {
+    for i in from.0..to.0 {
         n += lines_in(diary, site, Session(i));
-        i += 1;
     }
     n
 }

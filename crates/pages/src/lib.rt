@@ -14,8 +14,8 @@ ghost use Rattle.pages.specs.Pages.{paged, fitted};
 
 use book::grid::site_of;
 use header::settings::{diary_len, settings};
-use model::{Answer, Date, Settings};
-use units::sessions_on;
+use model::{Answer, Date, Refusal, Session, Settings};
+use units::on_dates;
 
 // The lines of a date of a good diary, if the page is long enough for them: this is known before the first byte is written.
 fn fill(diary: &[u32], s: Settings, date: Date, page: &mut [u8]) -> Answer
@@ -24,32 +24,29 @@ fn fill(diary: &[u32], s: Settings, date: Date, page: &mut [u8]) -> Answer
     ensures { paged result page.new ≡ fitted (state_of (reading diary.now)) date.0 page.old }
 {
     let site = site_of(s);
-    let run = sessions_on(s, date, date);
+    let run = on_dates::<Session>(s, date, date);
     let n = counts::lines_between(diary, site, run.from, run.to);
     if page.len() < n as usize * lines::LINE_BYTES {
-        return Answer::Refused {
+        return Err(Refusal {
             number: 26,
             place: 0,
-        };
+        });
     }
     lines::put_sessions(diary, site, run.from, run.to, page);
-    Answer::Done(n)
+    Ok(n)
 }
 
 // The page of a date from any words as a book: questions 1, 2, 7 and 26.
 pub fn page(book: &[u32], date: u32, page: &mut [u8]) -> Answer
     ensures { paged result page.new ≡ Page.page book.now date page.old }
 {
-    let checked = checking::check(book);
-    if let Answer::Refused { number, place } = checked {
-        return Answer::Refused { number, place };
-    }
+    checking::check(book)?;
     let s = settings(book);
     if date >= s.dates {
-        return Answer::Refused {
+        return Err(Refusal {
             number: 7,
             place: 0,
-        };
+        });
     }
     let n = diary_len(s);
     fill(&book[..n], s, Date(date), page)

@@ -5,7 +5,6 @@ ghost use Rattle.model.specs.Text.{decimal_field};
 ghost use Rattle.model.specs.Page.{line_bytes, page_bytes, room_line, session_lines};
 ghost use Rattle.model.specs.Reading.{state_of};
 ghost use Rattle.text.specs.Put.{Put};
-ghost use Rattle.book.specs.Grids.{Sited};
 ghost use Rattle.book.specs.Good.{Good};
 ghost use Rattle.book.specs.Lent.{reading};
 ghost use Rattle.pages.specs.Pages.{Tally, Written, between, line_of};
@@ -59,7 +58,6 @@ fn put_room(
     at: usize,
 ) -> usize
     requires good { Good site.settings (reading diary.now) }
-    requires sited { Sited site }
     requires tally { Tally (state_of (reading diary.now)) session.0 table.now }
     requires session_bound { (session.0 < all_sessions site.settings) × (room < site.settings.rooms) }
     requires room_in_bounds { at + 31 * length (room_line (state_of (reading diary.now)) session.0 room) ≤ length page.old }
@@ -77,7 +75,6 @@ fn put_room(
 // The lines of a session, by room.
 fn put_session(diary: &[u32], site: Site, session: Session, page: &mut [u8], at: usize) -> usize
     requires good { Good site.settings (reading diary.now) }
-    requires sited { Sited site }
     requires session_bound { session.0 < all_sessions site.settings }
     requires session_in_bounds { at + 31 * length (session_lines (state_of (reading diary.now)) session.0) ≤ length page.old }
     ensures { Written page.old page.new at (session_lines (state_of (reading diary.now)) session.0) result }
@@ -85,10 +82,8 @@ fn put_session(diary: &[u32], site: Site, session: Session, page: &mut [u8], at:
     let table = tally(diary, site, session);
     let rooms = site.settings.rooms;
     let mut next = at;
-    let mut room: u32 = 0;
-    while room < rooms {
+    for room in 0..rooms {
         next = put_room(diary, site, &table, session, room, page, next);
-        room += 1;
     }
     next
 }
@@ -96,16 +91,12 @@ fn put_session(diary: &[u32], site: Site, session: Session, page: &mut [u8], at:
 // The lines of the sessions from `from` to before `to`, at the front of the page.
 pub fn put_sessions(diary: &[u32], site: Site, from: Session, to: Session, page: &mut [u8])
     requires good { Good site.settings (reading diary.now) }
-    requires sited { Sited site }
     requires from_le_to { (from.0 ≤ to.0) × (to.0 ≤ all_sessions site.settings) }
     requires to_in_bounds { 31 * length (between (state_of (reading diary.now)) from.0 to.0) ≤ length page.old }
     ensures { Put page.old page.new 0 (page_bytes (between (state_of (reading diary.now)) from.0 to.0)) }
 {
-    let end = to.0;
     let mut at: usize = 0;
-    let mut i = from.0;
-    while i < end {
+    for i in from.0..to.0 {
         at = put_session(diary, site, Session(i), page, at);
-        i += 1;
     }
 }

@@ -2,7 +2,6 @@
 ghost use Rattle.std.specs.Prelude.{◌≡◌, ◌<◌};
 ghost use Rattle.model.specs.Site.{all_sessions};
 ghost use Rattle.model.specs.Reading.{state_of};
-ghost use Rattle.book.specs.Grids.{Sited};
 ghost use Rattle.book.specs.Good.{Good};
 ghost use Rattle.book.specs.Lent.{reading};
 ghost use Rattle.pages.specs.Pages.{Tally};
@@ -16,17 +15,14 @@ const ENTRIES: usize = 128 + 1;
 // How many visitors attend each meeting in the session: entry m + 1 is of meeting m, so that a cell is the index of its entry.
 pub fn tally(diary: &[u32], site: Site, session: Session) -> [u32; ENTRIES]
     requires good { Good site.settings (reading diary.now) }
-    requires sited { Sited site }
     requires session_bound { session.0 < all_sessions site.settings }
     ensures { Tally (state_of (reading diary.now)) session.0 result }
 {
     let visitors = site.settings.visitors;
     let mut table = [0u32; ENTRIES];
-    let mut v: u32 = 0;
-    while v < visitors {
+    for v in 0..visitors {
         let w = cell(diary, site.grids.attend, session.0, v) as usize;
         table[w] += 1;
-        v += 1;
     }
     table
 }

@@ -12,8 +12,9 @@ use borrow.Author.Tests.{eq-eqb, ne_eqb}
 use Rattle.model.specs.declared.Settings.{Settings}
 use Rattle.model.specs.declared.Request.{Request}
 use Rattle.model.specs.declared.Guest.{Guest}
-use Rattle.model.specs.declared.Answer.{Answer}
-use Rattle.model.specs.declared.Answer.TheVariants.{Done, Refused}
+use Rattle.model.specs.Answers.{Answer}
+use Rattle.std.specs.Prelude.{Ok, Err}
+use Rattle.model.specs.Answers.{done_with, refused_with}
 use Rattle.model.specs.State.{State}
 use Rattle.model.specs.Kinds.{Kind.add_attend}
 use Rattle.model.specs.Machine.{Outcome, step, change, joining, joined, all_or_none, party_fits, admit, party, told, Counted, most_changes, raise, counted_party}
@@ -39,7 +40,7 @@ use Rattle.step.proofs.Kept.{good-diary, good-call, part-good, count-is}
 use Rattle.parties.specs.Guests.{guest_of, guests_of, guest_request, Reaches, none_yet, one_more, Within, Adds, TakenBack, last_asked, of_party, Lent}
 use Rattle.parties.proofs.Guests.{from, from_first, from_next}
 
-refused-done : {n p v : ℕ} {A : Type 0} → Refused n p ≡ Done v → A
+refused-done : {n p v : ℕ} {A : Type 0} → refused_with n p ≡ done_with v → A
 refused-done e = done_refused (sym e)
 
 -- one request on a good diary: the step of what it shows, and a good diary that shows the next state
@@ -96,23 +97,23 @@ module _ {S : Settings} {a : List ℕ} (m : ℕ) (w : List ℕ) (n i : ℕ) {b :
     here : joined (state_of a) m (guests_of n w) ≡ joined (state_of b) m (guest ∷ from n (suc i) w)
     here = so.rest ∙ ap (joined (state_of b) m) (from_next n i w l)
 
-    pub adding-more : {v : ℕ} → r ≡ Done v → {j : ℕ} → suc i ≡ j → Adding S a m w n j b'
+    pub adding-more : {v : ℕ} → r ≡ done_with v → {j : ℕ} → suc i ≡ j → Adding S a m w n j b'
     adding-more {v} d {j} f =
         subst (λ (k : ℕ). Adding S a m w n k b') f (
         let h : Accepted (state_of b) asks add_attend = accepted-guest (state_of b) m guest v (sym left.answer ∙ d) in
-        let q : step (state_of b) asks ≡ record { answer = Done 0; state = change (state_of b) asks add_attend } = added (state_of b) m guest h in
+        let q : step (state_of b) asks ≡ record { answer = done_with 0; state = change (state_of b) asks add_attend } = added (state_of b) m guest h in
         let z : change (state_of b) asks add_attend ≡ state_of b' = sym (left.state ∙ ap (λ (o : Outcome). o.state) q) in
-        let t : step (state_of b) asks ≡ record { answer = Done 0; state = state_of b' }
-        = q ∙ ap (λ (x : State). record { answer = Done 0; state = x }) z in
+        let t : step (state_of b) asks ≡ record { answer = done_with 0; state = state_of b' }
+        = q ∙ ap (λ (x : State). record { answer = done_with 0; state = x }) z in
         record {
           within = record { good = left.good; reaches = one_more i (state_of b) (state_of b') so.within.reaches t };
           rest = here ∙ joined-on (state_of b) m guest (from n (suc i) w) (state_of b') t;
         }
         )
 
-    pub adding-stops : {k p : ℕ} → r ≡ Refused k p → Adds S a m w n i (Refused k p) b'
+    pub adding-stops : {k p : ℕ} → r ≡ refused_with k p → Adds S a m w n i (refused_with k p) b'
     adding-stops {k} {p} d =
-        let q : (step (state_of b) asks).answer ≡ Refused k p = sym left.answer ∙ d in
+        let q : (step (state_of b) asks).answer ≡ refused_with k p = sym left.answer ∙ d in
         let x : state_of b ≡ state_of b' = sym (left.state ∙ refused-keeps (state_of b) asks k p q) in
         record {
           within = record { good = left.good; reaches = subst (λ (y : State). Reaches (state_of a) m w i y) x so.within.reaches };
@@ -123,7 +124,7 @@ module _ {S : Settings} {a : List ℕ} (m : ℕ) (w : List ℕ) (n i : ℕ) {b :
         }
 
 pub adding-ends : {S : Settings} {a : List ℕ} (m : ℕ) (w : List ℕ) (n i : ℕ) {b : List ℕ} → Adding S a m w n i b → i ≡ n
-    → Adds S a m w n n (Done 0) b
+    → Adds S a m w n n (done_with 0) b
 unfolding joined guests_of
 adding-ends {S} {a} m w n i {b} so e =
     let z : n - n ≡ 0 = omega arith in
@@ -151,7 +152,7 @@ taken-one {S} {a} {b} m w {i} j f so {r} {b'} e = go (state_of b) refl (rw f at 
         let g : Guest = guest_of (drop (k * 3) w) in
         let h : Accepted y (joining m g) add_attend = accepted-guest y m g 0 (ap (λ (o : Outcome). o.answer) q) in
         let c : z ≡ change y (joining m g) add_attend = ap (λ (o : Outcome). o.state) (sym q ∙ added y m g h) in
-        let back : step z asks ≡ record { answer = Done 0; state = y } = ap (λ (x : State). step x asks) c ∙ undo-added y (joining m g) attend h in
+        let back : step z asks ≡ record { answer = done_with 0; state = y } = ap (λ (x : State). step x asks) c ∙ undo-added y (joining m g) attend h in
         let is : state_of b' ≡ y
         = left.state ∙ ap (λ (x : State). (step x asks).state) shows ∙ ap (λ (o : Outcome). o.state) back in
         record { good = left.good; reaches = subst (λ (x : State). Reaches (state_of a) m w k x) (sym is) before }
@@ -164,23 +165,23 @@ taken-all {S} {a} {b} {m} {w} good f so = go (state_of b) refl (rw f at so.reach
     go z shows none_yet = sym (good-diary so.good) ∙ ap words shows ∙ good-diary good
 
 -- question 30 behind an answer: a refusal stays, and what is done is refused at the greatest count
-pub last-refused : (n : ℕ) {a : Answer} {k p : ℕ} → a ≡ Refused k p → Refused k p ≡ last_asked n a
+pub last-refused : (n : ℕ) {a : Answer} {k p : ℕ} → a ≡ refused_with k p → refused_with k p ≡ last_asked n a
 last-refused n e = sym (ap (last_asked n) e)
 
-pub last-full : {n : ℕ} {a : Answer} {v : ℕ} → a ≡ Done v → n ≡ most_changes → Refused 30 0 ≡ last_asked n a
+pub last-full : {n : ℕ} {a : Answer} {v : ℕ} → a ≡ done_with v → n ≡ most_changes → refused_with 30 0 ≡ last_asked n a
 last-full {n} {a} {v} e f = sym (ap (last_asked n) e ∙ rw (eq-eqb n most_changes f))
 
-pub last_done : {n : ℕ} {a : Answer} {v : ℕ} → a ≡ Done v → (n ≡ most_changes → ⊥) → a ≡ last_asked n a
+pub last_done : {n : ℕ} {a : Answer} {v : ℕ} → a ≡ done_with v → (n ≡ most_changes → ⊥) → a ≡ last_asked n a
 last_done {n} {a} {v} e f = e ∙ sym (ap (last_asked n) e ∙ rw (ne_eqb n most_changes f))
 
 -- what is done behind it found a count that can rise
-pub last-open : (n : ℕ) (r : Answer) {q : Answer} {v : ℕ} → q ≡ last_asked n r → q ≡ Done v → eqb n most_changes ≡ false
-last-open n (Done u) {q} {v} l e = go (eqb n most_changes) (sym l ∙ e)
+pub last-open : (n : ℕ) (r : Answer) {q : Answer} {v : ℕ} → q ≡ last_asked n r → q ≡ done_with v → eqb n most_changes ≡ false
+last-open n (Ok u) {q} {v} l e = go (eqb n most_changes) (sym l ∙ e)
   where
-    go : (t : Bool) → cond t (Refused 30 0) (Done u) ≡ Done v → t ≡ false
+    go : (t : Bool) → cond t (refused_with 30 0) (done_with u) ≡ done_with v → t ≡ false
     go true e = refused-done e
     go false e = refl
-last-open n (Refused k p) l e = refused-done (sym l ∙ e)
+last-open n (Err refused) l e = let k = refused.number in let p = refused.place in refused-done (sym l ∙ e)
 
 -- What all the guests, or none, make of a diary x at the count n, by what they give one by one: with the answer r, question 30 behind it
 -- says whether they are refused or done.
@@ -188,29 +189,29 @@ abbrev counted : State → ℕ → Outcome → Counted
 counted x n o = raise x n (all_or_none x o) (all_or_none x o).answer
 
 module _ (x : State) (n : ℕ) where
-  counted_none : (r : Answer) (z : State) {k p : ℕ} → last_asked n r ≡ Refused k p
-      → counted x n (record { answer = r; state = z }) ≡ record { answer = Refused k p; state = x; changes = n }
+  counted_none : (r : Answer) (z : State) {k p : ℕ} → last_asked n r ≡ refused_with k p
+      → counted x n (record { answer = r; state = z }) ≡ record { answer = refused_with k p; state = x; changes = n }
   unfolding raise
-  counted_none (Done v) z {k} {p} e = go (eqb n most_changes) e
+  counted_none (Ok v) z {k} {p} e = go (eqb n most_changes) e
     where
-      go : (t : Bool) → cond t (Refused 30 0) (Done v) ≡ Refused k p
-          → cond {A = Counted} t (record { answer = Refused 30 0; state = x; changes = n }) (record { answer = Done v; state = z; changes = suc n })
-          ≡ record { answer = Refused k p; state = x; changes = n }
+      go : (t : Bool) → cond t (refused_with 30 0) (done_with v) ≡ refused_with k p
+          → cond {A = Counted} t (record { answer = refused_with 30 0; state = x; changes = n }) (record { answer = done_with v; state = z; changes = suc n })
+          ≡ record { answer = refused_with k p; state = x; changes = n }
       go true e = λ j. record { answer = e j; state = x; changes = n }
       go false e = done_refused e
-  counted_none (Refused k p) z e = λ j. record { answer = e j; state = x; changes = n }
+  counted_none (Err refused) z e = let k = refused.number in let p = refused.place in λ j. record { answer = e j; state = x; changes = n }
 
-  counted-all : (r : Answer) (z : State) {v : ℕ} → last_asked n r ≡ Done v
-      → counted x n (record { answer = r; state = z }) ≡ record { answer = Done v; state = z; changes = suc n }
+  counted-all : (r : Answer) (z : State) {v : ℕ} → last_asked n r ≡ done_with v
+      → counted x n (record { answer = r; state = z }) ≡ record { answer = done_with v; state = z; changes = suc n }
   unfolding raise
-  counted-all (Done u) z {v} e = go (eqb n most_changes) e
+  counted-all (Ok u) z {v} e = go (eqb n most_changes) e
     where
-      go : (t : Bool) → cond t (Refused 30 0) (Done u) ≡ Done v
-          → cond {A = Counted} t (record { answer = Refused 30 0; state = x; changes = n }) (record { answer = Done u; state = z; changes = suc n })
-          ≡ record { answer = Done v; state = z; changes = suc n }
+      go : (t : Bool) → cond t (refused_with 30 0) (done_with u) ≡ done_with v
+          → cond {A = Counted} t (record { answer = refused_with 30 0; state = x; changes = n }) (record { answer = done_with u; state = z; changes = suc n })
+          ≡ record { answer = done_with v; state = z; changes = suc n }
       go true e = refused-done e
       go false e = λ j. record { answer = e j; state = z; changes = suc n }
-  counted-all (Refused k p) z e = refused-done e
+  counted-all (Err refused) z e = let k = refused.number in let p = refused.place in refused-done e
 
 -- the guests on the first part of a good book, with its count
 module _ {S : Settings} {b : List ℕ} (good : GoodBook S b) {k : ℕ} (e : k ≡ diary_length S) {m : ℕ} {w : List ℕ} {n i : ℕ} {r : Answer}
@@ -252,20 +253,20 @@ module _ {S : Settings} {b : List ℕ} (good : GoodBook S b) {k : ℕ} (e : k �
     last-is = ap (λ (n : ℕ). last_asked n r) (sym count) ∙ sym last
 
     -- refused: the guests who were added are taken back
-    pub none-joined : {j p : ℕ} → q ≡ Refused j p → {d' : List ℕ} → TakenBack S m w i (take k (d ++ drop k b)) d'
-        → answered (Refused j p) (d' ++ drop k (d ++ drop k b)) ≡ of_party b m (guests_of n w)
+    pub none-joined : {j p : ℕ} → q ≡ refused_with j p → {d' : List ℕ} → TakenBack S m w i (take k (d ++ drop k b)) d'
+        → answered (refused_with j p) (d' ++ drop k (d ++ drop k b)) ≡ of_party b m (guests_of n w)
     none-joined {j} {p} f {d'} back =
         let was : d' ≡ take k b
         = back (take k b) (part-good good k e) (subst (λ (v : List ℕ). Within S (take k b) m w i v) (sym lent_back) adds.within) in
         let whole : d' ++ drop k (d ++ drop k b) ≡ b
         = ap₂ (λ (u v : List ℕ). u ++ v) was (drop_at d (drop k b) k diary-there) ∙ take-append-drop k b in
-        ap (answered (Refused j p)) (whole ∙ sym (words-ledger_of b good.laid good.lawful))
+        ap (answered (refused_with j p)) (whole ∙ sym (words-ledger_of b good.laid good.lawful))
         ∙ sym (party-is
         ∙ ap (λ (o : Counted). called (stepped (ledger_of b).tail o))
         (counted_none (ledger_of b).diary (ledger_of b).changes r (state_of d) (last-is ∙ f)))
 
     -- done: the diary with the guests, the tail as it was, and one change more
-    pub all-joined : {v : ℕ} → q ≡ Done v
+    pub all-joined : {v : ℕ} → q ≡ done_with v
         → answered q (set (d ++ drop k b) (length (d ++ drop k b) - 1) (c + 1)) ≡ of_party b m (guests_of n w)
     unfolding book_words
     all-joined {v} f =
@@ -283,12 +284,12 @@ module _ {S : Settings} {b : List ℕ} (good : GoodBook S b) {k : ℕ} (e : k �
 
 -- question 27, and the party behind it
 module _ {S : Settings} {b : List ℕ} (good : GoodBook S b) (m : ℕ) {n : ℕ} {w : List ℕ} (gs : List Guest) (lent : Lent n w gs) where
-  pub unfit : (1 ≤ n → n ≤ 64 → ⊥) → answered (Refused 27 0) b ≡ call_party b m gs
+  pub unfit : (1 ≤ n → n ≤ 64 → ⊥) → answered (refused_with 27 0) b ≡ call_party b m gs
   unfolding counted_party raise
   unfit h =
       let f : party_fits gs ≡ false = never (party_fits gs) (λ t.
       let l = within-true 1 64 (length gs) t in h (omega (arith, lent.many, l.0)) (omega (arith, lent.many, l.1))) in
-      ap (answered (Refused 27 0)) (sym (words-ledger_of b good.laid good.lawful))
+      ap (answered (refused_with 27 0)) (sym (words-ledger_of b good.laid good.lawful))
       ∙ sym (good-call good (party m gs)
       ∙ ap (λ (o : Outcome). called (stepped (ledger_of b).tail (raise (ledger_of b).diary (ledger_of b).changes o o.answer)))
       (admit-unfit (ledger_of b).diary m gs f))

@@ -4,8 +4,9 @@ use Rattle.std.specs.Prelude.{ℕ, zero, suc, ◌+◌, ◌*◌, ◌≤◌, ◌�
 use Rattle.model.specs.declared.Settings.{Settings}
 use Rattle.model.specs.declared.Request.{Request}
 use Rattle.model.specs.declared.Guest.{Guest}
-use Rattle.model.specs.declared.Answer.{Answer}
-use Rattle.model.specs.declared.Answer.TheVariants.{Done, Refused}
+use Rattle.model.specs.Answers.{Answer}
+use Rattle.std.specs.Prelude.{Ok, Err}
+use Rattle.model.specs.Answers.{done_with, refused_with}
 use Rattle.model.specs.State.{State}
 use Rattle.model.specs.Machine.{Outcome, step, joined, all_or_none, most_changes, raise, stepped}
 use Rattle.model.specs.Reading.{state_of}
@@ -43,7 +44,7 @@ guest_request k m w = record { kind = k; a = m; b = get_or w 0 0; first = get_or
 -- from x the first i guests of the words are added one by one, and lead to a state
 pub data Reaches (x : State) (m : ℕ) (w : List ℕ) : ℕ → State → Type 0 where
   none_yet : Reaches x m w zero x
-  one_more : (i : ℕ) (y z : State) → Reaches x m w i y → step y (guest_request 10 m (drop (i * 3) w)) ≡ record { answer = Done 0; state = z }
+  one_more : (i : ℕ) (y z : State) → Reaches x m w i y → step y (guest_request 10 m (drop (i * 3) w)) ≡ record { answer = done_with 0; state = z }
       → Reaches x m w (suc i) z
 
 -- the diary b is the diary a with the first i guests added
@@ -63,8 +64,8 @@ TakenBack S m w n b b' = (a : List ℕ) → Good S a → Within S a m w n b → 
 
 -- question 30 behind an answer, at a change count
 abbrev pub last_asked : ℕ → Answer → Answer
-last_asked n (Done v) = cond (eqb n most_changes) (Refused 30 0) (Done v)
-last_asked n (Refused k p) = Refused k p
+last_asked n (Ok v) = cond (eqb n most_changes) (refused_with 30 0) (done_with v)
+last_asked n (Err e) = Err e
 
 -- all the guests on a diary, or none
 abbrev pub all_in : State → ℕ → List Guest → Outcome

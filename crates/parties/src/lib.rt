@@ -28,10 +28,8 @@ fn take_apart(guests: &[Guest]) -> [u32; 192]
     ensures { Apart guests.now result }
 {
     let mut words = [0u32; 192];
-    let mut i: usize = 0;
-    while i < guests.len() && i < 64 {
+    for i in 0..guests.len().min(64) {
         put_guest(&mut words, i, guests[i]);
-        i += 1;
     }
     words
 }

@@ -8,7 +8,7 @@ ghost use Rattle.parties.specs.Guests.{guests_of, guest_request, last_asked, Add
 
 use crate::guest::{add_attend, erase_attend};
 use header::settings::{diary_len, settings};
-use model::{Answer, Request, Settings};
+use model::{Answer, Refusal, Request, Settings};
 use ring::changes::{MOST_CHANGES, count, raise};
 
 // The kinds that add a visitor to a meeting and take them out again.
@@ -49,21 +49,18 @@ fn add_guests(diary: &mut [u32], s: Settings, meeting: u32, records: &[u32], n: 
     requires n_in_bounds { n * 3 ≤ length records.now }
     ensures { Adds s (reading diary.old) meeting records.now n result.guests result.answer (reading diary.new) }
 {
-    let mut i: usize = 0;
-    while i < n {
+    for i in 0..n {
         let r = request_for(ADD_ATTEND, meeting, records, i);
-        let a = add_attend(diary, s, r);
-        if let Answer::Refused { number, place } = a {
+        if let Err(refusal) = add_attend(diary, s, r) {
             return Added {
                 guests: i,
-                answer: Answer::Refused { number, place },
+                answer: Err(refusal),
             };
         }
-        i += 1;
     }
     Added {
         guests: n,
-        answer: Answer::Done(0),
+        answer: Ok(0),
     }
 }
 
@@ -73,11 +70,9 @@ fn take_back(diary: &mut [u32], s: Settings, meeting: u32, records: &[u32], n: u
     requires n_in_bounds { n * 3 ≤ length records.now }
     ensures { TakenBack s meeting records.now n (reading diary.old) (reading diary.new) }
 {
-    let mut i = n;
-    while i > 0 {
-        i -= 1;
-        let r = request_for(ERASE_ATTEND, meeting, records, i);
-        erase_attend(diary, s, r);
+    for taken in 0..n {
+        let r = request_for(ERASE_ATTEND, meeting, records, n - (taken + 1));
+        let _ = erase_attend(diary, s, r);
     }
 }
 
@@ -85,16 +80,14 @@ fn take_back(diary: &mut [u32], s: Settings, meeting: u32, records: &[u32], n: u
 fn last_asked(given: Answer, changes: u32) -> Answer
     ensures { result ≡ last_asked changes given }
 {
-    if let Answer::Refused { number, place } = given {
-        return Answer::Refused { number, place };
-    }
+    let value = given?;
     if changes == MOST_CHANGES {
-        return Answer::Refused {
+        return Err(Refusal {
             number: 30,
             place: 0,
-        };
+        });
     }
-    given
+    Ok(value)
 }
 
 // All n guests and one change more, or none.
@@ -108,9 +101,9 @@ fn join(book: &mut [u32], s: Settings, meeting: u32, records: &[u32], n: usize) 
     let added = add_guests(&mut book[..diary], s, meeting, records, n);
     let given = added.answer;
     let answer = last_asked(given, changes);
-    if let Answer::Refused { number, place } = answer {
+    if let Err(refusal) = answer {
         take_back(&mut book[..diary], s, meeting, records, added.guests);
-        return Answer::Refused { number, place };
+        return Err(refusal);
     }
     raise(book, changes);
     answer
@@ -121,21 +114,18 @@ fn join(book: &mut [u32], s: Settings, meeting: u32, records: &[u32], n: usize) 
 pub fn party_of(book: &mut [u32], meeting: u32, records: [u32; 192], n: usize) -> Answer
     ensures { Parties book.old meeting n records result book.new }
 {
-    let checked = checking::check(book);
-    if let Answer::Refused { number, place } = checked {
-        return Answer::Refused { number, place };
-    }
+    checking::check(book)?;
     if n == 0 {
-        return Answer::Refused {
+        return Err(Refusal {
             number: 27,
             place: 0,
-        };
+        });
     }
     if n > MOST_GUESTS {
-        return Answer::Refused {
+        return Err(Refusal {
             number: 27,
             place: 0,
-        };
+        });
     }
     let s = settings(book);
     join(book, s, meeting, &records, n)

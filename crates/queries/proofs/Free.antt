@@ -3,7 +3,7 @@
 use Prim.Native.Nat.{ℕ, ◌+◌, ◌/◌, ◌%◌, ◌≤◌, ◌<◌}
 use mathlib.Core.Path.{◌≡◌, refl, sym, ◌∙◌, ap, subst}
 use mathlib.Core.Bool.{Bool, true, false, not, ◌&&◌}
-use mathlib.Core.Option.{Option, none, some}
+use Rattle.std.specs.Prelude.{Option, None, Some}
 use mathlib.Core.List.{List}
 use native.Mathlib.Decide.{ℕ_discrete}
 use native.Mathlib.Omega.{arith}
@@ -19,8 +19,6 @@ use Rattle.model.specs.Questions.{lowest_free, stands_on}
 use Rattle.model.specs.Reading.{state_of, read_state}
 use Rattle.model.proofs.Search.{any-true, any_false, true-any, false-any, none-failing, failing-none, and-true, and_left, and_right}
 use Rattle.model.proofs.Search.{any_same, within-true, true-within, both, bool_eq, lowest-same}
-use Rattle.book.specs.declared.found.Found.TheVariants.{At, Nothing}
-use Rattle.book.specs.Founds.{found_of}
 use Rattle.book.specs.Good.{Good}
 use Rattle.book.specs.Grids.{cell_at, grid_of}
 use Rattle.units.specs.Units.{Cut}
@@ -42,17 +40,17 @@ pub free-no : (x : State) (first last c s : ℕ) → first ≤ s → s ≤ last 
 free-no x first last c s l k e = go (failing (λ s. not (room_taken x c s)) first last) refl
   where
     go : (o : Option ℕ) → failing (λ s. not (room_taken x c s)) first last ≡ o → free_in x first last c ≡ false
-    go none q = both (failing-none (λ s. not (room_taken x c s)) first last q s l k) (ap not e)
-    go (some i) q = ap (λ (o : Option ℕ). not (is_some o)) q
+    go None q = both (failing-none (λ s. not (room_taken x c s)) first last q s l k) (ap not e)
+    go (Some i) q = ap (λ (o : Option ℕ). not (is_some o)) q
 
-pub lowest-none : (x : State) (first last : ℕ) → ((c : ℕ) → c < x.settings.rooms → free_in x first last c ≡ false) → Nothing
-    ≡ found_of (lowest_free x first last)
+pub lowest-none : (x : State) (first last : ℕ) → ((c : ℕ) → c < x.settings.rooms → free_in x first last c ≡ false) → None
+    ≡ (lowest_free x first last)
 unfolding lowest_free room_taken
 lowest-none x first last h = found_none (free_in x first last) x.settings.rooms h
 
 pub lowest-at : (x : State) (first last c : ℕ) → c < x.settings.rooms → ((e : ℕ) → e < c → free_in x first last e ≡ false) → free_in x first last c
     ≡ true
-    → At c ≡ found_of (lowest_free x first last)
+    → Some c ≡ (lowest_free x first last)
 unfolding lowest_free room_taken
 lowest-at x first last c l h e = found_at (free_in x first last) x.settings.rooms c h l e
 
@@ -102,10 +100,9 @@ module _ (S : Settings) (b : List ℕ) (good : Good S b) (first middle last : �
           (free-cell c last r (omega (arith, l, h)) (omega arith) e)
 
   pub lowest-soon : middle ≤ first + 1 → last ≤ middle + 1
-      → found_of (lowest (empty_in (grid_of S conf_pairs) b first middle last) 0 S.rooms) ≡ found_of (lowest_free (state_of b) first last)
+      → (lowest (empty_in (grid_of S conf_pairs) b first middle last) 0 S.rooms) ≡ (lowest_free (state_of b) first last)
   unfolding lowest_free room_taken read_state
   lowest-soon m n =
-      ap found_of
       (lowest-same (empty_in (grid_of S conf_pairs) b first middle last) (free_in (state_of b) first last) 0 S.rooms
       (λ c _ r. empty-free m n c (omega (arith, r)))
       ∙ ap (lowest (free_in (state_of b) first last) 0) (sym (ap (λ (x : State). x.settings.rooms) (good-state good))))

@@ -3,3 +3,5 @@ pub mod Weights
 pub mod Free
 pub mod Runs
 pub mod Spans
+pub mod Found
+pub mod Ranges

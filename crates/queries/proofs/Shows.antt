@@ -3,7 +3,8 @@
 use Prim.Native.Nat.{ℕ, zero, suc, ◌+◌, ◌/◌, ◌%◌, ◌-◌, ◌≤◌, ◌<◌}
 use mathlib.Core.Path.{◌≡◌, refl, sym, ◌∙◌, ap}
 use mathlib.Core.Bool.{Bool, true, false, not, cond}
-use mathlib.Core.Option.{Option, none, some}
+use Rattle.std.specs.Option.{SomeIff}
+use Rattle.std.specs.Prelude.{Option, None, Some}
 use mathlib.Core.List.{List}
 use native.Mathlib.Omega.{arith}
 use lib.Dec.{eqb}
@@ -30,21 +31,28 @@ use Rattle.queries.specs.Shown.{Seats, room_taken}
 
 -- the number that a cell holds, if it is full
 abbrev pub held : ℕ → Option ℕ
-held zero = none
-held (suc k) = some k
+held zero = None
+held (suc k) = Some k
 
-pub held-full : (c : ℕ) → (c ≡ 0 → ⊥) → held c ≡ some (c - 1)
+pub held-full : (c : ℕ) → (c ≡ 0 → ⊥) → held c ≡ Some (c - 1)
 held-full zero h = absurd (h refl)
-held-full (suc k) h = ap some (let e : k ≡ suc k - 1 = omega arith in e)
+held-full (suc k) h = ap Some (let e : k ≡ suc k - 1 = omega arith in e)
+
+-- what is left of it without the 1, as the code takes it
+pub held_less : (c : ℕ) (r : Option ℕ) → SomeIff r (1 ≤ c) (c - 1) → r ≡ held c
+held_less zero None h = refl
+held_less zero (Some x) h = absurd (omega (arith, h.0))
+held_less (suc k) None h = absurd (h (omega arith))
+held_less (suc k) (Some x) h = ap Some (omega (arith, h.1))
 
 same-suc : (k w : ℕ) → eqb (suc k) (w + 1) ≡ eqb w k
 same-suc k w = bool_eq _ _ (λ e. eq-eqb w k (omega (arith, eqb-true (suc k) (w + 1) e))) (λ e. eq-eqb (suc k) (w + 1) (omega (arith, eqb-true w k e)))
 
 -- a search, a test and a count for the number of a cell
 pub lowest-cell : (c n : ℕ) → c ≤ n → lowest (λ w. eqb c (w + 1)) 0 n ≡ held c
-lowest-cell zero n h = lowest_by (λ w. eqb 0 (w + 1)) 0 n none (λ j l k. ne_eqb 0 (j + 1) (λ e. omega (arith, e)))
+lowest-cell zero n h = lowest_by (λ w. eqb 0 (w + 1)) 0 n None (λ j l k. ne_eqb 0 (j + 1) (λ e. omega (arith, e)))
 lowest-cell (suc c) n h =
-    lowest_by (λ w. eqb (suc c) (w + 1)) 0 n (some c)
+    lowest_by (λ w. eqb (suc c) (w + 1)) 0 n (Some c)
     (record {
       low = omega arith;
       high = omega (arith, h);
@@ -131,8 +139,8 @@ module _ (S : Settings) (b : List ℕ) (good : Good S b) where
   seats-few d g m = rw (good-state good) (go ((read_state S b).lunch d g m) refl)
     where
       go : (o : Option Lunch) → (read_state S b).lunch d g m ≡ o → seats_of o ≤ capacity S g
-      go none e = omega arith
-      go (some l) e = ((good-sound good).seats d g m l e).1
+      go None e = omega arith
+      go (Some l) e = ((good-sound good).seats d g m l e).1
 
 -- the meeting's seats in a dining room, by its cell
 module _ (S : Settings) (b : List ℕ) (good : Good S b) (d g m : ℕ) (h : d < S.dates) (l : g < S.dining) (k : m < S.meetings) where

@@ -3,7 +3,6 @@ ghost use Rattle.std.specs.Prelude.{◌≡◌, ◌≤◌, ◌<◌, not, eqb};
 ghost use Rattle.model.specs.Bounded.{one};
 ghost use Rattle.model.specs.Questions.{bookings as bookings_in};
 ghost use Rattle.model.specs.Reading.{state_of};
-ghost use Rattle.book.specs.Grids.{Sited};
 ghost use Rattle.book.specs.Good.{Good};
 ghost use Rattle.queries.specs.Shown.{column_count};
 ghost use Rattle.book.specs.Lent.{reading, Lies};
@@ -11,17 +10,14 @@ ghost use Rattle.book.specs.Lent.{reading, Lies};
 use crate::entries::on_leave;
 use book::grid::{Grid, Site, cell};
 use book::rows::{row_count, rows_count, rows_have};
-use model::Date;
-use units::{after, sessions_on, times_on};
+use model::{Date, Session, Time};
+use units::on_dates;
 
 // 1 for a cell with an entry, whose first word is not 0.
 pub fn full(w: u32) -> u32
     ensures { result ≡ one (not (eqb w 0)) }
 {
-    if w == 0 {
-        return 0;
-    }
-    1
+    u32::from(w != 0)
 }
 
 // In how many of the slots lo..hi, hi left out, the item's cell is full.
@@ -31,13 +27,7 @@ fn column_count(book: &[u32], g: Grid, item: u32, lo: u32, hi: u32) -> u32
     requires lo_le_hi { (lo ≤ hi) × (hi ≤ g.slots) × (g.slots ≤ 38400) }
     ensures { result ≡ column_count g (reading book.now) item lo hi }
 {
-    let mut n: u32 = 0;
-    let mut i = lo;
-    while i < hi {
-        n += full(cell(book, g, i, item));
-        i += 1;
-    }
-    n
+    (lo..hi).map(|i| full(cell(book, g, i, item))).sum()
 }
 
 // Is the item's cell full in one of them? The rows lie far apart, so that the search ends with the first.
@@ -47,20 +37,12 @@ fn column_has(book: &[u32], g: Grid, item: u32, lo: u32, hi: u32) -> bool
     requires hi_le_slots { hi ≤ g.slots }
     ensures { result ≡ not (eqb (column_count g (reading book.now) item lo hi) 0) }
 {
-    let mut i = lo;
-    while i < hi {
-        if cell(book, g, i, item) != 0 {
-            return true;
-        }
-        i += 1;
-    }
-    false
+    (lo..hi).any(|i| cell(book, g, i, item) != 0)
 }
 
 // The entries of the visitor on the date: there are none without leave, and else they are searched for in every slot of the date.
 fn entries_on(book: &[u32], site: Site, visitor: u32, date: Date) -> u32
     requires good { Good site.settings (reading book.now) }
-    requires sited { Sited site }
     requires visitor_lt_visitors { visitor < site.settings.visitors }
     requires date_lt_dates { date.0 < site.settings.dates }
     ensures { result ≡ bookings_in (state_of (reading book.now)) visitor date.0 date.0 }
@@ -68,8 +50,8 @@ fn entries_on(book: &[u32], site: Site, visitor: u32, date: Date) -> u32
     if !on_leave(book, site, date, visitor) {
         return 0;
     }
-    let sessions = sessions_on(site.settings, date, date);
-    let times = times_on(site.settings, date, date);
+    let sessions = on_dates::<Session>(site.settings, date, date);
+    let times = on_dates::<Time>(site.settings, date, date);
     let nights = row_count(book, site.grids.hotel, date.0, visitor + 1);
     let meetings = column_count(
         book,
@@ -85,26 +67,20 @@ fn entries_on(book: &[u32], site: Site, visitor: u32, date: Date) -> u32
 // The entries of the visitor on the dates first..last, date by date.
 pub fn bookings(book: &[u32], site: Site, visitor: u32, first: Date, last: Date) -> u32
     requires good { Good site.settings (reading book.now) }
-    requires sited { Sited site }
     requires visitor_lt_visitors { visitor < site.settings.visitors }
     requires first_le_last { first.0 ≤ last.0 }
     requires last_lt_dates { last.0 < site.settings.dates }
     ensures { result ≡ bookings_in (state_of (reading book.now)) visitor first.0 last.0 }
 {
-    let mut n: u32 = 0;
-    let mut date = first;
-    while date.0 <= last.0 {
-        n += entries_on(book, site, visitor, date);
-        date = after(date);
-    }
-    n
+    (first.0..last.0 + 1)
+        .map(|d| entries_on(book, site, visitor, Date(d)))
+        .sum()
 }
 
 // Has the visitor an entry on the date? What costs least is asked first: leave, without which there is none, a meeting, whose cell is the
 // visitor's own, a hotel room, which is searched for in a row, and a ride, searched for in a row of each time.
 pub fn has_bookings(book: &[u32], site: Site, visitor: u32, date: Date) -> bool
     requires good { Good site.settings (reading book.now) }
-    requires sited { Sited site }
     requires visitor_lt_visitors { visitor < site.settings.visitors }
     requires date_lt_dates { date.0 < site.settings.dates }
     ensures { result ≡ not (eqb (bookings_in (state_of (reading book.now)) visitor date.0 date.0) 0) }
@@ -114,7 +90,7 @@ pub fn has_bookings(book: &[u32], site: Site, visitor: u32, date: Date) -> bool
     if !on_leave(book, site, date, visitor) {
         return false;
     }
-    let sessions = sessions_on(s, date, date);
+    let sessions = on_dates::<Session>(s, date, date);
     if column_has(
         book,
         site.grids.attend,
@@ -127,6 +103,6 @@ pub fn has_bookings(book: &[u32], site: Site, visitor: u32, date: Date) -> bool
     if row_count(book, site.grids.hotel, date.0, visitor + 1) != 0 {
         return true;
     }
-    let times = times_on(s, date, date);
+    let times = on_dates::<Time>(s, date, date);
     rows_have(book, site.grids.ride, visitor + 1, times.from.0, times.to.0)
 }

@@ -3,53 +3,46 @@ ghost use Rattle.std.specs.Prelude.{◌≡◌, ◌≤◌, ◌<◌};
 ghost use Rattle.model.specs.Bounded.{count, failing};
 ghost use Rattle.model.specs.Questions.{stands_on};
 ghost use Rattle.model.specs.Reading.{state_of};
-ghost use Rattle.book.specs.Founds.{found_of};
-ghost use Rattle.book.specs.Grids.{Sited};
 ghost use Rattle.book.specs.Good.{Good};
 ghost use Rattle.book.specs.Lent.{reading};
 
 use crate::entries::member_between;
-use book::found::Found;
 use book::grid::Site;
 use book::rows::row_members;
-use model::Date;
-use units::{after, first_session};
+use model::{Date, Session};
+use units::{after, first_on};
 
 // How many visitors have leave on the date.
 pub fn members(book: &[u32], site: Site, date: Date) -> u32
     requires good { Good site.settings (reading book.now) }
-    requires sited { Sited site }
     requires date_lt_dates { date.0 < site.settings.dates }
     ensures { result ≡ count (λ v. (state_of (reading book.now)).leave date.0 v) site.settings.visitors }
 {
     row_members(book, site.grids.leave, date.0)
 }
 
-// The lowest date of first..last on which the meeting stands in no session. A date's sessions end where the next date's begin.
+// The lowest date of first..last on which the meeting stands in no session. A date's sessions end where the next date's begin, which is
+// computed once for both: so the loop is written out, and is no `first_slot`.
 pub fn first_without_session(
     book: &[u32],
     site: Site,
     meeting: u32,
     first: Date,
     last: Date,
-) -> Found
+) -> Option<u32>
     requires good { Good site.settings (reading book.now) }
-    requires sited { Sited site }
     requires meeting_lt_meetings { meeting < site.settings.meetings }
     requires first_le_last { first.0 ≤ last.0 }
     requires last_lt_dates { last.0 < site.settings.dates }
-    ensures { result ≡ found_of (failing (λ d. stands_on (state_of (reading book.now)) d meeting) first.0 last.0) }
+    ensures { result ≡ failing (λ d. stands_on (state_of (reading book.now)) d meeting) first.0 last.0 }
 {
-    let mut date = first;
-    let mut from = first_session(site.settings, first);
-    while date.0 <= last.0 {
-        let next = after(date);
-        let to = first_session(site.settings, next);
+    let mut from = first_on::<Session>(site.settings, first);
+    for d in first.0..=last.0 {
+        let to = first_on::<Session>(site.settings, after(Date(d)));
         if !member_between(book, site.grids.standing, meeting, from.0, to.0) {
-            return Found::At(date.0);
+            return Some(d);
         }
-        date = next;
         from = to;
     }
-    Found::Nothing
+    None
 }

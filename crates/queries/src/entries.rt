@@ -4,12 +4,10 @@ ghost use Rattle.model.specs.Bounded.{any, bit};
 ghost use Rattle.model.specs.Site.{all_sessions};
 ghost use Rattle.model.specs.Questions.{conf_held, lunch_held, meeting_of};
 ghost use Rattle.model.specs.Reading.{state_of};
-ghost use Rattle.book.specs.Founds.{found_of};
-ghost use Rattle.book.specs.Grids.{cell_at, Sited};
+ghost use Rattle.book.specs.Grids.{cell_at};
 ghost use Rattle.book.specs.Good.{Good};
 ghost use Rattle.book.specs.Lent.{reading, Lies};
 
-use book::found::Found;
 use book::grid::{Grid, Site, cell};
 use book::rows::row_has;
 use model::{Date, Session};
@@ -32,20 +30,12 @@ pub fn member_between(book: &[u32], g: Grid, v: u32, lo: u32, hi: u32) -> bool
     requires v_bound { v / 32 < g.items }
     ensures { result ≡ any (λ i. leb lo i && bit (cell_at g (reading book.now) i (v / 32)) (v % 32)) hi }
 {
-    let mut i = lo;
-    while i < hi {
-        if member(book, g, i, v) {
-            return true;
-        }
-        i += 1;
-    }
-    false
+    (lo..hi).any(|i| member(book, g, i, v))
 }
 
 // Has the visitor leave on the date?
 pub fn on_leave(book: &[u32], site: Site, date: Date, visitor: u32) -> bool
     requires good { Good site.settings (reading book.now) }
-    requires sited { Sited site }
     requires date_lt_dates { date.0 < site.settings.dates }
     requires visitor_lt_visitors { visitor < site.settings.visitors }
     ensures { result ≡ (state_of (reading book.now)).leave date.0 visitor }
@@ -56,7 +46,6 @@ pub fn on_leave(book: &[u32], site: Site, date: Date, visitor: u32) -> bool
 // Has the meeting a conference room in the session?
 pub fn conf_held(book: &[u32], site: Site, session: Session, meeting: u32) -> bool
     requires good { Good site.settings (reading book.now) }
-    requires sited { Sited site }
     requires session_bound { session.0 < all_sessions site.settings }
     requires meeting_lt_meetings { meeting < site.settings.meetings }
     ensures { result ≡ conf_held (state_of (reading book.now)) session.0 meeting }
@@ -67,7 +56,6 @@ pub fn conf_held(book: &[u32], site: Site, session: Session, meeting: u32) -> bo
 // Has the meeting a lunch on the date?
 pub fn lunch_held(book: &[u32], site: Site, date: Date, meeting: u32) -> bool
     requires good { Good site.settings (reading book.now) }
-    requires sited { Sited site }
     requires date_lt_dates { date.0 < site.settings.dates }
     requires meeting_lt_meetings { meeting < site.settings.meetings }
     ensures { result ≡ lunch_held (state_of (reading book.now)) date.0 meeting }
@@ -76,16 +64,11 @@ pub fn lunch_held(book: &[u32], site: Site, date: Date, meeting: u32) -> bool
 }
 
 // The meeting that the visitor attends in the session.
-pub fn meeting_of(book: &[u32], site: Site, session: Session, visitor: u32) -> Found
+pub fn meeting_of(book: &[u32], site: Site, session: Session, visitor: u32) -> Option<u32>
     requires good { Good site.settings (reading book.now) }
-    requires sited { Sited site }
     requires session_bound { session.0 < all_sessions site.settings }
     requires visitor_lt_visitors { visitor < site.settings.visitors }
-    ensures { result ≡ found_of (meeting_of (state_of (reading book.now)) session.0 visitor) }
+    ensures { result ≡ meeting_of (state_of (reading book.now)) session.0 visitor }
 {
-    let w = cell(book, site.grids.attend, session.0, visitor);
-    if w == 0 {
-        return Found::Nothing;
-    }
-    Found::At(w - 1)
+    cell(book, site.grids.attend, session.0, visitor).checked_sub(1)
 }

@@ -6,3 +6,4 @@ pub mod bookings;
 pub mod dates;
 pub mod entries;
 pub mod rooms;
+pub mod search;

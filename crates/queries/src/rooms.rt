@@ -5,23 +5,21 @@ ghost use Rattle.model.specs.Site.{all_sessions};
 ghost use Rattle.model.specs.State.{reserved as reserved_in};
 ghost use Rattle.model.specs.Questions.{lowest_free};
 ghost use Rattle.model.specs.Reading.{state_of};
-ghost use Rattle.book.specs.Founds.{found_of};
-ghost use Rattle.book.specs.Grids.{Sited};
 ghost use Rattle.book.specs.Good.{Good};
 ghost use Rattle.book.specs.Lent.{reading, Lies};
 ghost use Rattle.queries.specs.Shown.{Seats, empty_in};
 
-use book::found::Found;
+use crate::search::middle_of;
 use book::grid::{Grid, Site, cell, word};
 use model::{Date, Session};
 
-// The lowest conference room free in every session of first..last: a room is left at the first session in which it is taken.
-fn lowest_in(book: &[u32], site: Site, first: Session, last: Session) -> Found
+// The lowest conference room free in every session of first..last: a room is left at the first session in which it is taken. Two loops and
+// a label, which docs/PROOFS.md names as the form of this search.
+fn lowest_in(book: &[u32], site: Site, first: Session, last: Session) -> Option<u32>
     requires good { Good site.settings (reading book.now) }
-    requires sited { Sited site }
     requires first_le_last { first.0 ≤ last.0 }
     requires last_bound { last.0 < all_sessions site.settings }
-    ensures { result ≡ found_of (lowest_free (state_of (reading book.now)) first.0 last.0) }
+    ensures { result ≡ lowest_free (state_of (reading book.now)) first.0 last.0 }
 {
     let rooms = site.settings.rooms;
     let from = first.0;
@@ -29,7 +27,7 @@ fn lowest_in(book: &[u32], site: Site, first: Session, last: Session) -> Found
     let mut next: u32 = 0;
     'rooms: loop {
         if next == rooms {
-            break 'rooms Found::Nothing;
+            break 'rooms None;
         }
         let room = next;
         next += 1;
@@ -38,7 +36,7 @@ fn lowest_in(book: &[u32], site: Site, first: Session, last: Session) -> Found
                 continue 'rooms;
             }
         }
-        break 'rooms Found::At(room);
+        break 'rooms Some(room);
     }
 }
 
@@ -54,35 +52,27 @@ fn empty_in(book: &[u32], g: Grid, first: u32, middle: u32, last: u32, item: u32
 }
 
 // The lowest item whose cells in three slots are empty.
-fn lowest_soon(book: &[u32], g: Grid, items: u32, first: u32, middle: u32, last: u32) -> Found
+fn lowest_soon(book: &[u32], g: Grid, items: u32, first: u32, middle: u32, last: u32) -> Option<u32>
     requires lies { Lies g (reading book.now) }
     requires first_lt_slots { (first < g.slots) × (middle < g.slots) × (last < g.slots) × (items ≤ g.items) }
-    ensures { result ≡ found_of (lowest (empty_in g (reading book.now) first middle last) 0 items) }
+    ensures { result ≡ lowest (empty_in g (reading book.now) first middle last) 0 items }
 {
-    let mut item: u32 = 0;
-    while item < items {
-        if empty_in(book, g, first, middle, last, item) {
-            return Found::At(item);
-        }
-        item += 1;
-    }
-    Found::Nothing
+    (0..items).find(|item| empty_in(book, g, first, middle, last, *item))
 }
 
 // The lowest conference room free in every session of first..last. A run of at most three sessions is asked as three, its first, its
 // middle and its last, of which some are the same if it is shorter: the processor does not foresee where a loop over so few ends.
-pub fn lowest_free(book: &[u32], site: Site, first: Session, last: Session) -> Found
+pub fn lowest_free(book: &[u32], site: Site, first: Session, last: Session) -> Option<u32>
     requires good { Good site.settings (reading book.now) }
-    requires sited { Sited site }
     requires first_le_last { first.0 ≤ last.0 }
     requires last_bound { last.0 < all_sessions site.settings }
-    ensures { result ≡ found_of (lowest_free (state_of (reading book.now)) first.0 last.0) }
+    ensures { result ≡ lowest_free (state_of (reading book.now)) first.0 last.0 }
 {
     let from = first.0;
     let to = last.0;
     if to - from <= 2 {
         let conf = site.grids.conf;
-        let middle = if from < to { from + 1 } else { to };
+        let middle = middle_of(from, to);
         return lowest_soon(book, conf, site.settings.rooms, from, middle, to);
     }
     lowest_in(book, site, first, last)
@@ -91,7 +81,6 @@ pub fn lowest_free(book: &[u32], site: Site, first: Session, last: Session) -> F
 // The seats of the meeting's lunch, if it is in the dining room: what `reserved` adds up, asked of one meeting.
 fn seats_at(book: &[u32], site: Site, date: Date, room: u32, meeting: u32) -> u32
     requires good { Good site.settings (reading book.now) }
-    requires sited { Sited site }
     requires date_lt_dates { date.0 < site.settings.dates }
     requires room_lt_dining { room < site.settings.dining }
     requires meeting_lt_meetings { meeting < site.settings.meetings }
@@ -105,9 +94,9 @@ fn seats_at(book: &[u32], site: Site, date: Date, room: u32, meeting: u32) -> u3
 
 // The seats reserved in a dining room on a date. A lunch cell holds its room plus 1, or 0 for no lunch, and each of these 17 has a weight:
 // 1 for this room, 0 for all others. Seats times weight are added, for the processor does not foresee a branch on the cell.
+// A loop and not a chain: that a cell has a weight is a fact of the book, which a closure would have to state in clauses of its own.
 pub fn reserved(book: &[u32], site: Site, date: Date, room: u32) -> u32
     requires good { Good site.settings (reading book.now) }
-    requires sited { Sited site }
     requires date_lt_dates { date.0 < site.settings.dates }
     requires room_lt_dining { room < site.settings.dining }
     ensures { result ≡ reserved_in (state_of (reading book.now)) date.0 room }
@@ -117,11 +106,9 @@ pub fn reserved(book: &[u32], site: Site, date: Date, room: u32) -> u32
     let mut weights = [0u32; 17];
     weights[(room + 1) as usize] = 1;
     let mut seats: u32 = 0;
-    let mut m: u32 = 0;
-    while m < meetings {
+    for m in 0..meetings {
         let at = cell(book, lunch, date.0, m) as usize;
         seats += word(book, lunch, date.0, m, 1) * weights[at];
-        m += 1;
     }
     seats
 }

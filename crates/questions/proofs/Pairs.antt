@@ -4,7 +4,7 @@
 use Prim.Native.Nat.{ℕ, zero, suc, ◌+◌, ◌≤◌, ◌<◌}
 use mathlib.Core.Path.{◌≡◌, refl, sym, ◌∙◌, ap, ap₂}
 use mathlib.Core.Bool.{Bool, true, false, not, ◌&&◌, and-false, true≢false, false≢true}
-use mathlib.Core.Option.{none}
+use Rattle.std.specs.Prelude.{None}
 use mathlib.Core.List.{List}
 use native.Mathlib.Omega.{arith}
 use lib.Dec.{eqb}
@@ -144,7 +144,7 @@ module _ {S : Settings} {b : List ℕ} (good : Good S b) (p : Pairs) (a v first 
   free-fails by = failing-same _ _ first last (λ i _ h. free-is good p i (slot_lt i h) a v ha hv by)
 
   -- after question 11
-  module _ (passed : failing (λ i. not (booked (read_state S b) p i a v)) first last ≡ none) where
+  module _ (passed : failing (λ i. not (booked (read_state S b) p i a v)) first last ≡ None) where
     absent-at : (i : ℕ) → first ≤ i → i ≤ last → booked (read_state S b) p i a v ≡ false
     absent-at i l h = not-true _ (failing-none (λ i. not (booked (read_state S b) p i a v)) first last passed i l h)
 

@@ -1,12 +1,11 @@
 -- A search for the lowest slot that fails a test: what a loop knows of the slots behind it.
 -- Assumes nothing.
 use Prim.Native.Nat.{ℕ, ◌+◌, ◌≤◌, ◌<◌}
-use mathlib.Core.Path.{◌≡◌, sym, ◌∙◌, ap}
+use mathlib.Core.Path.{◌≡◌, sym, ◌∙◌}
 use mathlib.Core.Bool.{Bool, true, false, not}
 use native.Mathlib.Omega.{arith}
 use borrow.Author.Tests.{not-true, not-false}
-use Rattle.book.specs.declared.found.Found.TheVariants.{At, Nothing}
-use Rattle.book.specs.Founds.{found_of}
+use Rattle.std.specs.Prelude.{Some, None}
 use Rattle.model.specs.Bounded.{failing}
 use Rattle.model.proofs.Search.{failing-at, passed-more, none-failing}
 
@@ -23,8 +22,8 @@ pub passed-next : {t : ℕ → Bool} {first i : ℕ} {r : Bool} → Passed t fir
 passed-next {t} {first} {i} {r} p e n = record { low = omega (arith, p.low); all = passed-more t first i p.all (sym e ∙ not-false r n) }
 
 pub passed-at : {t : ℕ → Bool} {first last i : ℕ} {r : Bool} → Passed t first i → i ≤ last → r ≡ t i → not r ≡ true
-    → At i ≡ found_of (failing t first last)
-passed-at {t} {first} {last} {i} {r} p l e n = ap found_of (sym (failing-at t first last i p.low l (sym e ∙ not-true r n) p.all))
+    → Some i ≡ (failing t first last)
+passed-at {t} {first} {last} {i} {r} p l e n = (sym (failing-at t first last i p.low l (sym e ∙ not-true r n) p.all))
 
-pub passed-all : {t : ℕ → Bool} {first last i : ℕ} → Passed t first i → last < i → Nothing ≡ found_of (failing t first last)
-passed-all {t} {first} {last} {i} p h = ap found_of (sym (none-failing t first last (λ k l m. p.all k l (omega (arith, h, m)))))
+pub passed-all : {t : ℕ → Bool} {first last i : ℕ} → Passed t first i → last < i → None ≡ (failing t first last)
+passed-all {t} {first} {last} {i} p h = (sym (none-failing t first last (λ k l m. p.all k l (omega (arith, h, m)))))

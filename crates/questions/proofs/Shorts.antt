@@ -6,11 +6,10 @@ use mathlib.Core.Bool.{Bool, true, false, not, cond}
 use native.Mathlib.Omega.{arith}
 use lib.Dec.{leb, eqb}
 use borrow.Author.Tests.{eqb-true, eqb-false, leb-true, leb-false, le-leb, not-false}
-use Rattle.book.specs.declared.found.Found.{Found}
-use Rattle.book.specs.Founds.{found_of}
 use Rattle.model.specs.Bounded.{failing}
 use Rattle.model.proofs.Search.{failing-at, none-failing, within-true, bool_eq, and-true}
-use Rattle.questions.specs.Short.{is_short, middle_of, chosen}
+use Rattle.queries.specs.Found.{middle_of}
+use Rattle.questions.specs.Short.{is_short, chosen}
 
 pub short-is : (first last : ℕ) → first ≤ last → leb (last - first) 2 ≡ is_short first last
 short-is first last l =
@@ -66,26 +65,9 @@ module _ (t : ℕ → Bool) {first middle last : ℕ} (is : Middle first middle 
           under : (k ≡ last → ⊥) → k < last
           under n = omega (arith, n, h)
 
-  fails : (x y z : Bool) → t first ≡ not x → t middle ≡ not y → t last ≡ not z → chosen first middle last x y z ≡ found_of (failing t first last)
+  pub fails : (x y z : Bool) → t first ≡ not x → t middle ≡ not y → t last ≡ not z → chosen first middle last x y z ≡ (failing t first last)
   unfolding chosen
-  fails true y z f m g = ap found_of (sym (failing-at t first last first (omega arith) is.low f (λ k l h. absurd (omega (arith, l, h)))))
-  fails false true z f m g = ap found_of (sym (failing-at t first last middle is.inside.0 is.inside.1 m (before-middle f)))
-  fails false false true f m g = ap found_of (sym (failing-at t first last last is.low (omega arith) g (before_last f m)))
-  fails false false false f m g = ap found_of (sym (none-failing t first last (all f m g)))
-
--- x, y and z are the answers of the test in the three slots: the lowest slot with yes, and the lowest with no
-module _ (t : ℕ → Bool) {first middle last : ℕ} (is : Middle first middle last) {r : Found} (x y z : Bool) where
-  pub short-with : r ≡ chosen first middle last x y z → x ≡ t first → y ≡ t middle → z ≡ t last
-      → r ≡ found_of (failing (λ k. not (t k)) first last)
-  short-with e f m g = e ∙ fails (λ k. not (t k)) is x y z (ap not (sym f)) (ap not (sym m)) (ap not (sym g))
-
-  pub short-without : r ≡ chosen first middle last (not x) (not y) (not z) → x ≡ t first → y ≡ t middle → z ≡ t last
-      → r ≡ found_of (failing t first last)
-  short-without e f m g = e ∙ fails t is (not x) (not y) (not z) (twice f) (twice m) (twice g)
-    where
-      same : (a : Bool) → a ≡ not (not a)
-      same true = refl
-      same false = refl
-
-      twice : {a b : Bool} → a ≡ b → b ≡ not (not a)
-      twice {a} e = sym e ∙ same a
+  fails true y z f m g = (sym (failing-at t first last first (omega arith) is.low f (λ k l h. absurd (omega (arith, l, h)))))
+  fails false true z f m g = (sym (failing-at t first last middle is.inside.0 is.inside.1 m (before-middle f)))
+  fails false false true f m g = (sym (failing-at t first last last is.low (omega arith) g (before_last f m)))
+  fails false false false f m g = (sym (none-failing t first last (all f m g)))

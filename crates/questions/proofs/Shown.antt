@@ -9,7 +9,6 @@ use lib.Dec.{eqb}
 use Rattle.model.proofs.Search.{failing-same}
 use Rattle.book.specs.declared.grid.Grid.{Grid}
 use Rattle.book.specs.declared.grid.Grids.{Grids}
-use Rattle.book.specs.Founds.{found_of}
 use Rattle.book.specs.Grids.{cell_at, grid_of, grids_of}
 use Rattle.book.specs.Rows.{row_has}
 use Rattle.book.specs.Good.{Good}
@@ -43,7 +42,7 @@ module _ {S : Settings} {b : List ℕ} (good : Good S b) where
         → first_not_member g.leave b v first last ≡ slots_fail S b (OnLeave dates) v 0 first last
     unfolding first_not_member holds_in
     leave-fail v k h =
-        ap found_of (failing-same _ _ first last (λ i l j.
+        (failing-same _ _ first last (λ i l j.
         ap (λ (g : Grids). bit (cell_at g.leave b i (v / 32)) (v % 32)) e ∙ sym (leave-is S b good i v (omega (arith, j, h)) k)))
 
     -- the sets of a meeting
@@ -51,17 +50,17 @@ module _ {S : Settings} {b : List ℕ} (good : Good S b) where
       pub stands-fail : last < all_sessions S → first_not_member g.standing b m first last ≡ slots_fail S b Stands m 0 first last
       unfolding first_not_member holds_in
       stands-fail h =
-          ap found_of (failing-same _ _ first last (λ i l j.
+          (failing-same _ _ first last (λ i l j.
           ap (λ (g : Grids). bit (cell_at g.standing b i (m / 32)) (m % 32)) e ∙ sym (standing-is S b good i m (omega (arith, j, h)) k)))
 
       pub conf-fail : last < all_sessions S → first_row_without g.conf b (m + 1) first last ≡ slots_fail S b HasConf m 0 first last
       unfolding first_row_without holds_in
       conf-fail h =
-          ap found_of (failing-same _ _ first last (λ i l j.
+          (failing-same _ _ first last (λ i l j.
           ap (λ (g : Grids). row_has g.conf b i (m + 1)) e ∙ sym (conf-held-is S b good i m (omega (arith, j, h)) k)))
 
       pub lunch-fail : last < S.dates → first_with g.lunch b m 0 first last ≡ slots_fail S b HasLunch m 0 first last
       unfolding first_with holds_in
       lunch-fail h =
-          ap found_of (failing-same _ _ first last (λ i l j.
+          (failing-same _ _ first last (λ i l j.
           ap (λ (g : Grids). not (eqb (cell_at g.lunch b i m) 0)) e ∙ sym (lunch-held-is S b good i m (omega (arith, j, h)) k)))

@@ -1,9 +1,8 @@
 -- Questions 9 to 20 as the code asks them: of the cells of a grid, and of what a state shows in a slot.
 -- Assumes nothing.
 use Rattle.std.specs.Prelude.{ℕ, ◌+◌, ◌/◌, ◌%◌, Bool, not, ◌&&◌, List, leb, eqb}
-use Rattle.book.specs.declared.found.Found.{Found}
+use Rattle.std.specs.Prelude.{Option}
 use Rattle.book.specs.declared.grid.Grid.{Grid}
-use Rattle.book.specs.Founds.{found_of}
 use Rattle.book.specs.Grids.{cell_at}
 use Rattle.book.specs.Rows.{row_has}
 use Rattle.model.specs.declared.Settings.{Settings}
@@ -15,22 +14,22 @@ use Rattle.model.specs.Questions.{bookings, stands_on, conf_held, lunch_held}
 use Rattle.model.specs.Reading.{state_of}
 
 -- the lowest row of first..last in which the cell of item j holds w; in which it does not
-unfoldable pub first_with : Grid → List ℕ → ℕ → ℕ → ℕ → ℕ → Found
-first_with g b j w first last = found_of (failing (λ i. not (eqb (cell_at g b i j) w)) first last)
+unfoldable pub first_with : Grid → List ℕ → ℕ → ℕ → ℕ → ℕ → Option ℕ
+first_with g b j w first last = (failing (λ i. not (eqb (cell_at g b i j) w)) first last)
 
-unfoldable pub first_without : Grid → List ℕ → ℕ → ℕ → ℕ → ℕ → Found
-first_without g b j w first last = found_of (failing (λ i. eqb (cell_at g b i j) w) first last)
+unfoldable pub first_without : Grid → List ℕ → ℕ → ℕ → ℕ → ℕ → Option ℕ
+first_without g b j w first last = (failing (λ i. eqb (cell_at g b i j) w) first last)
 
 -- the lowest row in which some cell holds w; in which none does
-unfoldable pub first_row_with : Grid → List ℕ → ℕ → ℕ → ℕ → Found
-first_row_with g b w first last = found_of (failing (λ i. not (row_has g b i w)) first last)
+unfoldable pub first_row_with : Grid → List ℕ → ℕ → ℕ → ℕ → Option ℕ
+first_row_with g b w first last = (failing (λ i. not (row_has g b i w)) first last)
 
-unfoldable pub first_row_without : Grid → List ℕ → ℕ → ℕ → ℕ → Found
-first_row_without g b w first last = found_of (failing (λ i. row_has g b i w) first last)
+unfoldable pub first_row_without : Grid → List ℕ → ℕ → ℕ → ℕ → Option ℕ
+first_row_without g b w first last = (failing (λ i. row_has g b i w) first last)
 
 -- the lowest row in which v is not in the pool
-unfoldable pub first_not_member : Grid → List ℕ → ℕ → ℕ → ℕ → Found
-first_not_member g b v first last = found_of (failing (λ i. bit (cell_at g b i (v / 32)) (v % 32)) first last)
+unfoldable pub first_not_member : Grid → List ℕ → ℕ → ℕ → ℕ → Option ℕ
+first_not_member g b v first last = (failing (λ i. bit (cell_at g b i (v / 32)) (v % 32)) first last)
 
 -- what is asked of one visitor, meeting or dining room in a slot: questions 9, 10, 14 and 16 to 20
 pub data Test : Type 0 where
@@ -66,5 +65,5 @@ holds_in S x NoBookings who n i = eqb (bookings x who i i) 0
 holds_in S x NotHeld who n i = not_held S x i who
 
 -- the lowest slot of first..last that fails the test of what the book shows
-abbrev pub slots_fail : Settings → List ℕ → Test → ℕ → ℕ → ℕ → ℕ → Found
-slots_fail S b t who n first last = found_of (failing (holds_in S (state_of b) t who n) first last)
+abbrev pub slots_fail : Settings → List ℕ → Test → ℕ → ℕ → ℕ → ℕ → Option ℕ
+slots_fail S b t who n first last = (failing (holds_in S (state_of b) t who n) first last)

@@ -3,7 +3,7 @@
 use Prim.Native.Nat.{ℕ, zero, suc, ◌+◌, ◌*◌, ◌<◌}
 use mathlib.Core.Path.{◌≡◌, refl, sym, ◌∙◌, ap, ap₂}
 use mathlib.Core.Bool.{Bool, true, false, not, ◌&&◌, ◌||◌, cond}
-use mathlib.Core.Option.{Option, none, some}
+use Rattle.std.specs.Prelude.{Option, None, Some}
 use mathlib.Core.List.{List, [], ◌∷◌}
 use native.Mathlib.Omega.{arith}
 use lib.Dec.{eqb}
@@ -11,8 +11,8 @@ use lib.ListN.{length, get_or, drop, set}
 use lib.Seq.{get_or-drop, drop-drop, sets, length-sets}
 use borrow.Author.Tests.{eq-eqb, ne_eqb, eqb-true}
 use Rattle.model.specs.declared.Request.{Request}
-use Rattle.model.specs.declared.Answer.{Answer}
-use Rattle.model.specs.declared.Answer.TheVariants.{Done, Refused}
+use Rattle.model.specs.Answers.{Answer}
+use Rattle.model.specs.Answers.{done_with, refused_with}
 use Rattle.model.specs.Bounded.{lowest, any, all, is_some}
 use Rattle.model.specs.Messages.{told_by, request_of, same_request}
 use Rattle.model.specs.Tail.{Entry, ring_places, ring_length, entry_at, entry_length, entry_kept, kept_at, noted, place_after}
@@ -20,9 +20,6 @@ use Rattle.model.specs.Tail.{answer_told, next_within, tail_kept, tail_length, t
 use Rattle.model.specs.Machine.{kept_answer}
 use Rattle.model.proofs.Search.{lowest-same, all_true, true-all, both, never}
 use Rattle.model.proofs.Tail.{entry-at, order-at, keep-words, noted-is, tail-read, tail-shown}
-use Rattle.book.specs.declared.found.Found.{Found}
-use Rattle.book.specs.declared.found.Found.TheVariants.{At, Nothing}
-use Rattle.book.specs.Founds.{found_of}
 use Rattle.ring.specs.Stores.{stored_from, entry_put, entry_kept_at}
 
 -- ---- the words of an entry
@@ -36,11 +33,11 @@ kept-at w zero h = absurd (h refl)
 kept-at w (suc n) h =
     lowest-same _ _ 0 ring_places (λ j l k. ap (λ (m : ℕ). eqb m (suc n)) (sym (order-at w j (omega (arith, k)))))
 
-pub told-done : (n p v : ℕ) → n ≡ 0 → Done v ≡ told_by n p v
+pub told-done : (n p v : ℕ) → n ≡ 0 → done_with v ≡ told_by n p v
 told-done zero p v e = refl
 told-done (suc n) p v e = absurd (omega (arith, e))
 
-pub told-refused : (n p v : ℕ) → (n ≡ 0 → ⊥) → Refused n p ≡ told_by n p v
+pub told-refused : (n p v : ℕ) → (n ≡ 0 → ⊥) → refused_with n p ≡ told_by n p v
 told-refused zero p v h = absurd (h refl)
 told-refused (suc n) p v h = refl
 
@@ -75,8 +72,8 @@ module _ (w : List ℕ) (i : ℕ) (h : i < ring_places) (r : Request) (b : Bool)
       ap (λ (e : Entry). same_request e.request r) (entry-at ring_places w i h)
       ∙ ap (λ (v : List ℕ). same_request (request_of v) r) (drop-drop 1 (i * entry_length) w) ∙ sym e
 
-  pub other-words : b ≡ false → Refused 28 0 ≡ kept_answer (entry_at (tail_of w) i) r
-  other-words f = sym (ap (λ (t : Bool). cond t (entry_at (tail_of w) i).answer (Refused 28 0)) (same ∙ f))
+  pub other-words : b ≡ false → refused_with 28 0 ≡ kept_answer (entry_at (tail_of w) i) r
+  other-words f = sym (ap (λ (t : Bool). cond t (entry_at (tail_of w) i).answer (refused_with 28 0)) (same ∙ f))
 
   pub same-words : b ≡ true → {a : Answer} → a ≡ told_by (get_or w (i * entry_length + 8) 0) (get_or w (i * entry_length + 9) 0) (get_or w (i * entry_length + 10) 0)
       → a ≡ kept_answer (entry_at (tail_of w) i) r
@@ -84,7 +81,7 @@ module _ (w : List ℕ) (i : ℕ) (h : i < ring_places) (r : Request) (b : Bool)
   same-words f {a} q =
       q
       ∙ sym
-      (ap (λ (t : Bool). cond t (entry_at (tail_of w) i).answer (Refused 28 0)) (same ∙ f)
+      (ap (λ (t : Bool). cond t (entry_at (tail_of w) i).answer (refused_with 28 0)) (same ∙ f)
       ∙ ap (λ (e : Entry). e.answer) (entry-at ring_places w i h)
       ∙ rw (get_or-drop (i * entry_length) w 8 0, get_or-drop (i * entry_length) w 9 0, get_or-drop (i * entry_length) w 10 0))
 
@@ -112,19 +109,19 @@ put-long w at n r number place value =
 
 -- an order is kept with an answer that is done, and with one that is refused
 module _ (w : List ℕ) (l : length w ≡ tail_length) (k : tail_kept w ≡ true) (n : ℕ) (h : n ≡ 0 → ⊥) (r : Request) where
-  done-kept : (v : ℕ) → entry_kept_at w n r 0 0 v ≡ tail_words (noted (tail_of w) n r (Done v))
+  done-kept : (v : ℕ) → entry_kept_at w n r 0 0 v ≡ tail_words (noted (tail_of w) n r (done_with v))
   unfolding entry_kept_at
   done-kept v =
       ap (λ (u : List ℕ). set u ring_length (place_after (get_or w ring_length 0))) (put-sets w (get_or w ring_length 0 * entry_length) n r 0 0 v)
-      ∙ keep-words w l k (record { order = n; request = r; answer = Done v })
-      ∙ ap tail_words (noted-is (tail_of w) n h r (Done v))
+      ∙ keep-words w l k (record { order = n; request = r; answer = done_with v })
+      ∙ ap tail_words (noted-is (tail_of w) n h r (done_with v))
 
-  refused-kept : (m p : ℕ) → entry_kept_at w n r m p 0 ≡ tail_words (noted (tail_of w) n r (Refused m p))
+  refused-kept : (m p : ℕ) → entry_kept_at w n r m p 0 ≡ tail_words (noted (tail_of w) n r (refused_with m p))
   unfolding entry_kept_at
   refused-kept m p =
       ap (λ (u : List ℕ). set u ring_length (place_after (get_or w ring_length 0))) (put-sets w (get_or w ring_length 0 * entry_length) n r m p 0)
-      ∙ keep-words w l k (record { order = n; request = r; answer = Refused m p })
-      ∙ ap tail_words (noted-is (tail_of w) n h r (Refused m p))
+      ∙ keep-words w l k (record { order = n; request = r; answer = refused_with m p })
+      ∙ ap tail_words (noted-is (tail_of w) n h r (refused_with m p))
 
   -- with the answer that three words tell
   pub told-kept : (m p v : ℕ) → cond (eqb m 0) (eqb p 0) (eqb v 0) ≡ true → entry_kept_at w n r m p v ≡ tail_words (noted (tail_of w) n r (told_by m p v))
@@ -170,13 +167,13 @@ and-true-is : (b : Bool) → b ≡ b && true
 and-true-is true = refl
 and-true-is false = refl
 
-found_some : (o : Option ℕ) (j : ℕ) → found_of o ≡ At j → is_some o ≡ true
-found_some none j e = absurd (let z : ◌≡◌ {A = ℕ} 0 1 = cc in omega arith)
-found_some (some i) j e = refl
+found_some : (o : Option ℕ) (j : ℕ) → o ≡ Some j → is_some o ≡ true
+found_some None j e = absurd (let z : ◌≡◌ {A = ℕ} 0 1 = cc in omega arith)
+found_some (Some i) j e = refl
 
-found_nothing : (o : Option ℕ) → found_of o ≡ Nothing → is_some o ≡ false
-found_nothing none e = refl
-found_nothing (some i) e = absurd (let z : ◌≡◌ {A = ℕ} 0 1 = cc in omega arith)
+found_nothing : (o : Option ℕ) → o ≡ None → is_some o ≡ false
+found_nothing None e = refl
+found_nothing (Some i) e = absurd (let z : ◌≡◌ {A = ℕ} 0 1 = cc in omega arith)
 
 module _ (w : List ℕ) (i : ℕ) where
   zeros-told : all (λ j. eqb (word_of w i j) 0) entry_length ≡ true → answer_told w i ≡ true
@@ -196,9 +193,9 @@ module _ (w : List ℕ) (i : ℕ) where
       (eq-eqb (word_of w i 0) 0 (sym (first_word w i) ∙ e)))
 
   -- with one: a number that stands before, or none that does
-  module _ (h : get_or w (i * entry_length) 0 ≡ 0 → ⊥) (f : Found) (e : f ≡ found_of (lowest (λ j. eqb (word_of w j 0) (get_or w (i * entry_length) 0)) 0 i)) where
-    before : f ≡ found_of (lowest (λ j. eqb (word_of w j 0) (word_of w i 0)) 0 i)
-    before = e ∙ ap (λ (n : ℕ). found_of (lowest (λ j. eqb (word_of w j 0) n) 0 i)) (first_word w i)
+  module _ (h : get_or w (i * entry_length) 0 ≡ 0 → ⊥) (f : Option ℕ) (e : f ≡ (lowest (λ j. eqb (word_of w j 0) (get_or w (i * entry_length) 0)) 0 i)) where
+    before : f ≡ (lowest (λ j. eqb (word_of w j 0) (word_of w i 0)) 0 i)
+    before = e ∙ ap (λ (n : ℕ). (lowest (λ j. eqb (word_of w j 0) n) 0 i)) (first_word w i)
 
     by-twice : (b : Bool) → any (λ j. eqb (word_of w j 0) (word_of w i 0)) i ≡ b → entry_kept w i ≡ not b && (answer_told w i && true)
     unfolding entry_kept
@@ -206,10 +203,10 @@ module _ (w : List ℕ) (i : ℕ) where
         ap₂ (λ (z t : Bool). clauses z t (all (λ j. eqb (word_of w i j) 0) entry_length) (answer_told w i))
         (ne_eqb (word_of w i 0) 0 (λ e. h (first_word w i ∙ e))) q
 
-    pub kept-twice : (j : ℕ) → f ≡ At j → false ≡ entry_kept w i
+    pub kept-twice : (j : ℕ) → f ≡ Some j → false ≡ entry_kept w i
     kept-twice j q = sym (by-twice true (found_some (lowest (λ j. eqb (word_of w j 0) (word_of w i 0)) 0 i) j (sym before ∙ q)))
 
-    pub kept-once : f ≡ Nothing → answer_told w i ≡ entry_kept w i
+    pub kept-once : f ≡ None → answer_told w i ≡ entry_kept w i
     kept-once q =
         and-true-is (answer_told w i)
         ∙ sym (by-twice false (found_nothing (lowest (λ j. eqb (word_of w j 0) (word_of w i 0)) 0 i) (sym before ∙ q)))

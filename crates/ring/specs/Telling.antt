@@ -1,8 +1,8 @@
 -- An answer as three words, and what a call that tells it so gives.
 -- Assumes nothing.
 use Rattle.std.specs.Prelude.{ℕ, ◌≡◌, Bool, cond, List, eqb}
-use Rattle.model.specs.declared.Answer.{Answer}
-use Rattle.model.specs.declared.Answer.TheVariants.{Done, Refused}
+use Rattle.model.specs.Answers.{Answer}
+use Rattle.std.specs.Prelude.{Ok, Err}
 use Rattle.model.specs.Messages.{told_by}
 use Rattle.model.specs.Calls.{Called}
 use Rattle.book.specs.Good.{answered}
@@ -10,8 +10,8 @@ use Rattle.ring.specs.declared.Told.{Told}
 
 -- the words of an answer (answer_words), as the code hands them on
 abbrev pub told_of : Answer → Told
-told_of (Done v) = record { number = 0; place = 0; value = v }
-told_of (Refused n p) = record { number = n; place = p; value = 0 }
+told_of (Ok v) = record { number = 0; place = 0; value = v }
+told_of (Err e) = record { number = e.number; place = e.place; value = 0 }
 
 -- the answer that three words tell, and whether they are the words of an answer
 abbrev pub answer_by : Told → Answer

@@ -4,19 +4,16 @@ ghost use Rattle.model.specs.Bounded.{all};
 ghost use Rattle.model.specs.Tail.{tail_length, tail_kept, entry_kept, entry_length, ring_places};
 
 use crate::{ENTRY_WORDS, NEXT, PLACES, numbered};
-use book::found::Found;
 
 // Whether the eleven words from a place on are zeros.
 fn all_zero(tail: &[u32], at: usize) -> bool
     requires { at + 11 ≤ length tail.now }
     ensures { result ≡ all (λ j. eqb (get_or tail.now (at + j) 0) 0) entry_length }
 {
-    let mut j: usize = 0;
-    while j < ENTRY_WORDS {
+    for j in 0..ENTRY_WORDS {
         if tail[at + j] != 0 {
             return false;
         }
-        j += 1;
     }
     true
 }
@@ -32,7 +29,7 @@ fn entry_kept(tail: &[u32], i: u32) -> bool
     if order == 0 {
         return all_zero(tail, at);
     }
-    if let Found::At(_) = numbered(tail, order, i) {
+    if let Some(_) = numbered(tail, order, i) {
         return false;
     }
     if tail[at + 8] == 0 {
@@ -46,12 +43,10 @@ pub fn kept(tail: &[u32]) -> bool
     requires { length tail.now ≡ tail_length }
     ensures { result ≡ tail_kept tail.now }
 {
-    let mut i: u32 = 0;
-    while i < PLACES {
+    for i in 0..PLACES {
         if !entry_kept(tail, i) {
             return false;
         }
-        i += 1;
     }
     tail[NEXT] < PLACES
 }

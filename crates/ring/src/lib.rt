@@ -11,12 +11,10 @@ ghost use Rattle.model.specs.Bounded.{lowest};
 ghost use Rattle.model.specs.Messages.{told_by, request_of, same_request};
 ghost use Rattle.model.specs.Tail.{tail_length, tail_of, tail_kept, tail_words, word_of, ring_length, ring_places, entry_at, kept_at, place_after, noted};
 ghost use Rattle.model.specs.Machine.{kept_answer};
-ghost use Rattle.book.specs.Founds.{found_of};
 ghost use Rattle.ring.specs.Telling.{told_of, answer_by, is_answer};
 ghost use Rattle.ring.specs.Stores.{entry_put, entry_kept_at};
 
-use book::found::Found;
-use model::{Answer, Request};
+use model::{Answer, Refusal, Request};
 
 // The words of an entry: the number of the order, seven words of its request, three of its answer.
 pub const ENTRY_WORDS: usize = 11;
@@ -37,28 +35,26 @@ pub struct Told {
 }
 
 // The lowest of the first entries that has the number.
-pub fn numbered(tail: &[u32], order: u32, entries: u32) -> Found
+pub fn numbered(tail: &[u32], order: u32, entries: u32) -> Option<u32>
     requires tail_len { length tail.now ≡ tail_length }
     requires entries_le_ring_places { entries ≤ ring_places }
-    ensures { result ≡ found_of (lowest (λ i. eqb (word_of tail.now i 0) order) 0 entries) }
+    ensures { result ≡ lowest (λ i. eqb (word_of tail.now i 0) order) 0 entries }
 {
-    let mut i: u32 = 0;
-    while i < entries {
+    for i in 0..entries {
         if tail[i as usize * ENTRY_WORDS] == order {
-            return Found::At(i);
+            return Some(i);
         }
-        i += 1;
     }
-    Found::Nothing
+    None
 }
 
 // Where an order is kept; 0 is the number of no order.
-pub fn find(tail: &[u32], order: u32) -> Found
+pub fn find(tail: &[u32], order: u32) -> Option<u32>
     requires { length tail.now ≡ tail_length }
-    ensures { result ≡ found_of (kept_at (tail_of tail.now) order) }
+    ensures { result ≡ kept_at (tail_of tail.now) order }
 {
     if order == 0 {
-        return Found::Nothing;
+        return None;
     }
     numbered(tail, order, PLACES)
 }
@@ -68,9 +64,9 @@ pub fn answer_of(number: u32, place: u32, value: u32) -> Answer
     ensures { result ≡ told_by number place value }
 {
     if number == 0 {
-        return Answer::Done(value);
+        return Ok(value);
     }
-    Answer::Refused { number, place }
+    Err(Refusal { number, place })
 }
 
 // The three words of an answer.
@@ -78,12 +74,12 @@ pub fn words_of(a: Answer) -> Told
     ensures { result ≡ told_of a }
 {
     match a {
-        Answer::Done(value) => Told {
+        Ok(value) => Told {
             number: 0,
             place: 0,
             value,
         },
-        Answer::Refused { number, place } => Told {
+        Err(Refusal { number, place }) => Told {
             number,
             place,
             value: 0,
@@ -126,10 +122,10 @@ pub fn answer_to(tail: &[u32], place: u32, r: Request) -> Answer
 {
     let at = place as usize * ENTRY_WORDS;
     if !is_request(tail, at + 1, r) {
-        return Answer::Refused {
+        return Err(Refusal {
             number: 28,
             place: 0,
-        };
+        });
     }
     answer_of(tail[at + 8], tail[at + 9], tail[at + 10])
 }

@@ -1,12 +1,10 @@
 -- What an answer says of its question.
 -- Assumes nothing.
-use Prim.Native.Nat.{ℕ, ◌+◌, ◌≤◌, ◌<◌}
-use mathlib.Core.Path.{◌≡◌, refl, sym, ◌∙◌, ap}
+use Prim.Native.Nat.{ℕ, ◌+◌, ◌<◌}
+use mathlib.Core.Path.{◌≡◌, refl, sym, ◌∙◌}
 use mathlib.Core.Bool.{Bool, true, false, not, ◌||◌, true≢false, false≢true}
 use native.Mathlib.Omega.{arith}
 use borrow.Author.Count.{below_more}
-use lib.Dec.{ltb}
-use borrow.Author.Tests.{ltb-false, le-ltb, not-true}
 use Rattle.rules.specs.Rows.{Decides}
 
 -- what an answer says, once it is known
@@ -35,11 +33,3 @@ pub more : (P : ℕ → Type 0) (i : ℕ) (bad here : Bool) → Decides (not bad
 more P i true here d h = λ f. d (λ k l. f k (omega arith))
 more P i false true d h = λ f. h (f i (omega arith))
 more P i false false d h = below_more P i d h
-
--- the flag of a number over its bound, and of a bar
-pub over-said : (bound w : ℕ) → Decides (not (ltb bound w)) (w ≤ bound)
-over-said bound w = decide (not (ltb bound w)) (λ e. ltb-false bound w (not-true (ltb bound w) e)) (λ h. ap not (le-ltb bound w h))
-
-pub bar-said : (bar : Bool) → Decides (not bar) (bar ≡ false)
-bar-said true = λ e. true≢false e
-bar-said false = refl

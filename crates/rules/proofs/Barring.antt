@@ -1,7 +1,7 @@
 -- Tables of bits: what they say of the row that they were made from.
 -- Assumes nothing.
-use Prim.Native.Nat.{ℕ, zero, suc, ◌+◌, ◌*◌, ◌/◌, ◌%◌, ◌^◌, ◌≤◌, ◌<◌}
-use mathlib.Core.Path.{◌≡◌, refl, sym, ◌∙◌, ap, ap₂, subst}
+use Prim.Native.Nat.{ℕ, zero, suc, ◌+◌, ◌/◌, ◌%◌, ◌^◌, ◌≤◌, ◌<◌}
+use mathlib.Core.Path.{◌≡◌, refl, sym, ◌∙◌, ap}
 use mathlib.Core.Bool.{Bool, true, false, not, ◌||◌, cond}
 use mathlib.Core.List.{List}
 use native.Mathlib.Decide.{ℕ_discrete}
@@ -9,48 +9,14 @@ use native.Mathlib.Nat.{div-eq_of_lt}
 use native.Mathlib.Numerals.{add-one}
 use native.Mathlib.Omega.{arith}
 use lib.Dec.{eqb}
-use lib.ListN.{length, get_or, set, length-set}
+use lib.ListN.{get_or}
 use lib.Bits.{bit_or, or_shr, or_mod}
-use lib.Seq.{get_or-set_same, get_or-set_other}
 use borrow.Author.Tests.{not-false}
-use borrow.Author.Count.{below_more}
 use lib.Pow.{pow_pos}
 use Rattle.model.specs.Bounded.{bit, any}
 use Rattle.model.proofs.Search.{bool_eq, any-true, true-any}
-use Rattle.rules.specs.Rows.{Barred, Most, ors, Columns}
+use Rattle.rules.specs.Rows.{Barred, Most, ors}
 use Rattle.pool.specs.Pool.{member}
-
--- the bits of a table
-pub table_more : (row : List ℕ) (v : ℕ) (t : List Bool) (here : Bool) → v + 1 < length t → Barred row v t → here ≡ not (member row v)
-    → Barred row (v + 1) (set t (v + 1) here)
-table_more row v t here h b e = record {
-  none = get_or-set_other t (v + 1) 0 here false (λ q. omega (arith, q)) ∙ b.none;
-  each = below_more (λ u. get_or (set t (v + 1) here) (suc u) false ≡ not (member row u)) v
-      (λ u l. get_or-set_other t (v + 1) (suc u) here false (λ q. omega (arith, q)) ∙ b.each u l)
-      (ap (λ (k : ℕ). get_or (set t (v + 1) here) k false) (sym (add-one v)) ∙ get_or-set_same t (v + 1) here false h ∙ e);
-}
-
--- a table that bars what is past n, so far
-pub past_more : (row : List ℕ) (n v : ℕ) (t : List Bool) → n < v → v < length t → Barred row n t → ((u : ℕ) → n < u → u < v → get_or t u false ≡ true)
-    → Barred row n (set t v true) × ((u : ℕ) → n < u → u < v + 1 → get_or (set t v true) u false ≡ true)
-past_more row n v t h l b p = (
-  record {
-    none = get_or-set_other t v 0 true false (λ q. omega (arith, q)) ∙ b.none;
-    each = λ u k. get_or-set_other t v (suc u) true false (λ q. omega (arith, q)) ∙ b.each u k;
-  },
-  λ u k m. go u k m (ℕ_discrete u v),
-)
-  where
-    go : (u : ℕ) → n < u → u < v + 1 → Dec (u ≡ v) → get_or (set t v true) u false ≡ true
-    go u k m (yes q) = ap (λ (x : ℕ). get_or (set t v true) x false) q ∙ get_or-set_same t v true false l
-    go u k m (no q) = get_or-set_other t v u true false q ∙ p u k (omega (arith, q))
-
-pub most-more : (t : List Bool) (v limit : ℕ) (m : List ℕ) (here : ℕ) → v < length m → Most t v limit m → here ≡ cond (get_or t (suc v) false) 0 limit
-    → Most t (v + 1) limit (set m v here)
-most-more t v limit m here h b e =
-    below_more (λ u. get_or (set m v here) u 0 ≡ cond (get_or t (suc u) false) 0 limit) v
-    (λ u l. get_or-set_other m v u here 0 (λ q. omega (arith, q)) ∙ b u l)
-    (get_or-set_same m v here 0 h ∙ e)
 
 pub most-low : (t : List Bool) (n limit : ℕ) (m : List ℕ) → Most t n limit m → (v : ℕ) → v < n → get_or m v 0 ≤ limit
 most-low t n limit m b v h = omega (arith, b v h, fits (get_or t (suc v) false))
@@ -58,9 +24,6 @@ most-low t n limit m b v h = omega (arith, b v h, fits (get_or t (suc v) false))
     fits : (b : Bool) → cond b 0 limit ≤ limit
     fits true = omega arith
     fits false = omega arith
-
-pub table_none : (row : List ℕ) (t : List Bool) → 0 < length t → Barred row 0 (set t 0 false)
-table_none row t e = record { none = get_or-set_same t 0 false false e; each = λ v h. absurd (omega arith) }
 
 -- the words or-ed so far
 pub ors-none : (f : ℕ → ℕ) → 0 ≡ ors f 0
@@ -108,29 +71,9 @@ bit-ors f (suc n) k =
     back p h e (yes q) = rw (ap f (sym q), e) (or-true (any (λ p. bit (f p) k) n))
     back p h e (no q) = rw (true-any (λ p. bit (f p) k) n p (omega (arith, q)) e)
 
-pub column-more : (rows : List ℕ) (n width k : ℕ) (r : List ℕ) (here : ℕ) → k < 4 → Columns rows n k width r
-    → here ≡ ors (λ p. get_or rows (p * width + k) 0) n
-    → Columns rows n (k + 1) width (set r k here)
-column-more rows n width k r here h b e = record {
-  size = length-set r k here ∙ b.size;
-  each = below_more (λ u. get_or (set r k here) u 0 ≡ ors (λ p. get_or rows (p * width + u) 0) n) k
-      (λ u l. get_or-set_other r k u here 0 (λ q. omega (arith, q)) ∙ b.each u l)
-      (get_or-set_same r k here 0 (omega (arith, b.size)) ∙ e);
-}
-
 -- a table of the first n bits is one of the first m
 pub table-less : (row : List ℕ) (n m : ℕ) (t : List Bool) → m ≤ n → Barred row n t → Barred row m t
 table-less row n m t h b = record { none = b.none; each = λ v l. b.each v (omega arith) }
-
-pub table-bit : (row : List ℕ) (i k : ℕ) (t : List Bool) (here : Bool) → i * 32 + k + 1 < length t → k < 32 → here ≡ not (bit (get_or row i 0) k)
-    → Barred row (i * 32 + k) t
-    → Barred row (i * 32 + (k + 1)) (set t (i * 32 + k + 1) here)
-table-bit row i k t here h l q b =
-    let e : (i * 32 + k) / 32 ≡ i = omega arith in
-    let f : (i * 32 + k) % 32 ≡ k = omega arith in
-    let g : i * 32 + k + 1 ≡ i * 32 + (k + 1) = omega arith in
-    subst (λ (n : ℕ). Barred row n (set t (i * 32 + k + 1) here)) g
-    (table_more row (i * 32 + k) t here h b (q ∙ ap₂ (λ (x y : ℕ). not (bit (get_or row x 0) y)) (sym e) (sym f)))
 
 -- a table and its bits
 module _ (row : List ℕ) (n : ℕ) (t : List Bool) (b : Barred row n t) where

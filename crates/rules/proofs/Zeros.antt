@@ -1,17 +1,19 @@
 -- Rows of zeros.
 -- Assumes nothing.
-use Prim.Native.Nat.{ℕ, zero, suc, ◌+◌, ◌-◌, ◌^◌, ◌<◌, ◌≤◌}
-use mathlib.Core.Path.{◌≡◌, refl, ◌∙◌, ap}
-use mathlib.Core.Bool.{Bool, true, false}
-use mathlib.Core.List.{List}
-use native.Mathlib.Decide.{ℕ_discrete}
+use Prim.Native.Nat.{ℕ, zero, suc, ◌+◌, ◌-◌, ◌*◌, ◌^◌, ◌<◌, ◌≤◌}
+use mathlib.Core.Path.{◌≡◌, refl, sym, ◌∙◌, ap}
+use mathlib.Core.Bool.{Bool, true, false, ◌&&◌, false≢true}
+use mathlib.Core.List.{List, [], ◌∷◌}
+use native.Mathlib.Nat.{zero-mul, suc-mul}
 use native.Mathlib.Omega.{arith}
-use lib.Dec.{ltb}
-use lib.ListN.{length, get_or, replicate, get_or-eq_default}
+use lib.Dec.{eqb, ltb}
+use lib.ListN.{length, get_or, take, drop, replicate}
 use lib.Bits.{bit_or, or_add_and, and_le_l, and_le_r, or_lt}
-use lib.Pow.{pow_pos}
-use borrow.Author.Tests.{ltb-true, ltb-false}
-use Rattle.rules.specs.Rows.{Guests, Blank, ors}
+use borrow.Author.Tests.{eqb-true, ltb-true, ltb-false}
+use Rattle.std.specs.List.{fold, list_all}
+use Rattle.std.specs.Simd.{first_chunks}
+use Rattle.std.proofs.lemmas.List.{get_or-take, get_or-drop, drop-drop}
+use Rattle.rules.specs.Rows.{Guests, Blank}
 
 pub none-zero : (n q : ℕ) → ◌≡◌ {A = ℕ} (get_or (replicate n 0) q 0) 0
 none-zero zero q = refl
@@ -22,49 +24,56 @@ none-zero (suc n) (suc q) = none-zero n q
 or-zero : (a b : ℕ) → bit_or a b ≡ 0 → (a ≡ 0) × (b ≡ 0)
 or-zero a b e = (omega (arith, or_add_and a b, and_le_l a b, and_le_r a b), omega (arith, or_add_and a b, and_le_l a b, and_le_r a b))
 
-ors-zero : (f : ℕ → ℕ) (n : ℕ) → ors f n ≡ 0 → (k : ℕ) → k < n → f k ≡ 0
-unfolding ors
-ors-zero f zero e k h = absurd (omega arith)
-ors-zero f (suc n) e k h = go (ors-zero f n (or-zero (ors f n) (f n) e).0 k) (ℕ_discrete k n)
+-- words or-ed together on top of a are 0: a is, and so is each
+or_fold-zero : (a : ℕ) (row : List ℕ) → fold bit_or a row ≡ 0 → (a ≡ 0) × Blank row
+or_fold-zero a [] e = (e, λ j. refl)
+or_fold-zero a (w ∷ row) e =
+    let r = or_fold-zero (bit_or a w) row e in
+    let z = or-zero a w r.0 in
+    (z.0, each z.1 r.1)
   where
-    go : (k < n → f k ≡ 0) → Dec (k ≡ n) → f k ≡ 0
-    go r (yes q) = ap f q ∙ (or-zero (ors f n) (f n) e).1
-    go r (no q) = r (omega (arith, q))
+    each : w ≡ 0 → Blank row → Blank (w ∷ row)
+    each z r zero = z
+    each z r (suc j) = r j
+
+pub all-zero : (row : List ℕ) → fold bit_or 0 row ≡ 0 → Blank row
+all-zero row e = (or_fold-zero 0 row e).1
 
 -- a word is at most the words or-ed together, which have no more bits than the longest of them
-pub ors-le : (f : ℕ → ℕ) (n k : ℕ) → k < n → f k ≤ ors f n
-unfolding ors
-ors-le f zero k h = absurd (omega arith)
-ors-le f (suc n) k h = go (ors-le f n k) (ℕ_discrete k n)
-  where
-    go : (k < n → f k ≤ ors f n) → Dec (k ≡ n) → f k ≤ bit_or (ors f n) (f n)
-    go r (yes q) = omega (arith, ap f q, or_add_and (ors f n) (f n), and_le_l (ors f n) (f n))
-    go r (no q) = omega (arith, r (omega (arith, q)), or_add_and (ors f n) (f n), and_le_r (ors f n) (f n))
+or_fold-start : (a : ℕ) (row : List ℕ) → a ≤ fold bit_or a row
+or_fold-start a [] = omega arith
+or_fold-start a (w ∷ row) = omega (arith, or_fold-start (bit_or a w) row, or_add_and a w, and_le_r a w)
 
-pub ors-lt : (f : ℕ → ℕ) (n m : ℕ) → ((k : ℕ) → k < n → f k < 2 ^ m) → ors f n < 2 ^ m
-unfolding ors
-ors-lt f zero m h = pow_pos m
-ors-lt f (suc n) m h = or_lt m (ors f n) (f n) (ors-lt f n m (λ k l. h k (omega arith))) (h n (omega arith))
+pub or_fold-le : (a : ℕ) (row : List ℕ) (k : ℕ) → k < length row → get_or row k 0 ≤ fold bit_or a row
+or_fold-le a [] k h = absurd (omega arith)
+or_fold-le a (w ∷ row) zero h = omega (arith, or_fold-start (bit_or a w) row, or_add_and a w, and_le_l a w)
+or_fold-le a (w ∷ row) (suc k) h = or_fold-le (bit_or a w) row k (omega arith)
 
--- n words more that are 0
-pub zeros-more : (row : List ℕ) (i n : ℕ) → ((j : ℕ) → j < i → get_or row j 0 ≡ 0) → ors (λ k. get_or row (i + k) 0) n ≡ 0 → (j : ℕ) → j < i + n
-    → get_or row j 0 ≡ 0
-zeros-more row i n f e j h = go (ltb j i) refl
-  where
-    go : (b : Bool) → ltb j i ≡ b → get_or row j 0 ≡ 0
-    go true p = f j (ltb-true j i p)
-    go false p =
-        let l : i ≤ j = ltb-false j i p in
-        let s : j ≡ i + (j - i) = omega arith in
-        ap (λ (k : ℕ). get_or row k 0) s ∙ ors-zero (λ k. get_or row (i + k) 0) n e (j - i) (omega arith)
+pub or_fold-lt : (a : ℕ) (row : List ℕ) (m : ℕ) → a < 2 ^ m → ((k : ℕ) → k < length row → get_or row k 0 < 2 ^ m) → fold bit_or a row < 2 ^ m
+or_fold-lt a [] m l h = l
+or_fold-lt a (w ∷ row) m l h =
+    or_fold-lt (bit_or a w) row m (or_lt m a w l (h 0 (omega arith))) (λ k i. h (suc k) (omega arith))
 
--- a row is 0 behind its end
-pub blank-by : (row : List ℕ) (i : ℕ) → length row ≤ i → ((j : ℕ) → j < i → get_or row j 0 ≡ 0) → Blank row
-blank-by row i h z j = go (ltb j i) refl
+-- a row is 0 whose first k parts of n words are, and what is left
+pub parts-zero : (n k : ℕ) (row : List ℕ) → list_all (λ part. eqb (fold bit_or 0 part) 0) (first_chunks n k row) ≡ true
+    → fold bit_or 0 (drop (k * n) row) ≡ 0 → Blank row
+parts-zero n zero row e z = all-zero row (ap (λ (i : ℕ). fold bit_or 0 (drop i row)) (sym (zero-mul n)) ∙ z)
+parts-zero n (suc k) row e z = go (λ f. parts-zero n k (drop n row) f (ap (fold bit_or 0) next ∙ z)) (eqb (fold bit_or 0 (take n row)) 0) refl e
   where
-    go : (t : Bool) → ltb j i ≡ t → get_or row j 0 ≡ 0
-    go true e = z j (ltb-true j i e)
-    go false e = get_or-eq_default row 0 {n = j} (omega (arith, ltb-false j i e))
+    next : drop (k * n) (drop n row) ≡ drop (suc k * n) row
+    next = drop-drop (k * n) n row ∙ ap (λ (i : ℕ). drop i row) (rw suc-mul (omega arith))
+
+    go : (list_all (λ part. eqb (fold bit_or 0 part) 0) (first_chunks n k (drop n row)) ≡ true → Blank (drop n row)) → (b : Bool)
+        → eqb (fold bit_or 0 (take n row)) 0 ≡ b
+        → b && list_all (λ part. eqb (fold bit_or 0 part) 0) (first_chunks n k (drop n row)) ≡ true → Blank row
+    go r false q f = λ j. absurd (false≢true f)
+    go r true q f = λ j. pick j (ltb j n) refl
+      where
+        pick : (j : ℕ) (t : Bool) → ltb j n ≡ t → get_or row j 0 ≡ 0
+        pick j true p = sym (get_or-take n row j 0 (ltb-true j n p)) ∙ all-zero (take n row) (eqb-true _ 0 q) j
+        pick j false p =
+            let at : n + (j - n) ≡ j = let l : n ≤ j = ltb-false j n p in omega arith in
+            ap (λ (i : ℕ). get_or row i 0) (sym at) ∙ sym (get_or-drop n row (j - n) 0) ∙ r f (j - n)
 
 -- no guest in a row of zeros
 pub blank-guests : (row : List ℕ) (limit : ℕ) (t : List Bool) → get_or t 0 false ≡ false → Blank row → Guests row limit t

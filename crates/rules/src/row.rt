@@ -1,35 +1,34 @@
 // One row of a region: its cells within their limits, not barred, and each guest once. Most loops have no branch per cell.
-ghost use Rattle.std.specs.Prelude.{◌≡◌, true, false, ℕ, ◌+◌, ◌*◌, ◌≤◌, ◌<◌, length, get_or};
+ghost use Rattle.std.specs.Prelude.{◌≡◌, true, false, ℕ, ◌+◌, ◌*◌, ◌≤◌, ◌<◌, length, get_or, fold, bit_or, ◌==◌, ◌/◌};
+ghost use Rattle.std.specs.List.{list_all};
 ghost use Rattle.model.specs.Words.{groups};
-ghost use Rattle.rules.specs.Rows.{Decides, Blank, Ready, Past, Marked, Free, Guests, Attended, Paired, Padded, Lunches, ors};
+ghost use Rattle.rules.specs.Rows.{Decides, Blank, Ready, Past, Marked, Free, Guests, Attended, Paired, Padded, Lunches};
 
-// The n words from `at` on, or-ed together.
-fn joined(row: &[u32], at: usize, n: usize) -> u32
-    requires { at + n ≤ length row.now }
-    ensures { result ≡ ors (λ k. get_or row.now (at + k) 0) n }
+use crate::tables::{GUESTS, ROOMS, VISITORS};
+
+// How many words of a row are looked at together.
+const PART: usize = 128;
+
+// The words or-ed together.
+fn joined(row: &[u32]) -> u32
+    ensures { result ≡ fold bit_or 0 row.now }
 {
-    let mut all: u32 = 0;
-    let mut k: usize = 0;
-    while k < n {
-        all = all | row[at + k];
-        k += 1;
-    }
-    all
+    row.iter().fold(0, |all, word| all | word)
 }
 
-// Is the row all zeros? 128 words at a time, so that an empty row costs little and a full one next to nothing.
+// Are the words of each part all zeros?
+fn zeros(parts: &[[u32; PART]]) -> bool
+    ensures { result ≡ list_all (λ part. fold bit_or 0 part == 0) parts.now }
+{
+    parts.iter().all(|part| joined(part) == 0)
+}
+
+// Is the row all zeros? A part at a time, so that an empty row costs little and a full one next to nothing.
 pub fn blank(row: &[u32]) -> bool
     ensures { result ≡ true → Blank row.now }
 {
-    let n = row.len();
-    let mut i: usize = 0;
-    while 128 <= n - i {
-        if joined(row, i, 128) != 0 {
-            return false;
-        }
-        i += 128;
-    }
-    joined(row, i, n - i) == 0
+    let (parts, rest) = row.as_chunks::<PART>();
+    zeros(parts) && joined(rest) == 0
 }
 
 // Both tables bar what is past the limit, so that the entries up to it make them the same.
@@ -39,11 +38,7 @@ fn copy(seen: &mut [bool], table: &[bool], limit: usize)
     requires past_2 { Past limit seen.old }
     ensures { seen.new ≡ table.now }
 {
-    let mut i: usize = 0;
-    while i <= limit {
-        seen[i] = table[i];
-        i += 1;
-    }
+    seen[..=limit].copy_from_slice(&table[..=limit]);
 }
 
 // No cell barred, and no visitor twice in the row: a visitor that was seen is barred from then on. An empty cell never is, so that
@@ -56,13 +51,11 @@ fn guests(row: &[u32], seen: &mut [bool]) -> bool
     ensures marked { Marked seen.old seen.new }
 {
     let mut bad = false;
-    let mut i: usize = 0;
-    while i < row.len() {
-        let k = row[i] as usize;
-        bad = bad | seen[k];
+    for cell in row {
+        let k = *cell as usize;
+        bad |= seen[k];
         seen[k] = true;
         seen[0] = false;
-        i += 1;
     }
     !bad
 }
@@ -75,11 +68,11 @@ pub fn guest_row(row: &[u32], table: &[bool], seen: &mut [bool], limit: u32) -> 
     ensures decides { Decides result (Guests row.now limit table.now) }
     ensures past { Past limit seen.new }
 {
-    let all = joined(row, 0, row.len());
+    let all = joined(row);
     if all == 0 {
         return true;
     }
-    if 1023 < all {
+    if GUESTS <= all as usize {
         return false;
     }
     copy(seen, table, limit as usize);
@@ -100,15 +93,13 @@ pub fn padded(row: &[u32], n: usize) -> bool
 }
 
 // Each cell within its column's bound.
-fn bounded(row: &[u32], bounds: &[u32; 512]) -> bool
+fn bounded(row: &[u32], bounds: &[u32; VISITORS]) -> bool
     requires { length row.now ≤ 512 }
     ensures { Decides result ((i : ℕ) → i < length row.now → get_or row.now i 0 ≤ get_or bounds.now i 0) }
 {
     let mut bad = false;
-    let mut i: usize = 0;
-    while i < row.len() {
-        bad = bad | (bounds[i] < row[i]);
-        i += 1;
+    for (cell, most) in row.iter().zip(bounds.iter()) {
+        bad |= most < cell;
     }
     !bad
 }
@@ -119,88 +110,68 @@ fn stood(row: &[u32], stands: &[bool]) -> bool
     ensures { Decides result ((i : ℕ) → i < length row.now → get_or stands.now (get_or row.now i 0) false ≡ false) }
 {
     let mut bad = false;
-    let mut i: usize = 0;
-    while i < row.len() {
-        let k = row[i] as usize;
-        bad = bad | stands[k];
-        i += 1;
+    for cell in row {
+        bad |= stands[*cell as usize];
     }
     !bad
 }
 
 // Attend: each cell within its column's bound, and its meeting not barred.
-pub fn attends(row: &[u32], bounds: &[u32; 512], stands: &[bool]) -> bool
+pub fn attends(row: &[u32], bounds: &[u32; VISITORS], stands: &[bool]) -> bool
     requires row_len_bound { length row.now ≤ 512 }
     requires by_index { (j : ℕ) → j < length row.now → get_or bounds.now j 0 < length stands.now }
     ensures { Decides result (Attended row.now bounds.now stands.now) }
 {
-    if !bounded(row, bounds) {
-        return false;
-    }
-    stood(row, stands)
+    bounded(row, bounds) && stood(row, stands)
 }
 
 // Conf: each pair within the limit, its meeting not barred, and a zero beside an empty cell.
-pub fn pairs(row: &[u32], n: usize, stands: &[bool], limit: u32) -> bool
-    requires limit_in_bounds { limit < length stands.now }
-    requires n_bound { (n ≤ 512) × (length row.now ≡ n * 2) }
-    ensures { Decides result (Paired row.now n limit stands.now) }
+pub fn pairs(row: &[u32], stands: &[bool], limit: u32) -> bool
+    requires { limit < length stands.now }
+    ensures { Decides result (Paired row.now (length row.now / 2) limit stands.now) }
 {
+    let (pairs, _) = row.as_chunks::<2>();
     let mut bad = false;
-    let mut j: usize = 0;
-    while j < n {
-        let w = row[j * 2];
-        let info = row[j * 2 + 1];
+    for pair in pairs {
+        let [w, info] = *pair;
         if limit < w {
             return false;
         }
-        let k = w as usize;
-        bad = bad | (stands[k] | (w == 0) & (info != 0));
-        j += 1;
+        bad |= stands[w as usize] | (w == 0) & (info != 0);
     }
     !bad
 }
 
 // No sum over its capacity; entry 0 is of no room.
-fn within(sums: &[u32; 17], caps: &[u32; 17]) -> bool
+fn within(sums: &[u32; ROOMS], caps: &[u32; ROOMS]) -> bool
     ensures { Decides result ((g : ℕ) → g < 17 → get_or sums.now g 0 ≤ get_or caps.now g 0) }
 {
-    let mut g: usize = 0;
-    while g < 17 {
-        if caps[g] < sums[g] {
-            return false;
-        }
-        g += 1;
-    }
-    true
+    sums.iter().zip(caps.iter()).all(|(sum, cap)| *sum <= *cap)
 }
 
 // Lunch: each triple within the limits, its meeting not barred, zeros beside an empty cell, and the seats of each room within its
 // capacity. Seats are bounded before they are added.
-pub fn triples(row: &[u32], n: usize, table: &[bool], caps: &[u32; 17], dining: u32) -> bool
-    requires n_bound { (n ≤ 128) × (dining ≤ 16) × (length row.now ≡ n * 3) × (n < length table.now) }
+pub fn triples(row: &[u32], table: &[bool], caps: &[u32; ROOMS], dining: u32) -> bool
+    requires few { (length row.now / 3 ≤ 128) × (length row.now / 3 < length table.now) × (dining ≤ 16) }
     requires by_index { (g : ℕ) → get_or caps.now g 0 ≤ 1000 }
-    ensures { Decides result (Lunches row.now n dining caps.now table.now) }
+    ensures { Decides result (Lunches row.now (length row.now / 3) dining caps.now table.now) }
 {
-    let mut sums = [0u32; 17];
-    let mut j: usize = 0;
-    while j < n {
-        let w = row[j * 3];
-        let seats = row[j * 3 + 1];
-        let info = row[j * 3 + 2];
+    let (triples, _) = row.as_chunks::<3>();
+    let mut sums = [0; ROOMS];
+    for (m, triple) in triples.iter().enumerate() {
+        let [w, seats, info] = *triple;
         if dining < w {
             return false;
         }
-        let k = w as usize;
-        if caps[k] < seats {
+        let room = w as usize;
+        if caps[room] < seats {
             return false;
         }
-        let bad = (w == 0) & (info != 0) | (w != 0) & ((seats == 0) | table[j + 1]);
+        let bad = (w == 0) & (info != 0) | (w != 0) & ((seats == 0) | table[m + 1]);
         if bad {
             return false;
         }
-        sums[k] = sums[k] + seats;
-        j += 1;
+        sums[room] += seats;
     }
     within(&sums, caps)
 }

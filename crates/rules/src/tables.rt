@@ -4,6 +4,21 @@ ghost use Rattle.rules.specs.Rows.{Barred, Past, Most, ors, Columns, BarredDate,
 
 use model::Settings;
 
+// How many visitors a site can have at most.
+pub const VISITORS: usize = 512;
+
+// How many entries a table of visitors has: one for an empty cell, one for each visitor, and more up to a power of two (`row::guest_row`).
+pub const GUESTS: usize = 1024;
+
+// How many entries a table of meetings has: one for an empty cell, and one for each of the most meetings that a site can have.
+pub const MEETINGS: usize = 129;
+
+// How many entries a table of dining rooms has: one for no room, and one for each of the most rooms that a site can have.
+pub const ROOMS: usize = 17;
+
+// How many words of bits the meetings of a site take at most.
+const WORDS: usize = 4;
+
 // A table of a row of bits: entry 0 is false, entry v + 1 says that bit v is clear. A cell holds its member plus 1, or 0 for
 // none, so that a cell is the index of its entry.
 pub fn bar(table: &mut [bool], row: &[u32])
@@ -11,15 +26,11 @@ pub fn bar(table: &mut [bool], row: &[u32])
     ensures { Barred row.now (length row.now * 32) table.new }
 {
     table[0] = false;
-    let mut i: usize = 0;
-    while i < row.len() {
-        let w = row[i];
-        let mut k: usize = 0;
-        while k < 32 {
-            table[i * 32 + k + 1] = !pool::has(w, k as u32);
-            k += 1;
+    for (i, word) in row.iter().enumerate() {
+        let w = *word;
+        for bit in 0..32 {
+            table[i * 32 + bit as usize + 1] = !pool::has(w, bit);
         }
-        i += 1;
     }
 }
 
@@ -30,11 +41,7 @@ pub fn bar_past(table: &mut [bool], row: &[u32], n: usize)
     ensures { Barred row.now n table.new × Past n table.new }
 {
     bar(table, row);
-    let mut v = n + 1;
-    while v < table.len() {
-        table[v] = true;
-        v += 1;
-    }
+    table[n + 1..].fill(true);
 }
 
 // For each of n columns the most that its cell may hold: the limit, or 0 where the table bars it.
@@ -42,10 +49,8 @@ pub fn bound(bounds: &mut [u32], table: &[bool], n: usize, limit: u32)
     requires { (n ≤ length bounds.old) × (n < length table.now) }
     ensures { Most table.now n limit bounds.new }
 {
-    let mut v: usize = 0;
-    while v < n {
+    for v in 0..n {
         bounds[v] = if table[v + 1] { 0 } else { limit };
-        v += 1;
     }
 }
 
@@ -54,25 +59,21 @@ fn column(rows: &[u32], n: usize, width: usize, k: usize) -> u32
     requires { (k < width) × (n * width ≤ length rows.now) }
     ensures { result ≡ ors (λ p. get_or rows.now (p * width + k) 0) n }
 {
-    let mut all: u32 = 0;
-    let mut p: usize = 0;
-    while p < n {
-        all = all | rows[p * width + k];
-        p += 1;
+    let mut all = 0;
+    for p in 0..n {
+        all |= rows[p * width + k];
     }
     all
 }
 
 // The rows of bits, or-ed together: bits that stand in some row.
-fn columns(rows: &[u32], n: usize, width: usize) -> [u32; 4]
+fn columns(rows: &[u32], n: usize, width: usize) -> [u32; WORDS]
     requires { (width ≤ 4) × (n * width ≤ length rows.now) }
     ensures { Columns rows.now n width width result }
 {
-    let mut words = [0u32; 4];
-    let mut k: usize = 0;
-    while k < width {
+    let mut words = [0; WORDS];
+    for k in 0..width {
         words[k] = column(rows, n, width, k);
-        k += 1;
     }
     words
 }
@@ -87,16 +88,12 @@ pub fn bar_date(table: &mut [bool], rows: &[u32], n: usize, width: usize)
 }
 
 // 0 for no room, then the capacities.
-pub fn caps_of(s: Settings) -> [u32; 17]
+pub fn caps_of(s: Settings) -> [u32; ROOMS]
     requires { (length s.capacities ≡ 16) × ((g : ℕ) → get_or s.capacities g 0 ≤ 1000) }
     ensures { Caps s result }
 {
     let seats = s.capacities;
-    let mut caps = [0u32; 17];
-    let mut g: usize = 0;
-    while g < 16 {
-        caps[g + 1] = seats[g];
-        g += 1;
-    }
+    let mut caps = [0; ROOMS];
+    caps[1..].copy_from_slice(&seats);
     caps
 }

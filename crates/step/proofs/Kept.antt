@@ -3,7 +3,7 @@
 use Prim.Native.Nat.{ℕ, suc, ◌+◌, ◌-◌, ◌≤◌}
 use mathlib.Core.Path.{◌≡◌, refl, sym, ◌∙◌, ap, ap₂, subst}
 use mathlib.Core.Bool.{Bool, true, false, cond, ◌&&◌}
-use mathlib.Core.Option.{Option, none, some}
+use Rattle.std.specs.Prelude.{Option, None, Some}
 use mathlib.Core.List.{List, [], ◌∷◌, ◌++◌}
 use native.Mathlib.Omega.{arith}
 use lib.Dec.{eqb}
@@ -12,8 +12,8 @@ use lib.Seq.{length-take-le, length_front, drop_at, take_at}
 use borrow.Rule.Slice.PartMut.{put_mid}
 use Rattle.model.specs.declared.Settings.{Settings}
 use Rattle.model.specs.declared.Request.{Request}
-use Rattle.model.specs.declared.Answer.{Answer}
-use Rattle.model.specs.declared.Answer.TheVariants.{Done, Refused}
+use Rattle.model.specs.Answers.{Answer}
+use Rattle.model.specs.Answers.{done_with, refused_with}
 use Rattle.model.specs.State.{State, empty_state}
 use Rattle.model.specs.Machine.{step, Counted, most_changes, raise, is_change, counted_step, stepped, Call, ordered, Reply, told, asked, kept_answer}
 use Rattle.model.specs.Machine.{answer_order, perform}
@@ -36,9 +36,6 @@ use Rattle.model.proofs.Done.{refused-keeps}
 use borrow.Author.Tests.{eqb-true}
 use Rattle.model.proofs.Frame.{step-settings}
 use Rattle.model.proofs.Calls.{step-sound, perform-sound, empty-ledger, fresh-words}
-use Rattle.book.specs.declared.found.Found.{Found}
-use Rattle.book.specs.declared.found.Found.TheVariants.{At, Nothing}
-use Rattle.book.specs.Founds.{found_of}
 use Rattle.book.specs.Good.{Good, GoodBook, answered, in_words}
 use Rattle.book.proofs.Goods.{good-state, good-part, book-words}
 use Rattle.ring.specs.declared.Told.{Told}
@@ -51,17 +48,17 @@ good-diary {S} {b} good = words-state_of b good.laid good.lawful
 
 -- an order leaves the settings
 pub order-settings : (l : Ledger) (n : ℕ) (r : Request) (o : Option ℕ) → (answer_order l n r o).ledger.diary.settings ≡ l.diary.settings
-order-settings l n r none =
+order-settings l n r None =
     counted-state (λ (x : State). x.settings ≡ l.diary.settings) l.diary l.changes r refl (step-settings l.diary r)
-order-settings l n r (some i) = refl
+order-settings l n r (Some i) = refl
 
-at-is : (o : Option ℕ) (i : ℕ) → found_of o ≡ At i → o ≡ some i
-at-is none i e = absurd (let z : ◌≡◌ {A = ℕ} 0 1 = cc in omega arith)
-at-is (some j) i e = let z : j ≡ i = cc in ap some z
+at-is : (o : Option ℕ) (i : ℕ) → o ≡ Some i → o ≡ Some i
+at-is None i e = absurd (let z : ◌≡◌ {A = ℕ} 0 1 = cc in omega arith)
+at-is (Some j) i e = let z : j ≡ i = cc in ap Some z
 
-nothing_is : (o : Option ℕ) → found_of o ≡ Nothing → o ≡ none
-nothing_is none e = refl
-nothing_is (some j) e = absurd (let z : ◌≡◌ {A = ℕ} 0 1 = cc in omega arith)
+nothing_is : (o : Option ℕ) → o ≡ None → o ≡ None
+nothing_is None e = refl
+nothing_is (Some j) e = absurd (let z : ◌≡◌ {A = ℕ} 0 1 = cc in omega arith)
 
 abbrev pub told_answer : Reply → Answer
 told_answer (told a) = a
@@ -70,16 +67,16 @@ told_answer (asked a n) = a
 -- the answer to an order can be told: the one of its request, the one that is kept, or 28
 pub order-tellable : (l : Ledger) → LedgerSound l → (n : ℕ) (r : Request) (o : Option ℕ) → kept_at l.tail n ≡ o
     → Tellable (told_answer (answer_order l n r o).reply)
-order-tellable l s n r none e = counted-tellable l.diary l.changes r
-order-tellable l s n r (some i) e = go (same_request (entry_at l.tail i).request r)
+order-tellable l s n r None e = counted-tellable l.diary l.changes r
+order-tellable l s n r (Some i) e = go (same_request (entry_at l.tail i).request r)
   where
-    go : (t : Bool) → Tellable (cond t (entry_at l.tail i).answer (Refused 28 0))
+    go : (t : Bool) → Tellable (cond t (entry_at l.tail i).answer (refused_with 28 0))
     go true = (s.tail.entry i (kept-place l.tail n e)).answer
     go false = refused-tellable 28 0 (omega arith)
 
 -- a change that is done raises a count that is not the greatest
-counted-open : (x : State) (n : ℕ) (r : Request) (v : ℕ) → is_change r ≡ true → eqb n most_changes ≡ false → (step x r).answer ≡ Done v
-    → counted_step x n r ≡ record { answer = Done v; state = (step x r).state; changes = suc n }
+counted-open : (x : State) (n : ℕ) (r : Request) (v : ℕ) → is_change r ≡ true → eqb n most_changes ≡ false → (step x r).answer ≡ done_with v
+    → counted_step x n r ≡ record { answer = done_with v; state = (step x r).state; changes = suc n }
 unfolding counted_step raise
 counted-open x n r v c f e = rw c (ap (raise x n (step x r)) e ∙ rw f)
 
@@ -109,16 +106,16 @@ module _ {S : Settings} {b : List ℕ} (good : GoodBook S b) where
     tail-is = ap tail_of (lent-tail b good.laid good.read e)
 
     -- what is found there is what the ledger keeps
-    pub found-kept : (m : ℕ) {f : Found} {i : ℕ} → f ≡ found_of (kept_at (tail_of (take (length b - 1 - n) (drop n b))) m) → f ≡ At i
-        → kept_at (ledger_of b).tail m ≡ some i
-    found-kept m {f} {i} q p = at-is _ i (ap (λ (t : Tail). found_of (kept_at t m)) (sym tail-is) ∙ sym q ∙ p)
+    pub found-kept : (m : ℕ) {f : Option ℕ} {i : ℕ} → f ≡ (kept_at (tail_of (take (length b - 1 - n) (drop n b))) m) → f ≡ Some i
+        → kept_at (ledger_of b).tail m ≡ Some i
+    found-kept m {f} {i} q p = at-is _ i (ap (λ (t : Tail). (kept_at t m)) (sym tail-is) ∙ sym q ∙ p)
 
-    pub found_none : (m : ℕ) {f : Found} → f ≡ found_of (kept_at (tail_of (take (length b - 1 - n) (drop n b))) m) → f ≡ Nothing
-        → kept_at (ledger_of b).tail m ≡ none
-    found_none m {f} q p = nothing_is _ (ap (λ (t : Tail). found_of (kept_at t m)) (sym tail-is) ∙ sym q ∙ p)
+    pub found_none : (m : ℕ) {f : Option ℕ} → f ≡ (kept_at (tail_of (take (length b - 1 - n) (drop n b))) m) → f ≡ None
+        → kept_at (ledger_of b).tail m ≡ None
+    found_none m {f} q p = nothing_is _ (ap (λ (t : Tail). (kept_at t m)) (sym tail-is) ∙ sym q ∙ p)
 
   -- an order that is kept: its answer, and the book stays
-  pub kept-answered : (n : ℕ) (r : Request) {i : ℕ} {a : Answer} → kept_at (ledger_of b).tail n ≡ some i
+  pub kept-answered : (n : ℕ) (r : Request) {i : ℕ} {a : Answer} → kept_at (ledger_of b).tail n ≡ Some i
       → a ≡ kept_answer (entry_at (ledger_of b).tail i) r → answered a b ≡ called (perform (ledger_of b) (ordered n r))
   kept-answered n r {i} {a} k q =
       ap₂ answered q (sym (words-ledger_of b good.laid good.lawful))
@@ -134,22 +131,22 @@ module _ {S : Settings} {b : List ℕ} (good : GoodBook S b) where
     unfolding ledger_of
     seen = h ∙ ap (λ (d : List ℕ). (step (state_of d) r).answer) (sym (first_part b good.read e))
 
-    pub seen-refused : {m p : ℕ} → a ≡ Refused m p → Refused m p ≡ (counted_step (ledger_of b).diary (ledger_of b).changes r).answer
+    pub seen-refused : {m p : ℕ} → a ≡ refused_with m p → refused_with m p ≡ (counted_step (ledger_of b).diary (ledger_of b).changes r).answer
     seen-refused {m} {p} q = go (is_change r) refl
       where
-        go : (t : Bool) → is_change r ≡ t → Refused m p ≡ (counted_step (ledger_of b).diary (ledger_of b).changes r).answer
+        go : (t : Bool) → is_change r ≡ t → refused_with m p ≡ (counted_step (ledger_of b).diary (ledger_of b).changes r).answer
         go true f = sym (ap (λ (o : Counted). o.answer) (counted-refused (ledger_of b).diary (ledger_of b).changes r m p f (sym seen ∙ q)))
         go false f = sym q ∙ seen ∙ sym (ap (λ (o : Counted). o.answer) (uncounted (ledger_of b).diary (ledger_of b).changes r f))
 
-    pub seen-full : {v n : ℕ} → a ≡ Done v → n ≡ (ledger_of b).changes → (is_change r && eqb n most_changes) ≡ true
-        → Refused 30 0 ≡ (counted_step (ledger_of b).diary (ledger_of b).changes r).answer
+    pub seen-full : {v n : ℕ} → a ≡ done_with v → n ≡ (ledger_of b).changes → (is_change r && eqb n most_changes) ≡ true
+        → refused_with 30 0 ≡ (counted_step (ledger_of b).diary (ledger_of b).changes r).answer
     seen-full {v} {n} q count f =
         let change : is_change r ≡ true = and_left (is_change r) _ f in
         let full : (ledger_of b).changes ≡ most_changes = sym count ∙ eqb-true n most_changes (and_right (is_change r) _ f) in
         sym (ap (λ (n : ℕ). (counted_step (ledger_of b).diary n r).answer) full
         ∙ ap (λ (o : Counted). o.answer) (counted-full (ledger_of b).diary r v change (sym seen ∙ q)))
 
-    pub seen_done : {v n : ℕ} → a ≡ Done v → n ≡ (ledger_of b).changes → (is_change r && eqb n most_changes) ≡ false
+    pub seen_done : {v n : ℕ} → a ≡ done_with v → n ≡ (ledger_of b).changes → (is_change r && eqb n most_changes) ≡ false
         → a ≡ (counted_step (ledger_of b).diary (ledger_of b).changes r).answer
     seen_done {v} {n} q count f = go (is_change r) refl
       where
@@ -193,10 +190,10 @@ module _ {S : Settings} {b : List ℕ} (good : GoodBook S b) where
     pub part_same : is_change r ≡ false → answered a (c ++ drop k b) ≡ called (perform (ledger_of b) (ordered 0 r))
     part_same f = kept-count (uncounted (ledger_of b).diary (ledger_of b).changes r f)
 
-    pub part-refused : {m p : ℕ} → a ≡ Refused m p → answered a (c ++ drop k b) ≡ called (perform (ledger_of b) (ordered 0 r))
+    pub part-refused : {m p : ℕ} → a ≡ refused_with m p → answered a (c ++ drop k b) ≡ called (perform (ledger_of b) (ordered 0 r))
     part-refused {m} {p} q = go (is_change r) refl
       where
-        no : (step (ledger_of b).diary r).answer ≡ Refused m p
+        no : (step (ledger_of b).diary r).answer ≡ refused_with m p
         no = sym part-answer ∙ q
 
         go : (t : Bool) → is_change r ≡ t → answered a (c ++ drop k b) ≡ called (perform (ledger_of b) (ordered 0 r))
@@ -207,7 +204,7 @@ module _ {S : Settings} {b : List ℕ} (good : GoodBook S b) where
             ∙ (λ j. record { answer = sym no j; state = sym (refused-keeps (ledger_of b).diary r m p no) j; changes = (ledger_of b).changes }))
 
     -- a change that is done, and the count raised
-    pub part-raised : {n v : ℕ} → n ≡ (ledger_of b).changes → a ≡ Done v → is_change r ≡ true → eqb n most_changes ≡ false
+    pub part-raised : {n v : ℕ} → n ≡ (ledger_of b).changes → a ≡ done_with v → is_change r ≡ true → eqb n most_changes ≡ false
         → answered a (set (c ++ drop k b) (length (c ++ drop k b) - 1) (n + 1)) ≡ called (perform (ledger_of b) (ordered 0 r))
     part-raised {n} {v} count q change less =
         let below : eqb (ledger_of b).changes most_changes ≡ false = ap (λ (m : ℕ). eqb m most_changes) (sym count) ∙ less in
@@ -251,7 +248,7 @@ module _ {S : Settings} {b : List ℕ} (good : GoodBook S b) where
 
     diary-there : length (words after.diary) ≡ k
     unfolding after
-    diary-there = diary-words after after-sound ∙ ap diary_length (order-settings (ledger_of b) 0 r none ∙ settings-are) ∙ sym e
+    diary-there = diary-words after after-sound ∙ ap diary_length (order-settings (ledger_of b) 0 r None ∙ settings-are) ∙ sym e
 
     tail-there : length (tail_words (ledger_of b).tail) ≡ length b - 1 - k
     tail-there =
@@ -283,7 +280,7 @@ module _ {S : Settings} {b : List ℕ} (good : GoodBook S b) where
     pub again-tellable : Tellable a
     again-tellable = subst Tellable (sym answer-is) (counted-tellable (ledger_of b).diary (ledger_of b).changes r)
 
-    pub order-noted : (n : ℕ) {w : List ℕ} → kept_at (ledger_of b).tail n ≡ none → w ≡ tail_words (noted (ledger_of b).tail n r a)
+    pub order-noted : (n : ℕ) {w : List ℕ} → kept_at (ledger_of b).tail n ≡ None → w ≡ tail_words (noted (ledger_of b).tail n r a)
         → answered a (put_mid k (length b - 1 - k) c w) ≡ called (perform (ledger_of b) (ordered n r))
     unfolding book_words behind_words after
     order-noted n {w} o t =

@@ -2,9 +2,7 @@
 // its change count; and the answer that a request would get, by reading alone.
 #![tactic(auto)]
 
-pub mod asking;
-pub mod meetings;
-pub mod visitors;
+pub mod carry;
 
 ghost use Rattle.std.specs.Prelude.{◌≡◌, ◌&&◌, eqb};
 ghost use Rattle.model.specs.Machine;
@@ -18,41 +16,51 @@ ghost use Rattle.book.specs.Good.{Good, GoodBook, answered, in_words};
 ghost use Rattle.book.specs.Lent.{reading};
 ghost use Rattle.ring.specs.Telling.{Telling};
 
-use book::found::Found;
+use apply::meetings::{
+    add_attend, add_conf, add_lunch, add_standing, end_standing, erase_attend, erase_conf,
+    erase_conf_and_lunch, erase_lunch,
+};
+use apply::visitors::{add_hotel, add_leave, add_ride, end_leave, erase_hotel, erase_ride};
+use carry::{carry_out, nothing, remove_visitor};
 use header::settings::{diary_len, settings};
-use judge::judge;
-use model::{Answer, Request, Settings};
+use judge::{asking, judge, meetings, visitors};
+use model::{Answer, Refusal, Request, Settings};
 use ring::changes::{MOST_CHANGES, count, raise};
 use ring::{Told, answer_of, answer_to, find, note, words_of};
 
-// Question 3, and the one choice by kind: what it leads to judges with the kind's own row and questions, and makes the kind's own writes.
-// The answer is put into words in each arm, so that words are what the arms have in common.
+// Question 3, and the one choice by kind: each arm judges with the kind's own row and questions, by the function of `judge`, and makes the
+// kind's own writes, by the function of `apply`. The answer is put into words in each arm, so that words are what the arms have in common.
 pub fn step(book: &mut [u32], s: Settings, r: Request) -> Told
     requires { Good s (reading book.old) }
     ensures { Telling result (reading book.new) (in_words (Machine.step (state_of (reading book.old)) r)) }
 {
-    let kind = r.kind;
-    match kind {
-        1 => words_of(visitors::add_leave(book, s, r)),
-        2 => words_of(visitors::end_leave(book, s, r)),
-        3 => words_of(visitors::remove_visitor(book, s, r)),
-        4 => words_of(visitors::add_hotel(book, s, r)),
-        5 => words_of(visitors::erase_hotel(book, s, r)),
-        6 => words_of(visitors::add_ride(book, s, r)),
-        7 => words_of(visitors::erase_ride(book, s, r)),
-        8 => words_of(meetings::add_standing(book, s, r)),
-        9 => words_of(meetings::end_standing(book, s, r)),
-        10 => words_of(meetings::add_attend(book, s, r)),
-        11 => words_of(meetings::erase_attend(book, s, r)),
-        12 => words_of(meetings::add_conf(book, s, r)),
-        13 => words_of(meetings::erase_conf(book, s, r)),
-        14 => words_of(meetings::add_lunch(book, s, r)),
-        15 => words_of(meetings::erase_lunch(book, s, r)),
-        16 => words_of(meetings::erase_conf_and_lunch(book, s, r)),
-        17 => words_of(asking::which_meeting(book, s, r)),
-        18 => words_of(asking::count_leave(book, s, r)),
-        19 => words_of(asking::seats_left(book, s, r)),
-        20 => words_of(asking::free_room(book, s, r)),
+    match r.kind {
+        1 => words_of(carry_out(book, s, r, visitors::add_leave, add_leave)),
+        2 => words_of(carry_out(book, s, r, visitors::end_leave, end_leave)),
+        3 => words_of(remove_visitor(book, s, r)),
+        4 => words_of(carry_out(book, s, r, visitors::add_hotel, add_hotel)),
+        5 => words_of(carry_out(book, s, r, visitors::erase_hotel, erase_hotel)),
+        6 => words_of(carry_out(book, s, r, visitors::add_ride, add_ride)),
+        7 => words_of(carry_out(book, s, r, visitors::erase_ride, erase_ride)),
+        8 => words_of(carry_out(book, s, r, meetings::add_standing, add_standing)),
+        9 => words_of(carry_out(book, s, r, meetings::end_standing, end_standing)),
+        10 => words_of(carry_out(book, s, r, meetings::add_attend, add_attend)),
+        11 => words_of(carry_out(book, s, r, meetings::erase_attend, erase_attend)),
+        12 => words_of(carry_out(book, s, r, meetings::add_conf, add_conf)),
+        13 => words_of(carry_out(book, s, r, meetings::erase_conf, erase_conf)),
+        14 => words_of(carry_out(book, s, r, meetings::add_lunch, add_lunch)),
+        15 => words_of(carry_out(book, s, r, meetings::erase_lunch, erase_lunch)),
+        16 => words_of(carry_out(
+            book,
+            s,
+            r,
+            meetings::erase_conf_and_lunch,
+            erase_conf_and_lunch,
+        )),
+        17 => words_of(carry_out(book, s, r, asking::which_meeting, nothing)),
+        18 => words_of(carry_out(book, s, r, asking::count_leave, nothing)),
+        19 => words_of(carry_out(book, s, r, asking::seats_left, nothing)),
+        20 => words_of(carry_out(book, s, r, asking::free_room, nothing)),
         _ => Told {
             number: 3,
             place: 0,
@@ -82,17 +90,14 @@ pub fn foresee(book: &[u32], s: Settings, diary: usize, r: Request) -> Answer
     requires diary_value { diary ≡ diary_length s }
     ensures { result ≡ (counted_step (ledger_of book.now).diary (ledger_of book.now).changes r).answer }
 {
-    let answer = judge(&book[..diary], s, r);
-    if let Answer::Refused { number, place } = answer {
-        return Answer::Refused { number, place };
-    }
+    let value = judge(&book[..diary], s, r)?;
     if is_full(count(book), r.kind) {
-        return Answer::Refused {
+        return Err(Refusal {
             number: 30,
             place: 0,
-        };
+        });
     }
-    answer
+    Ok(value)
 }
 
 // The same of the book and the numbers alone, where a change would be one too many. A struct that a call hands over is laid out in memory
@@ -154,7 +159,7 @@ pub fn told_step(book: &mut [u32], s: Settings, diary: usize, order: u32, r: Req
     ensures { Telling result book.new (called (Machine.perform (ledger_of book.old) (ordered order r))) }
 {
     let last = book.len() - 1;
-    if let Found::At(place) = find(&book[diary..last], order) {
+    if let Some(place) = find(&book[diary..last], order) {
         return words_of(answer_to(&book[diary..last], place, r));
     }
     let told = counted_step(book, s, diary, r);

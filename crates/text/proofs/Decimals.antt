@@ -6,7 +6,7 @@ use native.Mathlib.Decide.{dec_lt}
 use native.Mathlib.Numerals.{add-one}
 use native.Mathlib.Omega.{arith}
 use mathlib.Core.Path.{◌≡◌, refl, sym, ◌∙◌, ap}
-use mathlib.Core.Option.{some}
+use Rattle.std.specs.Prelude.{Some}
 use mathlib.Core.List.{List, [], ◌∷◌}
 use lib.ListN.{length, set}
 use borrow.Author.Tests.{le-leb, lt-ltb, eq-eqb, ne_eqb}
@@ -39,7 +39,7 @@ pub place-blank : (n p : ℕ) → 0 < p → n / 10 ^ p ≡ 0 → decimal_place n
 place-blank n p h e = simp (lt-ltb 0 p h, eq-eqb (n / 10 ^ p) 0 e)
 
 -- reading a digit, and a space
-from-none : (acc : ℕ) → decimal_from acc [] ≡ some acc
+from-none : (acc : ℕ) → decimal_from acc [] ≡ Some acc
 unfolding decimal_from
 from-none acc = refl
 
@@ -61,15 +61,15 @@ shown-blank bs = refl
 abbrev Full : ℕ → ℕ → Type 0
 Full n p = (k : ℕ) → 0 < k → k < p → 0 < n / 10 ^ k
 
-digits-back : (p n acc : ℕ) → Full n p → decimal_from acc (decimal_field p n) ≡ some (acc * 10 ^ p + n % 10 ^ p)
-digits-back zero n acc f = ap (decimal_from acc) (field-none n) ∙ from-none acc ∙ ap some (omega (arith, mod-one n))
+digits-back : (p n acc : ℕ) → Full n p → decimal_from acc (decimal_field p n) ≡ Some (acc * 10 ^ p + n % 10 ^ p)
+digits-back zero n acc f = ap (decimal_from acc) (field-none n) ∙ from-none acc ∙ ap Some (omega (arith, mod-one n))
 digits-back (suc p) n acc f =
     let d = n / 10 ^ p % 10 in
     ap (decimal_from acc) (field-more p n)
     ∙ ap (λ (b : ℕ). decimal_from acc (b ∷ decimal_field p n)) (place-digit n p (λ h. f p h (omega arith)))
     ∙ from-digit acc d (decimal_field p n) (omega arith)
     ∙ digits-back p n (acc * 10 + d) (λ k h l. f k h (omega arith))
-    ∙ ap some (next_place 10 p acc n (omega arith))
+    ∙ ap Some (next_place 10 p acc n (omega arith))
 
 -- a number with a digit at place p has one at each place below
 full_by : (n p : ℕ) → 0 < n / 10 ^ p → Full n (suc p)
@@ -78,22 +78,22 @@ full_by n p h k _ l =
     let b = pow-le-pow_right {n = 10} (omega arith) {i = k} {j = p} (omega arith) in
     (le-div_iff_mul-le {k = 10 ^ k} {x = 1} {y = n} (one-le-pow k 10 (omega arith))).1 (omega arith)
 
-full-shown : (p n : ℕ) → Full n (suc p) → decimal_shown (decimal_field (suc p) n) ≡ some (n % 10 ^ suc p)
+full-shown : (p n : ℕ) → Full n (suc p) → decimal_shown (decimal_field (suc p) n) ≡ Some (n % 10 ^ suc p)
 full-shown p n f =
     let e = field-more p n ∙ ap (λ (b : ℕ). b ∷ decimal_field p n) (place-digit n p (λ h. f p h (omega arith))) in
     ap decimal_shown e
     ∙ shown-digit (n / 10 ^ p % 10) (decimal_field p n)
     ∙ ap (decimal_from 0) (sym e)
     ∙ digits-back (suc p) n 0 f
-    ∙ ap some (omega arith)
+    ∙ ap Some (omega arith)
 
 -- a field of one place or more shows the number's last digits
-pub decimal-shown : (p n : ℕ) → decimal_shown (decimal_field (suc p) n) ≡ some (n % 10 ^ suc p)
+pub decimal-shown : (p n : ℕ) → decimal_shown (decimal_field (suc p) n) ≡ Some (n % 10 ^ suc p)
 decimal-shown zero n = full-shown zero n (λ k h l. absurd (omega arith))
 decimal-shown (suc p) n = by (dec_lt 0 (n / 10 ^ suc p)) (decimal-shown p n)
   where
-    by : Dec (0 < n / 10 ^ suc p) → decimal_shown (decimal_field (suc p) n) ≡ some (n % 10 ^ suc p)
-        → decimal_shown (decimal_field (suc (suc p)) n) ≡ some (n % 10 ^ suc (suc p))
+    by : Dec (0 < n / 10 ^ suc p) → decimal_shown (decimal_field (suc p) n) ≡ Some (n % 10 ^ suc p)
+        → decimal_shown (decimal_field (suc (suc p)) n) ≡ Some (n % 10 ^ suc (suc p))
     by (yes h) ih = full-shown (suc p) n (full_by n (suc p) h)
     by (no h) ih =
         let z : n / 10 ^ suc p ≡ 0 = omega arith in
@@ -104,9 +104,9 @@ decimal-shown (suc p) n = by (dec_lt 0 (n / 10 ^ suc p)) (decimal-shown p n)
         ap decimal_shown (field-more (suc p) n ∙ ap (λ (b : ℕ). b ∷ decimal_field (suc p) n) (place-blank n (suc p) (omega arith) z))
         ∙ shown-blank (decimal_field (suc p) n)
         ∙ ih
-        ∙ ap some (m ∙ sym l)
+        ∙ ap Some (m ∙ sym l)
 
--- nothing is written, one place more, and all of them
+-- nothing is written, and one place more
 pub put-nothing : (out : List ℕ) (at n : ℕ) → Put out out at (decimal_field 0 n)
 put-nothing out at n = rw (field-none n) (put-none out at)
 
@@ -121,16 +121,10 @@ put-place {out₀} {out} at width n p {left} {b} h room e f v =
     let w : Put out₀ (set out i b) i (b ∷ decimal_field p n) = put-before b (omega arith) (rw before at v) in
     rw (behind, add-one, field-more p n, ← byte) w
 
-pub put-field : {out₀ out : List ℕ} (at width n p : ℕ) → p ≡ width → Put out₀ out (at + (width - p)) (decimal_field p n)
-    → Put out₀ out at (decimal_field width n)
-put-field {out₀} {out} at width n p e v =
-    let i : at + (width - p) ≡ at = omega arith in
-    rw (i, e) at v
-
 -- every number that the field is wide enough for
-pub decimal-trip : (width n : ℕ) → 0 < width → n < 10 ^ width → decimal_shown (decimal_field width n) ≡ some n
+pub decimal-trip : (width n : ℕ) → 0 < width → n < 10 ^ width → decimal_shown (decimal_field width n) ≡ Some n
 decimal-trip zero n h l = absurd (omega arith)
-decimal-trip (suc p) n h l = decimal-shown p n ∙ ap some (mod-eq_of_lt {n = n} {m = 10 ^ suc p} l)
+decimal-trip (suc p) n h l = decimal-shown p n ∙ ap Some (mod-eq_of_lt {n = n} {m = 10 ^ suc p} l)
 
 -- 0, 12345 and 2^32 - 1
 pub field-of-zero : decimal_field 5 0 ≡ 32 ∷ 32 ∷ 32 ∷ 32 ∷ 48 ∷ []

@@ -4,7 +4,7 @@ use Prim.Native.Nat.{ℕ, zero, suc, ◌+◌, ◌-◌, ◌*◌, ◌/◌, ◌%◌
 use native.Mathlib.Omega.{arith}
 use mathlib.Core.Path.{◌≡◌, refl, sym, ◌∙◌, ap}
 use mathlib.Core.Bool.{Bool, true, false, ◌&&◌, cond}
-use mathlib.Core.Option.{none, some}
+use Rattle.std.specs.Prelude.{None, Some}
 use mathlib.Core.List.{List, [], ◌∷◌, ◌++◌}
 use lib.Dec.{leb}
 use lib.ListN.{length, take, drop, get_or}
@@ -20,9 +20,9 @@ within-is a z b h = (leb-true a b (and_left (leb a b) _ h), leb-true b z (and_ri
 
 -- the value of a digit is below 16, and one formula gives it for both kinds of digits
 value-by : (b : ℕ) (s t : Bool) → within 48 57 b ≡ s → within 97 102 b ≡ t
-    → is_some (cond s (some (b - 48)) (cond t (some (b - 87)) none)) ≡ true
-    → (b % 16 + b / 64 * 9 ≡ found (cond s (some (b - 48)) (cond t (some (b - 87)) none)) (λ d. d))
-    × (found (cond s (some (b - 48)) (cond t (some (b - 87)) none)) (λ d. d) < 16)
+    → is_some (cond s (Some (b - 48)) (cond t (Some (b - 87)) None)) ≡ true
+    → (b % 16 + b / 64 * 9 ≡ found (cond s (Some (b - 48)) (cond t (Some (b - 87)) None)) (λ d. d))
+    × (found (cond s (Some (b - 48)) (cond t (Some (b - 87)) None)) (λ d. d) < 16)
 value-by b true t hs ht h = let w = within-is 48 57 b hs in (omega arith, omega arith)
 value-by b false true hs ht h = let w = within-is 97 102 b ht in (omega arith, omega arith)
 value-by b false false hs ht h = both h refl

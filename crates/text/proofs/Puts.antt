@@ -7,7 +7,7 @@ use native.Mathlib.Omega.{arith}
 use mathlib.Core.Path.{◌≡◌, refl, sym, ◌∙◌, ap}
 use mathlib.Core.List.{List, [], ◌∷◌, ◌++◌, append_assoc, append-nil}
 use lib.ListN.{length, take, drop, get_or, set, length-append, length-set}
-use lib.Seq.{take-suc, take-suc-set, take-set-lt, take-length, length-take-le, drop-drop, drop-set-lt, set-append_left}
+use lib.Seq.{take-suc, take-suc-set, take-set-lt, length-take-le, drop-drop, drop-set-lt, set-append_left}
 use Rattle.text.specs.Put.{Put}
 
 -- what is the same behind some bytes is the same behind more of them
@@ -70,9 +70,6 @@ put-more {out₀} {out} {at} bytes i h room p =
     rw e (put_one out (at + i) (get_or bytes i 0) (omega (arith, p.kept))) in
     let r : take (i + 1) bytes ≡ take i bytes ++ (get_or bytes i 0 ∷ []) = ap (λ (k : ℕ). take k bytes) (add-one i) ∙ take-suc bytes i 0 h in
     rw r (join p q)
-
-pub put_all : {out₀ out : List ℕ} {at : ℕ} (bytes : List ℕ) (i : ℕ) → i ≡ length bytes → Put out₀ out at (take i bytes) → Put out₀ out at bytes
-put_all {out₀} {out} {at} bytes i e p = rw (e, take-length bytes) at p
 
 -- the bytes by another name
 pub put_as : {a b : List ℕ} {at : ℕ} {xs ys : List ℕ} → xs ≡ ys → Put a b at xs → Put a b at ys

@@ -1,22 +1,28 @@
 -- Eight digits together: what the code computes on whole numbers is what the definitions say of each digit.
 -- Assumes nothing.
 use Prim.Native.Nat.{ℕ, zero, suc, ◌+◌, ◌-◌, ◌*◌, ◌/◌, ◌%◌, ◌^◌, ◌≤◌, ◌<◌}
-use native.Mathlib.Nat.{add-zero, mod-eq_of_lt, mul_assoc, mul-le-mul_left}
+use native.Mathlib.Nat.{div-one, mod-eq_of_lt, mul_assoc, mul-le-mul_left}
 use native.Mathlib.Omega.{arith}
+use native.Mathlib.Decide.{dec_lt}
 use mathlib.Core.Path.{◌≡◌, refl, sym, ◌∙◌, ap, ap₂}
 use mathlib.Core.Bool.{Bool, true, false, cond}
-use mathlib.Core.List.{List}
+use mathlib.Core.List.{List, [], ◌∷◌}
+use Rattle.std.specs.Int.{w64, to_be_bytes, from_be_bytes}
+use Rattle.std.specs.Bool.{then_some}
+use Rattle.std.specs.Prelude.{Some, None}
+use Rattle.std.proofs.lemmas.Nat.{be_bytes_8}
 use lib.Arith.{digits_div, digits_mod}
 use lib.Bits.{bit_and}
 use lib.Dec.{leb, eqb}
 use lib.ListN.{length, take, drop, get_or, length-drop}
+use Rattle.std.proofs.lemmas.List.{length-take, get_or_past}
 use lib.Seq.{ext_get_or, get_or-take, get_or-drop, length-take-le}
-use borrow.Author.Tests.{leb-true, leb-false, le-leb, lt-leb, eqb-true, eq-eqb}
+use borrow.Author.Tests.{leb-true, leb-false, le-leb, lt-leb, eqb-true, eqb-false}
 use Rattle.model.specs.Bounded.{list_from, list}
 use Rattle.model.specs.Text.{digit, word_digits, shown_from, shown}
 use Rattle.model.proofs.Places.{length-list, get_d-list}
-use Rattle.model.proofs.Search.{bool_eq, and-true}
-use Rattle.text.specs.Digits.{is_digit, value_of, digits_only, numeral, byte_at, eight_bytes, nibble, Values, value_in, ReadAs}
+use Rattle.model.proofs.Search.{and-true, never}
+use Rattle.text.specs.Digits.{is_digit, value_of, digits_only, numeral, byte_at, eight_bytes, nibble, Values, value_in, word_in}
 use Rattle.text.proofs.Hexes.{value-is, digit_at}
 use Rattle.text.proofs.Trips.{digit_value}
 use Rattle.text.proofs.Numerals.{places_same, place_of, places_of, sum-places, times-places, parts-places}
@@ -240,29 +246,23 @@ list_same f g n e =
     ext_get_or 0 (list f n) (list g n) (length-list f n ∙ sym (length-list g n))
     (λ k h. let i : k < n = omega (arith, length-list f n) in get_d-list f n k i ∙ e k i ∙ sym (get_d-list g n k i))
 
--- eight bytes of a list, joined one by one
-module _ (s : List ℕ) (at : ℕ) (long : at + 8 ≤ length s) (l : (k : ℕ) → k < 8 → get_or s (at + k) 0 < 256) where
-  pub bytes-joined : {a b c d e f g h : ℕ} → a ≡ 0 * 256 + get_or s at 0 → b ≡ a * 256 + get_or s (at + 1) 0 → c ≡ b * 256 + get_or s (at + 2) 0
-      → d ≡ c * 256 + get_or s (at + 3) 0 → e ≡ d * 256 + get_or s (at + 4) 0 → f ≡ e * 256 + get_or s (at + 5) 0 → g ≡ f * 256 + get_or s (at + 6) 0
-      → h ≡ g * 256 + get_or s (at + 7) 0 → eight_bytes h ≡ take 8 (drop at s)
-  bytes-joined ea eb ec ed ee ef eg eh =
-      ap eight_bytes (eh ∙ more 7 (eg ∙ more 6 (ef ∙ more 5 (ee ∙ more 4 (ed ∙ more 3 (ec ∙ more 2 (eb ∙ more 1 (ea ∙ first))))))))
-      ∙ ext_get_or 0 (eight_bytes x) (take 8 (drop at s)) (length-list (byte_at x) 8 ∙ sym (length-take-le 8 (drop at s) (simp length-drop (omega arith))))
-      (λ k h.
-      let i : k < 8 = omega (arith, length-list (byte_at x) 8) in
-      get_d-list (byte_at x) 8 k i ∙ byte_of byte l k i ∙ sym (get_or-take 8 (drop at s) k 0 i ∙ get_or-drop at s k 0))
-    where
-      byte : ℕ → ℕ
-      byte k = get_or s (at + k) 0
+-- eight bytes as the library writes and reads them
+pub bytes-written : (x : ℕ) → to_be_bytes w64 x ≡ eight_bytes x
+bytes-written x = ap (λ (q : ℕ). byte_at x 0 ∷ byte_at x 1 ∷ byte_at x 2 ∷ byte_at x 3 ∷ byte_at x 4 ∷ byte_at x 5 ∷ byte_at x 6 ∷ q % 256 ∷ []) (sym (div-one x))
 
-      x : ℕ
-      x = numeral 256 byte 8
+-- what a list holds, a part of it holds
+part-small : (s : List ℕ) (at n : ℕ) → ((i : ℕ) → get_or s i 0 < 256) → (i : ℕ) → get_or (take n (drop at s)) i 0 < 256
+part-small s at n l i = by (dec_lt i n)
+  where
+    by : Dec (i < n) → get_or (take n (drop at s)) i 0 < 256
+    by (yes h) = rw (get_or-take n (drop at s) i 0 h, get_or-drop at s i 0) (l (at + i))
+    by (no h) = rw (get_or_past (take n (drop at s)) i 0 (simp length-take (omega arith))) (omega arith)
 
-      more : (k : ℕ) {y : ℕ} → y ≡ numeral 256 byte k → y * 256 + byte k ≡ numeral 256 byte (suc k)
-      more k q = ap (λ (y : ℕ). y * 256 + byte k) q
-
-      first : 0 * 256 + get_or s at 0 ≡ numeral 256 byte 1
-      first = ap (λ (i : ℕ). 0 * 256 + get_or s i 0) (sym (add-zero at))
+pub bytes-read : (s : List ℕ) (at : ℕ) {bytes : List ℕ} {x : ℕ} → at + 8 ≤ length s → ((i : ℕ) → get_or s i 0 < 256) → bytes ≡ take 8 (drop at s)
+    → x ≡ from_be_bytes w64 bytes → eight_bytes x ≡ take 8 (drop at s)
+bytes-read s at {bytes} {x} h l e f =
+    let n : length bytes ≡ 8 = ap length e ∙ length-take-le 8 (drop at s) (simp length-drop (omega arith)) in
+    sym (bytes-written x) ∙ be_bytes_8 bytes x n (λ i. rw e (part-small s at 8 l i)) f ∙ e
 
 -- the digits of a word
 pub digits-shown : (w : ℕ) {v r : ℕ} → v ≡ numeral 256 (nibble w) 8 → r ≡ numeral 256 (λ k. digit (byte_at v k)) 8 → eight_bytes r ≡ word_digits w
@@ -292,7 +292,7 @@ shown-list : (f : ℕ → ℕ) → shown (list f 8) ≡ numeral 16 (λ k. value_
 unfolding shown_from
 shown-list f = refl
 
-module _ (x : ℕ) (small : x < 2 ^ 64) {v w d : ℕ} (ev : v ≡ numeral 256 (λ k. value_in (byte_at x k)) 8) (ew : w ≡ numeral 16 (byte_at v) 8)
+module _ (x : ℕ) (small : x < 2 ^ 64) {v d : ℕ} (ev : v ≡ numeral 256 (λ k. value_in (byte_at x k)) 8)
     (ed : d ≡ numeral 256 (λ k. digit (byte_at v k)) 8) where
   value-at : (k : ℕ) → k < 8 → byte_at v k ≡ value_in (byte_at x k)
   value-at k h = ap (λ (x : ℕ). byte_at x k) ev ∙ byte_of (λ k. value_in (byte_at x k)) (λ k i. omega arith) k h
@@ -312,19 +312,25 @@ module _ (x : ℕ) (small : x < 2 ^ 64) {v w d : ℕ} (ev : v ≡ numeral 256 (�
   digit-in : digits_only (eight_bytes x) ≡ true → (k : ℕ) → k < 8 → is_digit (byte_at x k) ≡ true
   digit-in e k h = rw (get_d-list (byte_at x) 8 k h) at (digit_at (eight_bytes x) k e (omega (arith, length-list (byte_at x) 8)))
 
-  pub read_is : ReadAs (eight_bytes x) (record { word = w; digits = eqb d x })
-  read_is =
-      record {
-        all = bool_eq (eqb d x) (digits_only (eight_bytes x)) (λ e. digits-if (eqb-true d x e)) (λ e. eq-eqb d x (same e));
-        shows = λ e.
-            ew
-            ∙ places_same 16 (byte_at v) (λ k. value_of (byte_at x k)) 8 (λ k h. value-at k h ∙ value-in (byte_at x k) (digit-in e k h))
-            ∙ sym (shown-list (byte_at x));
-      }
+  -- the bytes are digits exactly if they come back
+  same : digits_only (eight_bytes x) ≡ true → d ≡ x
+  same e =
+      ed
+      ∙ places_same 256 (λ k. digit (byte_at v k)) (byte_at x) 8
+      (λ k h. ap digit (value-at k h ∙ value-in (byte_at x k) (digit-in e k h)) ∙ digit_value (byte_at x k) (digit-in e k h))
+      ∙ bytes_of x small
+
+  read-some : {w : ℕ} → w ≡ numeral 16 (byte_at v) 8 → d ≡ x → Some w ≡ word_in (eight_bytes x)
+  read-some ew e =
+      let t = digits-if e in
+      rw t (ap Some (ew ∙ places_same 16 (byte_at v) (λ k. value_of (byte_at x k)) 8 (λ k h. value-at k h ∙ value-in (byte_at x k) (digit-in t k h)) ∙ sym (shown-list (byte_at x))))
+
+  read-none : (d ≡ x → ⊥) → None ≡ word_in (eight_bytes x)
+  read-none n = rw (never (digits_only (eight_bytes x)) (λ h. n (same h)))
+
+  pub read_is : {w : ℕ} → w ≡ numeral 16 (byte_at v) 8 → then_some (eqb d x) w ≡ word_in (eight_bytes x)
+  read_is {w} ew = by (eqb d x) refl
     where
-      same : digits_only (eight_bytes x) ≡ true → d ≡ x
-      same e =
-          ed
-          ∙ places_same 256 (λ k. digit (byte_at v k)) (byte_at x) 8
-          (λ k h. ap digit (value-at k h ∙ value-in (byte_at x k) (digit-in e k h)) ∙ digit_value (byte_at x k) (digit-in e k h))
-          ∙ bytes_of x small
+      by : (t : Bool) → eqb d x ≡ t → then_some t w ≡ word_in (eight_bytes x)
+      by true h = read-some ew (eqb-true d x h)
+      by false h = read-none (eqb-false d x h)

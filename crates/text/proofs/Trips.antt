@@ -5,7 +5,7 @@ use native.Mathlib.Nat.{mod-one, mod-eq_of_lt, div-one}
 use native.Mathlib.Omega.{arith}
 use mathlib.Core.Path.{◌≡◌, refl, sym, ◌∙◌, ap, ap₂}
 use mathlib.Core.Bool.{Bool, true, false, cond}
-use mathlib.Core.Option.{none, some}
+use Rattle.std.specs.Prelude.{None, Some}
 use mathlib.Core.List.{List, [], ◌∷◌}
 use lib.Dec.{leb}
 use lib.ListN.{length}
@@ -31,8 +31,8 @@ pub value-digit : (d : ℕ) → d < 16 → value_of (digit d) ≡ d
 value-digit d h = digit-by d _ refl h
 
 byte-by : (b : ℕ) (s t : Bool) → within 48 57 b ≡ s → within 97 102 b ≡ t
-    → is_some (cond s (some (b - 48)) (cond t (some (b - 87)) none)) ≡ true
-    → digit (found (cond s (some (b - 48)) (cond t (some (b - 87)) none)) (λ d. d)) ≡ b
+    → is_some (cond s (Some (b - 48)) (cond t (Some (b - 87)) None)) ≡ true
+    → digit (found (cond s (Some (b - 48)) (cond t (Some (b - 87)) None)) (λ d. d)) ≡ b
 byte-by b true t hs ht h = let w = within-is 48 57 b hs in simp (le-leb (b - 48) 9 (omega arith)) (omega arith)
 byte-by b false true hs ht h = let w = within-is 97 102 b ht in simp (lt-leb (b - 87) 9 (omega arith)) (omega arith)
 byte-by b false false hs ht h = both h refl

@@ -1,9 +1,8 @@
 -- The digits of a byte and of a list of bytes, and eight of them as one number.
 -- Assumes nothing.
-use Rattle.std.specs.Prelude.{ℕ, zero, suc, ◌+◌, ◌-◌, ◌*◌, ◌/◌, ◌%◌, ◌^◌, ◌<◌, ◌≡◌, Bool, true, List}
+use Rattle.std.specs.Prelude.{ℕ, zero, suc, ◌+◌, ◌-◌, ◌*◌, ◌/◌, ◌%◌, ◌^◌, ◌<◌, Bool, cond, List, Option, Some, None}
 use Rattle.model.specs.Bounded.{is_some, found, every, list}
 use Rattle.model.specs.Text.{digit_value, shown}
-use Rattle.text.specs.declared.hex.Read.{Read}
 
 -- a byte is one of the sixteen digits; its value, 0 for any other byte
 abbrev pub is_digit : ℕ → Bool
@@ -39,7 +38,6 @@ Values v = (k : ℕ) → k < 8 → byte_at v k < 16
 abbrev pub value_in : ℕ → ℕ
 value_in b = (b % 16 + b / 64 % 2 * 9) % 16
 
--- r is what eight bytes are read as
-pub record ReadAs (bytes : List ℕ) (r : Read) : Type 0 where
-  pub all : r.digits ≡ digits_only bytes
-  pub shows : digits_only bytes ≡ true → r.word ≡ shown bytes
+-- the word that bytes show, if all of them are digits
+abbrev pub word_in : List ℕ → Option ℕ
+word_in bytes = cond (digits_only bytes) (Some (shown bytes)) None

@@ -22,11 +22,9 @@ pub fn put_decimal(out: &mut [u8], at: usize, width: usize, n: u32)
     ensures { Put out.old out.new at (decimal_field width n) }
 {
     let mut left = n;
-    let mut p = 0;
-    while p < width {
+    for p in 0..width {
         let column = width - 1 - p;
         out[at + column] = place_byte(left, p);
-        left = left / 10;
-        p += 1;
+        left /= 10;
     }
 }

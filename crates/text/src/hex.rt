@@ -1,18 +1,11 @@
 // Lower-case hexadecimal by the word: the eight digits of a word are made and read together, as one number of 64 bits in which each digit
 // has its byte, the first one the highest.
-ghost use Rattle.std.specs.Prelude.{◌≡◌, ◌+◌, ◌*◌, ◌^◌, ◌<◌, ◌≤◌, length, take, drop};
+ghost use Rattle.std.specs.Prelude.{◌≡◌, ◌+◌, ◌≤◌, length, take, drop};
 ghost use Rattle.model.specs.Text.{digit, word_digits};
-ghost use Rattle.text.specs.Digits.{numeral, byte_at, eight_bytes, nibble, value_in, Values, ReadAs};
+ghost use Rattle.text.specs.Digits.{numeral, byte_at, eight_bytes, nibble, value_in, Values, word_in};
 ghost use Rattle.text.specs.Put.{Put};
 
 use crate::store::put;
-
-// What eight bytes are read as: whether all of them are digits, and the word that they show if they are.
-#[derive(Clone, Copy)]
-pub struct Read {
-    pub word: u32,
-    pub digits: bool,
-}
 
 // The four bits of each digit of a word, in a byte of their own: its halves come apart, then the bytes of each, then the halves of these.
 fn spread(w: u32) -> u64
@@ -58,57 +51,24 @@ pub fn digits_of(w: u32) -> u64
     digits(spread(w))
 }
 
-// The word of eight digits. Bytes are digits exactly if their values, written again, are these bytes.
-pub fn word_of(x: u64) -> Read
-    ensures { ReadAs (eight_bytes x) result }
+// The word of eight digits, if the bytes are digits: exactly then their values, written again, are these bytes. The word is made in any
+// case, so that the words of a frame are read side by side.
+pub fn word_of(x: u64) -> Option<u32>
+    ensures { result ≡ word_in (eight_bytes x) }
 {
     let v = values(x);
-    Read {
-        word: packed(v),
-        digits: digits(v) == x,
-    }
+    let word = packed(v);
+    (digits(v) == x).then_some(word)
 }
 
-// A number with one byte more behind its own.
-fn joined(x: u64, b: u8) -> u64
-    requires { x < 256 ^ 7 }
-    ensures { (result ≡ x * 256 + b) × (b < 256) }
-{
-    x * 256 | b as u64
-}
-
-// Eight bytes as one number, the first one the highest. The compiler reads all of them at once.
-fn eight_at(s: &[u8], at: usize) -> u64
+// The word of the eight bytes at a place, if they are digits. The compiler reads all of them at once.
+pub fn word_at(s: &[u8], at: usize) -> Option<u32>
     requires { at + 8 ≤ length s.now }
-    ensures { eight_bytes result ≡ take 8 (drop at s.now) }
+    ensures { result ≡ word_in (take 8 (drop at s.now)) }
 {
-    let two = joined(joined(0, s[at]), s[at + 1]);
-    let four = joined(joined(two, s[at + 2]), s[at + 3]);
-    let six = joined(joined(four, s[at + 4]), s[at + 5]);
-    joined(joined(six, s[at + 6]), s[at + 7])
-}
-
-// The word of the eight bytes at a place.
-pub fn word_at(s: &[u8], at: usize) -> Read
-    requires { at + 8 ≤ length s.now }
-    ensures { ReadAs (take 8 (drop at s.now)) result }
-{
-    word_of(eight_at(s, at))
-}
-
-fn bytes_of(x: u64) -> [u8; 8]
-    ensures { result ≡ eight_bytes x }
-{
-    [
-        (x / 0x100_0000_0000_0000 % 256) as u8,
-        (x / 0x1_0000_0000_0000 % 256) as u8,
-        (x / 0x100_0000_0000 % 256) as u8,
-        (x / 0x1_0000_0000 % 256) as u8,
-        (x / 0x100_0000 % 256) as u8,
-        (x / 0x1_0000 % 256) as u8,
-        (x / 0x100 % 256) as u8,
-        (x % 256) as u8,
-    ]
+    let mut bytes = [0; 8];
+    bytes.copy_from_slice(&s[at..at + 8]);
+    word_of(u64::from_be_bytes(bytes))
 }
 
 // The digits of a word behind what was written. The compiler writes all of them at once.
@@ -116,6 +76,6 @@ pub fn put_word(out: &mut [u8], at: usize, w: u32)
     requires { at + 8 ≤ length out.old }
     ensures { Put out.old out.new at (word_digits w) }
 {
-    let digits = bytes_of(digits_of(w));
+    let digits = digits_of(w).to_be_bytes();
     put(out, at, &digits);
 }

@@ -7,9 +7,6 @@ pub fn put(out: &mut [u8], at: usize, bytes: &[u8])
     requires { at + length bytes.now ≤ length out.old }
     ensures { Put out.old out.new at bytes.now }
 {
-    let mut i = 0;
-    while i < bytes.len() {
-        out[at + i] = bytes[i];
-        i += 1;
-    }
+    let end = at + bytes.len();
+    out[at..end].copy_from_slice(bytes);
 }

@@ -7,10 +7,10 @@ use native.Mathlib.Omega.{arith}
 use native.Mathlib.Nat.{le-div_iff_mul-le, sub-zero}
 use lib.Dec.{leb, ltb}
 use borrow.Author.Tests.{leb-true, ltb-true, leb-false, ltb-false, le-leb}
-use Rattle.units.specs.Units.{day_of, CutOf, Cut, OnDates}
+use Rattle.units.specs.Units.{each_of, late_of, day_of, CutOf, Cut}
 use Rattle.model.specs.declared.Settings.{Settings}
 use Rattle.model.specs.Bounded.{within}
-use Rattle.model.specs.Kinds.{Unit, sessions, times, slots_of, date_of}
+use Rattle.model.specs.Kinds.{Unit, dates, sessions, times, slots_of, date_of}
 use Rattle.model.proofs.Local.{div_mono}
 use Rattle.model.proofs.Search.{bool_eq, and-true, and_left, and_right, within-true, true-within}
 
@@ -44,10 +44,17 @@ begins-at each late n d at h low high =
       after = λ i l k. turn-high each late d at (high (omega arith)) i l;
     }
 
--- the cuts of the two units
-pub session-cut : (S : Settings) {d r : ℕ} → CutOf (day_of S.sessions 0) (S.dates * S.sessions) d r → Cut S sessions d r
+-- the cut of a unit
+pub unit-cut : (S : Settings) (u : Unit) {d r : ℕ}
+    → CutOf (day_of (each_of S u) (late_of S u)) (S.dates * each_of S u) d r → Cut S u d r
 unfolding day_of
-session-cut S h =
+unit-cut S dates h =
+    record {
+      most = omega (arith, h.most);
+      before = λ i l. omega (arith, h.before i l);
+      after = λ i l k. omega (arith, h.after i l (omega (arith, k)));
+    }
+unit-cut S sessions h =
     record {
       most = h.most;
       before = λ i l. omega (arith, h.before i l, same i);
@@ -56,10 +63,7 @@ session-cut S h =
   where
     same : (i : ℕ) → (i - 0) / S.sessions ≡ i / S.sessions
     same i = ap (λ (n : ℕ). n / S.sessions) (sub-zero i)
-
-pub time-cut : (S : Settings) {d r : ℕ} → CutOf (day_of S.times S.early) (S.dates * S.times) d r → Cut S times d r
-unfolding day_of
-time-cut S h = h
+unit-cut S times h = h
 
 -- a slot is on a date of from..to exactly if it lies between the cuts
 pub between-cuts : (S : Settings) (u : Unit) (from to lo hi : ℕ) → Cut S u from lo → Cut S u (to + 1) hi
@@ -79,6 +83,3 @@ between-cuts S u from to lo hi a b i h =
     high : (t : Bool) → ltb i hi ≡ t → date_of S u i ≤ to → ltb i hi ≡ true
     high true q w = q
     high false q w = absurd (omega (arith, b.after i (ltb-false i hi q) h, w))
-
-pub on-dates : (S : Settings) (u : Unit) {first last from to : ℕ} → Cut S u first from → Cut S u (last + 1) to → OnDates S u first last from to
-on-dates S u {first} {last} {from} {to} a b = record { begins = a; ends = b; exactly = between-cuts S u first last from to a b }

@@ -3,7 +3,18 @@
 use Rattle.std.specs.Prelude.{ℕ, ◌+◌, ◌-◌, ◌/◌, ◌≤◌, ◌<◌, ◌≡◌, ◌&&◌, leb, ltb}
 use Rattle.model.specs.declared.Settings.{Settings}
 use Rattle.model.specs.Bounded.{within}
-use Rattle.model.specs.Kinds.{Unit, date_of, slots_of}
+use Rattle.model.specs.Kinds.{Unit, dates, sessions, times, date_of, slots_of}
+
+-- how many slots of a unit a date has, and how many slots later each date but the first begins
+abbrev pub each_of : Settings → Unit → ℕ
+each_of S dates = 1
+each_of S sessions = S.sessions
+each_of S times = S.times
+
+abbrev pub late_of : Settings → Unit → ℕ
+late_of S dates = 0
+late_of S sessions = 0
+late_of S times = S.early
 
 -- the date of slot i, if a date has `each` slots and every date but the first begins `late` slots later
 unfoldable pub day_of : ℕ → ℕ → ℕ → ℕ

@@ -4,8 +4,8 @@ use mathlib.Core.Path.{sym, ap}
 use Rattle.model.specs.Messages.{answer_words}
 use Rattle.capi.proofs.told.Goals as goal
 
-pub returns-in-Done : goal.returns-in-Done
-returns-in-Done c = sym (ap answer_words c.in-Done.is)
+pub returns-in-Ok : goal.returns-in-Ok
+returns-in-Ok c = sym (ap answer_words c.in-Ok.is)
 
-pub returns-in-Refused : goal.returns-in-Refused
-returns-in-Refused c = sym (ap answer_words c.in-Refused.is)
+pub returns-in-Err : goal.returns-in-Err
+returns-in-Err c = sym (ap answer_words c.in-Err.is)

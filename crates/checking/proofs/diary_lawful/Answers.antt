@@ -1,6 +1,6 @@
 -- The dates keep the laws exactly if the model says so.
 -- Assumes nothing.
-use mathlib.Core.Path.{refl, ◌∙◌, ap}
+use mathlib.Core.Path.{◌∙◌, ap}
 use Rattle.model.specs.Site.{valid_settings}
 use Rattle.book.specs.Lent.{reading}
 use Rattle.header.proofs.Heads.{seats-low, laid-valid, laid-is}
@@ -20,7 +20,7 @@ pub dates-requires : goal.dates-requires
 unfolding reading
 dates-requires c =
     let l = laid-is _ c.requires _ c.settings-s.ensures in
-    rw c.site_of-site.ensures (record { laid = l; sited = refl; caps = c.caps_of-caps.ensures })
+    rw c.site_of-site.ensures (record { laid = l; caps = c.caps_of-caps.ensures })
 
 pub returns : goal.returns
 unfolding reading

@@ -1,6 +1,7 @@
 -- `commit`: checked, question 29, and then one step.
 -- Assumes nothing.
 use mathlib.Core.Path.{sym, ◌∙◌}
+use Rattle.std.proofs.lemmas.Result.{err_from_is_err_and}
 use Rattle.model.specs.Machine.{commit}
 use Rattle.model.proofs.Ledger.{last_word}
 use Rattle.step.proofs.Kept.{count-is}
@@ -8,22 +9,23 @@ use Rattle.checking.proofs.Verdicts.{call-refused, done-good}
 use Rattle.engine.proofs.Whole.{other-count, same_count, with-commit}
 use Rattle.engine.proofs.commit.Goals as goal
 
-pub returns-in-Refused : goal.returns-in-Refused
-returns-in-Refused c =
+pub returns-in_err-check : goal.returns-in_err-check
+returns-in_err-check c =
     let a = c.args in
+    let p = err_from_is_err_and c.from_residual.result c.from_residual.ensures.1 in
     let both = with-commit a.book.now a.count a.r _ _
-    (call-refused a.book.now (commit a.count a.r) (sym c.check-checked.ensures ∙ c.in-Refused.is)) in
-    record { call = both.0; removal = both.1 }
+    (call-refused a.book.now (commit a.count a.r) (sym c.check.ensures ∙ c.in_err-check.was)) in
+    record { call = rw (p.1, p.2) both.0; removal = rw (p.1, p.2) both.1 }
 
 pub count-requires : goal.count-requires
 count-requires c =
     let a = c.args in
-    last_word a.book.now (done-good a.book.now _ (sym c.check-checked.ensures ∙ c.in_default.is)).laid
+    last_word a.book.now (done-good a.book.now _ (sym c.check.ensures ∙ c.in_ok-check.was)).laid
 
 pub returns-then-count : goal.returns-then-count
 returns-then-count c =
     let a = c.args in
-    let g = done-good a.book.now _ (sym c.check-checked.ensures ∙ c.in_default.is) in
+    let g = done-good a.book.now _ (sym c.check.ensures ∙ c.in_ok-check.was) in
     let both = with-commit a.book.now a.count a.r _ _
     (other-count g a.count a.r (c.count.ensures ∙ count-is g) c.if-count.true) in
     record { call = both.0; removal = both.1 }
@@ -31,12 +33,12 @@ returns-then-count c =
 pub answer_one-requires : goal.answer_one-requires
 answer_one-requires c =
     let a = c.args in
-    rw c.settings-s.ensures (done-good a.book.now _ (sym c.check-checked.ensures ∙ c.in_default.is))
+    rw c.settings-s.ensures (done-good a.book.now _ (sym c.check.ensures ∙ c.in_ok-check.was))
 
 pub returns : goal.returns
 returns c =
     let a = c.args in
-    let g = done-good a.book.now _ (sym c.check-checked.ensures ∙ c.in_default.is) in
+    let g = done-good a.book.now _ (sym c.check.ensures ∙ c.in_ok-check.was) in
     let both = with-commit a.book.now a.count a.r _ _
     (same_count g a.count a.r (c.count.ensures ∙ count-is g) c.if-count.false c.answer_one.ensures) in
     record { call = both.0; removal = both.1 }

@@ -1,24 +1,26 @@
 -- `order`: checked, then one step.
 -- Assumes nothing.
 use mathlib.Core.Path.{sym, ◌∙◌}
+use Rattle.std.proofs.lemmas.Result.{err_from_is_err_and}
 use Rattle.model.specs.Machine.{ordered}
 use Rattle.step.proofs.Kept.{good-call}
 use Rattle.checking.proofs.Verdicts.{call-refused, done-good}
 use Rattle.engine.proofs.Whole.{with-removal}
 use Rattle.engine.proofs.order.Goals as goal
 
-pub returns-in-Refused : goal.returns-in-Refused
-returns-in-Refused c =
+pub returns-in_err-check : goal.returns-in_err-check
+returns-in_err-check c =
     let a = c.args in
+    let p = err_from_is_err_and c.from_residual.result c.from_residual.ensures.1 in
     let both = with-removal a.book.now a.order a.r _ _
-    (call-refused a.book.now (ordered a.order a.r) (sym c.check-checked.ensures ∙ c.in-Refused.is)) in
-    record { call = both.0; removal = both.1 }
+    (call-refused a.book.now (ordered a.order a.r) (sym c.check.ensures ∙ c.in_err-check.was)) in
+    record { call = rw (p.1, p.2) both.0; removal = rw (p.1, p.2) both.1 }
 
 pub answer_one-requires : goal.answer_one-requires
 answer_one-requires c =
     let a = c.args in
     rw c.settings-s.ensures
-    (done-good a.book.now _ (sym c.check-checked.ensures ∙ c.in_default.is))
+    (done-good a.book.now _ (sym c.check.ensures ∙ c.in_ok-check.was))
 
 pub returns : goal.returns
 returns c =
@@ -26,6 +28,6 @@ returns c =
     let both = with-removal a.book.now a.order a.r _ _
     (c.answer_one.ensures
     ∙ sym (good-call (done-good a.book.now _
-    (sym c.check-checked.ensures
-    ∙ c.in_default.is)) (ordered a.order a.r))) in
+    (sym c.check.ensures
+    ∙ c.in_ok-check.was)) (ordered a.order a.r))) in
     record { call = both.0; removal = both.1 }

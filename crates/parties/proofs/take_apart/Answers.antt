@@ -9,5 +9,5 @@ pub loop-i-preserved : goal.loop-i-preserved
 unfolding guest_at
 loop-i-preserved c = rw c.put_guest.ensures (steps c.args.guests.now _ _ c.loop-i.invariant (omega arith))
 
-pub returns-after-loop-i : goal.returns-after-loop-i
-returns-after-loop-i c = all-taken c.args.guests.now _ _ c.loop-i.invariant c.loop-i-test.false
+pub returns : goal.returns
+returns c = λ few. all-taken c.args.guests.now _ _ c.loop-i.invariant (omega (arith, few, c.loop-i-test.false)) few

@@ -1,11 +1,7 @@
 -- `take_apart`: before turn i the words say the first i guests.
 -- Assumes nothing.
-use Rattle.std.proofs.Common.{◌-◌}
 use Rattle.parties.proofs.Apart.{Taken}
 use Rattle.parties.proofs.take_apart.Given as goal
 
 abbrev pub invariant-loop-i : goal.invariant-loop-i
 invariant-loop-i l = Taken l.guests l.i l.words
-
-abbrev pub decreases-loop-i : goal.decreases-loop-i
-decreases-loop-i l = 64 - l.i

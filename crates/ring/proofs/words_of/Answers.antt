@@ -4,8 +4,8 @@ use mathlib.Core.Path.{sym, ap}
 use Rattle.ring.specs.Telling.{told_of}
 use Rattle.ring.proofs.words_of.Goals as goal
 
-pub returns-in-Done : goal.returns-in-Done
-returns-in-Done c = ap told_of (sym c.in-Done.is)
+pub returns-in-Ok : goal.returns-in-Ok
+returns-in-Ok c = ap told_of (sym c.in-Ok.is)
 
-pub returns-in-Refused : goal.returns-in-Refused
-returns-in-Refused c = ap told_of (sym c.in-Refused.is)
+pub returns-in-Err : goal.returns-in-Err
+returns-in-Err c = ap told_of (sym c.in-Err.is)

@@ -1,7 +1,7 @@
 -- `book_step`: the answer that the words tell.
 -- Assumes nothing.
 use mathlib.Core.Path.{◌∙◌, ap}
-use Rattle.model.specs.declared.Answer.{Answer}
+use Rattle.model.specs.Answers.{Answer}
 use Rattle.book.specs.Good.{answered}
 use Rattle.step.proofs.Kept.{answer-told}
 use Rattle.step.proofs.book_step.Goals as goal

@@ -1,6 +1,7 @@
 -- `foresee`: judged, and question 30 behind the answer.
 -- Assumes nothing.
 use mathlib.Core.Path.{sym, ◌∙◌}
+use Rattle.judge.proofs.Whole.{err-is}
 use lib.Seq.{length-take-le}
 use Rattle.model.proofs.Ledger.{diary-fits, last_word}
 use Rattle.book.specs.Lent.{reading}
@@ -10,14 +11,14 @@ use Rattle.step.proofs.foresee.Goals as goal
 pub slice_bounds-judge-end : goal.slice_bounds-judge-end
 slice_bounds-judge-end c = sym (length-take-le _ _ (diary-fits _ c.requires.good_book.laid c.requires.good_book.read c.requires.diary_value))
 
-pub judge-answer-requires : goal.judge-answer-requires
+pub judge-requires : goal.judge-requires
 unfolding reading
-judge-answer-requires c = part-good c.requires.good_book _ c.requires.diary_value
+judge-requires c = part-good c.requires.good_book _ c.requires.diary_value
 
-pub returns-in-Refused : goal.returns-in-Refused
+pub returns-in_err-value : goal.returns-in_err-value
 unfolding reading
-returns-in-Refused c =
-    seen-refused c.requires.good_book c.requires.diary_value c.args.r c.judge-answer.ensures c.in-Refused.is
+returns-in_err-value c =
+    rw (err-is _ c.from_residual.ensures.1) (seen-refused c.requires.good_book c.requires.diary_value c.args.r c.judge.ensures c.in_err-value.was)
 
 pub count-requires : goal.count-requires
 count-requires c = last_word _ c.requires.good_book.laid
@@ -25,11 +26,12 @@ count-requires c = last_word _ c.requires.good_book.laid
 pub returns-then-is_full : goal.returns-then-is_full
 unfolding reading
 returns-then-is_full c =
-    seen-full c.requires.good_book c.requires.diary_value c.args.r c.judge-answer.ensures c.in_default.is (c.count.ensures ∙ count-is c.requires.good_book)
+    seen-full c.requires.good_book c.requires.diary_value c.args.r c.judge.ensures c.in_ok-value.was (c.count.ensures ∙ count-is c.requires.good_book)
     (sym c.is_full.ensures ∙ c.if-is_full.true)
 
 pub returns : goal.returns
 unfolding reading
 returns c =
-    seen_done c.requires.good_book c.requires.diary_value c.args.r c.judge-answer.ensures c.in_default.is (c.count.ensures ∙ count-is c.requires.good_book)
+    sym c.in_ok-value.was
+    ∙ seen_done c.requires.good_book c.requires.diary_value c.args.r c.judge.ensures c.in_ok-value.was (c.count.ensures ∙ count-is c.requires.good_book)
     (sym c.is_full.ensures ∙ c.if-is_full.false)

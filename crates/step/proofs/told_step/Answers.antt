@@ -2,7 +2,7 @@
 -- Assumes nothing.
 use mathlib.Core.Path.{◌∙◌, ap, ap₂}
 use native.Mathlib.Omega.{arith}
-use Rattle.model.specs.declared.Answer.{Answer}
+use Rattle.model.specs.Answers.{Answer}
 use Rattle.model.specs.Tail.{Tail, entry_at, noted, tail_words}
 use Rattle.model.specs.Ledger.{ledger_of}
 use Rattle.model.specs.Machine.{kept_answer}
@@ -27,8 +27,8 @@ slice_bounds-find-start c = tail-fits _ c.requires.good_book.laid c.requires.goo
 pub find-requires : goal.find-requires
 find-requires c = tail-long c.requires.good_book c.requires.diary_value
 
-pub offset_bounds-book-diary-in-At : goal.offset_bounds-book-diary-in-At
-offset_bounds-book-diary-in-At c = omega (arith, diary-fits _ c.requires.good_book.laid c.requires.good_book.read c.requires.diary_value)
+pub offset_bounds-book-diary-in-Some : goal.offset_bounds-book-diary-in-Some
+offset_bounds-book-diary-in-Some c = omega (arith, diary-fits _ c.requires.good_book.laid c.requires.good_book.read c.requires.diary_value)
 
 pub slice_bounds-answer_to-count : goal.slice_bounds-answer_to-count
 slice_bounds-answer_to-count c = tail-fits _ c.requires.good_book.laid c.requires.good_book.read c.requires.diary_value
@@ -40,17 +40,17 @@ pub answer_to-requires : goal.answer_to-requires
 answer_to-requires c = record {
   tail_len = tail-long c.requires.good_book c.requires.diary_value;
   place_lt_ring_places = kept-place (ledger_of c.args.book.now).tail c.args.order
-      (found-kept c.requires.good_book c.requires.diary_value c.args.order c.find.ensures c.in-At.is);
+      (found-kept c.requires.good_book c.requires.diary_value c.args.order c.find.ensures c.in-Some.is);
 }
 
-pub returns-in-At : goal.returns-in-At
-returns-in-At c =
+pub returns-in-Some : goal.returns-in-Some
+returns-in-Some c =
     record {
       answer = c.answer_to.result;
       told = c.words_of.ensures;
       is = kept-answered c.requires.good_book c.args.order c.args.r
-          (found-kept c.requires.good_book c.requires.diary_value c.args.order c.find.ensures c.in-At.is)
-          (c.answer_to.ensures ∙ ap (λ (t : Tail). kept_answer (entry_at t c.in-At.place) c.args.r) (tail-is c.requires.good_book c.requires.diary_value));
+          (found-kept c.requires.good_book c.requires.diary_value c.args.order c.find.ensures c.in-Some.is)
+          (c.answer_to.ensures ∙ ap (λ (t : Tail). kept_answer (entry_at t c.in-Some.place) c.args.r) (tail-is c.requires.good_book c.requires.diary_value));
     }
 
 pub offset_bounds-book-diary-2 : goal.offset_bounds-book-diary-2

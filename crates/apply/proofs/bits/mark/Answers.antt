@@ -1,7 +1,7 @@
 -- `bits::mark`: the pool word of the member, with its bit turned.
 -- Assumes nothing.
-use Prim.Native.Nat.{ℕ, ◌/◌, ◌%◌}
-use mathlib.Core.Path.{◌∙◌, ap}
+use Rattle.std.specs.Prelude.{ℕ, ◌/◌, ◌%◌, eqb, not}
+use Rattle.std.proofs.Common.{◌∙◌, ap}
 use Rattle.book.specs.Lent.{reading}
 use Rattle.book.specs.Stores.{replaced}
 use Rattle.apply.specs.Stores.{flipped, marked}
@@ -9,13 +9,8 @@ use Rattle.apply.proofs.bits.mark.Goals as goal
 
 pub returns : goal.returns
 unfolding marked
-returns c =
+returns g c =
     let a = c.args in
-    let b = reading a.book.now in
-    record {
-      is = c.put_word.ensures.is
-          ∙ ap (λ (w : ℕ). replaced a.g w a.slot (a.v / 32) b) c.flip-next.ensures
-          ∙ ap (λ (w : ℕ). replaced a.g (flipped a.on w (a.v % 32)) a.slot (a.v / 32) b)
-          c.cell-word.ensures;
-      stays = c.put_word.ensures.stays;
-    }
+    let w = c.put_word.ensures in
+    let e = c.flip-next.ensures ∙ ap (λ (w : ℕ). flipped (not (eqb g.row.ON 0)) w (a.v % 32)) c.cell-word.ensures in
+    record { is = w.is ∙ ap (λ (w : ℕ). replaced a.g w a.slot (a.v / 32) (reading a.book.now)) e; stays = w.stays }

@@ -6,14 +6,6 @@ use Rattle.queries.proofs.Spans.{bookings-none-on}
 use Rattle.apply.proofs.Removals.{away-kept, erased-is, erased-count}
 use Rattle.apply.proofs.removal.remove_on.Goals as goal
 
-pub on_leave-requires : goal.on_leave-requires
-on_leave-requires c = record {
-  good = c.requires.good;
-  sited = c.requires.sited;
-  date_lt_dates = c.requires.date_lt_dates;
-  visitor_lt_visitors = c.requires.v_lt_visitors;
-}
-
 pub returns-then-not-on_leave : goal.returns-then-not-on_leave
 returns-then-not-on_leave c =
     let away = sym c.on_leave.ensures ∙ c.if-not-on_leave.true in
@@ -22,13 +14,8 @@ returns-then-not-on_leave c =
       value = sym (bookings-none-on c.requires.good c.args.v c.args.date.0 away);
     }
 
-pub erase-requires : goal.erase-requires
-erase-requires c = record {
-  laid = good-laid c.requires.good;
-  sited = c.requires.sited;
-  v_lt_visitors = c.requires.v_lt_visitors;
-  date_lt_dates = c.requires.date_lt_dates;
-}
+pub erase-requires-clause-laid : goal.erase-requires-clause-laid
+erase-requires-clause-laid c = good-laid c.requires.good
 
 pub returns : goal.returns
 returns c = record {

@@ -6,24 +6,11 @@ use mathlib.Core.Bool.{Bool, cond}
 use lib.ListN.{get_or}
 use borrow.Author.Tests.{eq-eqb, ne_eqb}
 use Rattle.book.specs.Grids.{place, cell_at}
-use Rattle.book.specs.Lent.{reading, Lies}
+use Rattle.book.specs.Lent.{reading}
 use Rattle.book.specs.Stores.{puts, empty, stored, cleared}
 use Rattle.book.proofs.Turns.{wrote_by, wrote_none}
 use Rattle.book.proofs.Sweeps.{length-cleared}
-use borrow.Author.Rules.{rules}
 use Rattle.book.proofs.puts.clear.Goals as goal
-
-pub at-n-requires : goal.at-n-requires
-unfolding reading Lies
-at-n-requires c = search rules
-
-pub offset_bounds-book-n : goal.offset_bounds-book-n
-unfolding reading Lies
-offset_bounds-book-n c = search rules
-
-pub bounds-book-n : goal.bounds-book-n
-unfolding reading Lies
-bounds-book-n c = search rules
 
 pub returns-then-book-n : goal.returns-then-book-n
 unfolding reading cleared cell_at
@@ -32,10 +19,6 @@ returns-then-book-n c = let a = c.args in
     (ap (λ (t : Bool). cond t (stored a.g empty a.slot a.item a.book.now) a.book.now)
     (ne_eqb (get_or a.book.now (place a.g a.slot a.item 0) 0) a.w
     (λ e. c.if-book-n.true (ap (λ (n : ℕ). get_or a.book.now n 0) c.at-n.ensures.at ∙ e))))
-
-pub store-requires : goal.store-requires
-unfolding reading Lies
-store-requires c = search rules
 
 pub returns : goal.returns
 unfolding reading cleared stored cell_at

@@ -2,20 +2,11 @@
 -- Assumes nothing.
 use Prim.Native.Nat.{ℕ}
 use mathlib.Core.Path.{◌∙◌, ap}
-use Rattle.book.specs.Lent.{reading, Lies}
+use Rattle.book.specs.Lent.{reading}
 use Rattle.book.specs.Stores.{puts, stored}
 use Rattle.book.proofs.Turns.{wrote_by}
 use Rattle.book.proofs.Sweeps.{length-stored}
-use borrow.Author.Rules.{rules}
 use Rattle.book.proofs.puts.put.Goals as goal
-
-pub at-n-requires : goal.at-n-requires
-unfolding reading Lies
-at-n-requires c = search rules
-
-pub store-requires : goal.store-requires
-unfolding reading Lies
-store-requires c = search rules
 
 pub returns : goal.returns
 unfolding reading stored

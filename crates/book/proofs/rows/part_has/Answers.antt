@@ -23,21 +23,6 @@ block row w i h =
 pub loop-i-init : goal.loop-i-init
 loop-i-init c = (omega arith, refl)
 
-pub overflow_add-next : goal.overflow_add-next
-overflow_add-next c = omega arith
-
-pub offset_bounds-row-i : goal.offset_bounds-row-i
-offset_bounds-row-i c = omega arith
-
-pub slice_bounds-part_count-count : goal.slice_bounds-part_count-count
-slice_bounds-part_count-count c = omega arith
-
-pub slice_bounds-part_count-start : goal.slice_bounds-part_count-start
-slice_bounds-part_count-start c = omega arith
-
-pub slice_bounds-part_count-end : goal.slice_bounds-part_count-end
-slice_bounds-part_count-end c = omega arith
-
 pub part_count-requires : goal.part_count-requires
 part_count-requires c =
     let i = c.loop-i.i in
@@ -50,26 +35,11 @@ returns-then-part_count-ne0 c =
     let k = part-le a.row.now a.w (c.loop-i.i + 512) (omega arith) in
     sym (ap not (ne_eqb (part_count a.row.now a.w) 0 (λ z. c.if-part_count-ne0.true (omega (arith, c.part_count.ensures, b, k, z)))))
 
-pub loop-i-smaller : goal.loop-i-smaller
-loop-i-smaller c = omega arith
-
 pub loop-i-preserved : goal.loop-i-preserved
 loop-i-preserved c =
     let a = c.args in
     let b = block a.row.now a.w c.loop-i.i (omega arith) in
     (omega arith, omega (arith, c.part_count.ensures, c.if-part_count-ne0.false, b, c.loop-i.invariant.1))
-
-pub offset_bounds-row-i-2 : goal.offset_bounds-row-i-2
-offset_bounds-row-i-2 c = omega arith
-
-pub slice_bounds-part_count-count-2 : goal.slice_bounds-part_count-count-2
-slice_bounds-part_count-count-2 c = omega arith
-
-pub slice_bounds-part_count-start-2 : goal.slice_bounds-part_count-start-2
-slice_bounds-part_count-start-2 c = omega arith
-
-pub slice_bounds-part_count-end-2 : goal.slice_bounds-part_count-end-2
-slice_bounds-part_count-end-2 c = omega arith
 
 pub part_count-requires-2 : goal.part_count-requires-2
 part_count-requires-2 c =

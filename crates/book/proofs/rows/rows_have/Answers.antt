@@ -5,13 +5,8 @@ use Prim.Native.Nat.{ℕ}
 use mathlib.Core.Path.{◌∙◌, ap}
 use mathlib.Core.Bool.{not}
 use lib.Dec.{eqb}
-use native.Mathlib.Omega.{arith}
-use Rattle.book.proofs.RowRuns.{block-few, part-counts}
+use Rattle.book.proofs.RowRuns.{part-counts}
 use Rattle.book.proofs.rows.rows_have.Goals as goal
-
-pub part_has-requires : goal.part_has-requires
-part_has-requires c =
-    omega (arith, c.block-rows.ensures.long, block-few c.args.g (reading c.args.book.now) c.args.lo c.args.hi c.requires.lies c.requires.lo_le_hi.1)
 
 pub returns : goal.returns
 returns c =

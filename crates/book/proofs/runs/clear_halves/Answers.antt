@@ -12,20 +12,9 @@ loop-n-init c =
     let a = c.args in
     (refl, omega arith, omega arith, omega (arith, c.requires.0), halves-none a.w a.start (a.start + a.half) a.book.now)
 
-pub clear_block-cleared-requires : goal.clear_block-cleared-requires
-clear_block-cleared-requires c =
-    let room = block-left c.loop-n.n (c.args.start + c.args.half) c.loop-n-test.true c.loop-n.invariant.3 in
-    (omega arith, omega (arith, room, c.requires.1, c.loop-n.invariant.0), omega (arith, c.requires.2, c.loop-n.invariant.0))
-
 pub overflow_add-cleared : goal.overflow_add-cleared
 overflow_add-cleared c =
     omega (arith, c.requires.1, c.requires.2, c.loop-n.invariant.2, halves-few c.loop-n.invariant.4, cleared-few c.clear_block-cleared.ensures)
-
-pub clear_block-cleared-requires-in-loop-n : goal.clear_block-cleared-requires-in-loop-n
-clear_block-cleared-requires-in-loop-n c =
-    let room = block-left c.loop-n.n (c.args.start + c.args.half) c.loop-n-test.true c.loop-n.invariant.3 in
-    let e = c.clear_block-cleared.auto.book in
-    (omega arith, omega (arith, room, c.requires.1, c.loop-n.invariant.0, e), omega (arith, c.requires.2, c.loop-n.invariant.0, e))
 
 pub overflow_add-cleared-in-loop-n : goal.overflow_add-cleared-in-loop-n
 overflow_add-cleared-in-loop-n c =

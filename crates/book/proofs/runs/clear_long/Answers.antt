@@ -1,11 +1,8 @@
--- `runs::clear_long`: a short run; or two halves of whole blocks, and the rest.
+-- `runs::clear_long`: two halves of whole blocks, and the rest.
 -- Assumes nothing.
 use native.Mathlib.Omega.{arith}
 use Rattle.book.proofs.Sweeps.{cleared-then, cleared-few}
 use Rattle.book.proofs.runs.clear_long.Goals as goal
-
-pub returns-then-end-start-lt-LONG : goal.returns-then-end-start-lt-LONG
-returns-then-end-start-lt-LONG c = c.clear_short.ensures
 
 pub overflow_add-result : goal.overflow_add-result
 overflow_add-result c =

@@ -6,7 +6,7 @@ use Rattle.book.proofs.Sweeps.{cleared-none, cleared-then, cleared-few}
 use Rattle.book.proofs.runs.clear_run.Goals as goal
 
 pub loop-n-init : goal.loop-n-init
-loop-n-init c = (refl, omega arith, c.requires.0, cleared-none c.args.w c.args.start c.args.book.now)
+loop-n-init c = (refl, omega arith, c.requires.0, cleared-none c.args.w c.args.run.start c.args.book.now)
 
 pub overflow_add-cleared : goal.overflow_add-cleared
 overflow_add-cleared c =

@@ -5,25 +5,13 @@ use mathlib.Core.Path.{refl, ◌∙◌}
 use native.Mathlib.Omega.{arith}
 use lib.ListN.{length, length-set}
 use Rattle.book.proofs.Sweeps.{cleared-few}
-use Rattle.book.proofs.Listings.{holds-none, holds-next, listed-is, few-blocks, one-few, block-few}
+use Rattle.book.proofs.Listings.{holds-none, holds-next, listed-is, few-blocks, block-few}
 use Rattle.book.proofs.runs.list_blocks.Goals as goal
 
 pub loop-n-init : goal.loop-n-init
 loop-n-init c =
     let a = c.args in
-    (refl, omega arith, c.requires.start_le_end.0, holds-none a.w a.start a.book.now a.places.now)
-
-pub offset_bounds-places-blocks : goal.offset_bounds-places-blocks
-offset_bounds-places-blocks c =
-    omega (arith, few-blocks c.loop-n.invariant.3 (omega (arith, c.loop-n.invariant.2, c.requires.end_bound.0)))
-
-pub bounds-places-blocks : goal.bounds-places-blocks
-bounds-places-blocks c =
-    omega (arith, c.loop-n.invariant.0, c.requires.end_bound.1, few-blocks c.loop-n.invariant.3 (omega (arith, c.loop-n.invariant.2, c.requires.end_bound.0)))
-
-pub overflow_add-blocks : goal.overflow_add-blocks
-overflow_add-blocks c =
-    omega (arith, few-blocks c.loop-n.invariant.3 (omega (arith, c.loop-n.invariant.2, c.requires.end_bound.0)), one-few c.part_count-here.result c.one_if_any-blocks.ensures)
+    (refl, omega arith, c.requires.start_le_end.0, holds-none a.w a.run.start a.book.now a.places.now)
 
 pub overflow_add-words : goal.overflow_add-words
 overflow_add-words c =
@@ -38,16 +26,8 @@ loop-n-preserved c =
       length-set c.loop-n.places c.loop-n.blocks _ ∙ c.loop-n.invariant.0,
       omega (arith, c.loop-n.invariant.1),
       omega (arith, t, c.loop-n.invariant.2),
-      holds-next c.loop-n.invariant.1 room (omega (arith, c.loop-n.invariant.0, c.requires.end_bound.1, few-blocks c.loop-n.invariant.3 (omega (arith, c.loop-n.invariant.2, c.requires.end_bound.0)))) c.part_count-here.ensures c.one_if_any-blocks.ensures c.loop-n.invariant.3,
+      holds-next c.loop-n.invariant.1 room (omega (arith, c.loop-n.invariant.0, c.requires.end_bound.1, few-blocks c.loop-n.invariant.3 (omega (arith, c.loop-n.invariant.2, c.requires.end_bound.0)))) c.part_count-here.ensures c.from-blocks.ensures c.loop-n.invariant.3,
     )
-
-pub offset_bounds-places-blocks-2 : goal.offset_bounds-places-blocks-2
-offset_bounds-places-blocks-2 c =
-    omega (arith, few-blocks c.loop-n.invariant.3 (omega (arith, c.loop-n.invariant.2, c.requires.end_bound.0)))
-
-pub bounds-places-blocks-2 : goal.bounds-places-blocks-2
-bounds-places-blocks-2 c =
-    omega (arith, c.loop-n.invariant.0, c.requires.end_bound.1, few-blocks c.loop-n.invariant.3 (omega (arith, c.loop-n.invariant.2, c.requires.end_bound.0)))
 
 pub returns : goal.returns
 returns c =

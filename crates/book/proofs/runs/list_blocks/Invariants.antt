@@ -8,7 +8,7 @@ use Rattle.book.proofs.runs.list_blocks.Given as goal
 
 abbrev pub invariant-loop-n : goal.invariant-loop-n
 invariant-loop-n l =
-    (length l.places ≡ length l.initial.places) × (l.start ≤ l.n) × (l.n ≤ l.end) × Holds l.w l.start l.n l.book l.places l.blocks l.words
+    (length l.places ≡ length l.initial.places) × (l.run.start ≤ l.n) × (l.n ≤ l.run.end) × Holds l.w l.run.start l.n l.book l.places l.blocks l.words
 
 abbrev pub decreases-loop-n : goal.decreases-loop-n
-decreases-loop-n l = l.end - l.n
+decreases-loop-n l = l.run.end - l.n

@@ -55,24 +55,24 @@ block-ride-requires c =
     let both = block-fits c.args.site.settings p.starts _ ride_cells _ _ p.laid (run-order p.times) p.times.ends.most in
     record { lies = both.0; from_le_to = both.1 }
 
-pub overflow_sub-n : goal.overflow_sub-n
-overflow_sub-n c = omega (arith, run-order c.requires.at.sessions)
+pub overflow_sub-parts : goal.overflow_sub-parts
+overflow_sub-parts c = omega (arith, run-order c.requires.at.sessions)
 
-pub overflow_cast-n : goal.overflow_cast-n
-overflow_cast-n c =
+pub overflow_cast-parts : goal.overflow_cast-parts
+overflow_cast-parts c =
     let p = c.requires.at in
     omega (arith, p.sessions.ends.most, unit-le _ p.laid.ranges sessions)
 
-pub overflow_sub-q : goal.overflow_sub-q
-overflow_sub-q c = omega (arith, run-order c.requires.at.times)
+pub overflow_sub-parts-2 : goal.overflow_sub-parts-2
+overflow_sub-parts-2 c = omega (arith, run-order c.requires.at.times)
 
-pub overflow_cast-q : goal.overflow_cast-q
-overflow_cast-q c =
+pub overflow_cast-parts-2 : goal.overflow_cast-parts-2
+overflow_cast-parts-2 c =
     let p = c.requires.at in
     omega (arith, p.times.ends.most, unit-le _ p.laid.ranges times)
 
-pub date-requires : goal.date-requires
-date-requires c =
+pub invariant_of-parts : goal.invariant_of-parts
+invariant_of-parts c =
     let p = c.requires.at in
     let b = reading c.args.book.now in
     let d = c.args.d.0 in
@@ -96,7 +96,7 @@ date-requires c =
         lunches = lunch.long ∙ one-long _ _;
         rides = ride.long;
       };
-      caps = c.requires.caps;
+      caps_of = c.requires.caps;
     }
 
 pub returns : goal.returns
@@ -114,6 +114,6 @@ returns c =
     let lunch = block_run c.args.site.settings p.starts b lunch_triples d (d + 1) c.block-lunch.ensures in
     let ride = block_run c.args.site.settings p.starts b ride_cells t.from.0 t.to.0 c.block-ride.ensures in
     let caps = c.args.caps.now in
-    relay c.date.result (day-kept c.args.site.settings caps b p.laid d p.date p.sessions p.times)
+    relay c.is_lawful.result (day-kept c.args.site.settings caps b p.laid d p.date p.sessions p.times)
     (kept-day c.args.site.settings caps b p.laid d p.date p.sessions p.times)
-    (rw (leave.is, hotel.is, stand.is, attend.is, conf.is, lunch.is, ride.is) at c.date.ensures)
+    (rw (leave.is, hotel.is, stand.is, attend.is, conf.is, lunch.is, ride.is) at c.is_lawful.ensures)

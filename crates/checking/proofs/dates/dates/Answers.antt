@@ -7,23 +7,23 @@ use borrow.Author.Count.{below_more}
 use Rattle.rules.proofs.Answers.{said-true, said-false}
 use Rattle.checking.proofs.dates.dates.Goals as goal
 
-pub date_of_session-date-requires : goal.date_of_session-date-requires
-date_of_session-date-requires c = c.requires.laid.ranges
+pub date_of-date-requires : goal.date_of-date-requires
+date_of-date-requires c = c.requires.laid.ranges
 
 pub loop-date-init : goal.loop-date-init
 loop-date-init c =
-    let e : c.date_of_session-date.result.0 ≡ 0 = c.date_of_session-date.ensures ∙ zero-div _ in
+    let e : c.date_of-date.result.0 ≡ 0 = c.date_of-date.ensures ∙ zero-div _ in
     (omega (arith, e), λ k h. absurd (omega (arith, e, h)))
 
-pub sessions_on-sessions-requires : goal.sessions_on-sessions-requires
-sessions_on-sessions-requires c = record {
+pub on_dates-sessions-requires : goal.on_dates-sessions-requires
+on_dates-sessions-requires c = record {
   ranges = c.requires.laid.ranges;
   first_le_last = omega arith;
   last_lt_dates = omega arith;
 }
 
-pub times_on-times-requires : goal.times_on-times-requires
-times_on-times-requires c = record {
+pub on_dates-times-requires : goal.on_dates-times-requires
+on_dates-times-requires c = record {
   ranges = c.requires.laid.ranges;
   first_le_last = omega arith;
   last_lt_dates = omega arith;
@@ -31,7 +31,7 @@ times_on-times-requires c = record {
 
 pub date_at-requires : goal.date_at-requires
 date_at-requires c = record {
-  at = record { laid = c.requires.laid; starts = c.requires.sited; date = omega arith; sessions = c.sessions_on-sessions.ensures; times = c.times_on-times.ensures };
+  at = record { laid = c.requires.laid; starts = c.args.site.sited; date = omega arith; sessions = c.on_dates-sessions.ensures; times = c.on_dates-times.ensures };
   caps = c.requires.caps;
 }
 

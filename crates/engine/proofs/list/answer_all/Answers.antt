@@ -28,12 +28,6 @@ answer_at-requires c =
       i_in_bounds = omega (arith, c.requires.n_in_bounds, c.loop-i.invariant.1.long);
     }
 
-pub overflow_add-i : goal.overflow_add-i
-overflow_add-i c = omega arith
-
-pub loop-i-smaller : goal.loop-i-smaller
-loop-i-smaller c = omega arith
-
 pub loop-i-preserved : goal.loop-i-preserved
 loop-i-preserved c =
     let a = c.args in

@@ -1,7 +1,7 @@
 -- A list of one request is one step, and its three words tell the answer.
 -- Assumes nothing.
 use mathlib.Core.Path.{◌∙◌, ap}
-use Rattle.model.specs.declared.Answer.{Answer}
+use Rattle.model.specs.Answers.{Answer}
 use Rattle.book.specs.Good.{answered}
 use Rattle.engine.proofs.Told.{one_told}
 use Rattle.engine.proofs.list.answer_one.Goals as goal

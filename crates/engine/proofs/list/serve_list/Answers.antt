@@ -3,16 +3,19 @@
 use mathlib.Core.Path.{refl, sym, ◌∙◌, ap₂}
 use native.Mathlib.Omega.{arith}
 use lib.ListN.{length}
+use Rattle.std.proofs.lemmas.Result.{err_from_is_err_and}
 use Rattle.book.specs.Good.{answered}
 use Rattle.engine.proofs.Splices.{list-fits}
 use Rattle.engine.proofs.Whole.{serve-refused, serve-laid, serve-done}
 use Rattle.engine.proofs.list.serve_list.Goals as goal
 
-pub returns-in-Refused : goal.returns-in-Refused
-returns-in-Refused c =
+pub returns-in_err-lay : goal.returns-in_err-lay
+returns-in_err-lay c =
     let a = c.args in
-    serve-refused a.words.now a.book.now a.width a.list.now a.answers.now
-    (ap₂ answered (sym c.in-Refused.is) refl ∙ c.lay-laid.ensures)
+    let p = err_from_is_err_and c.from_residual.result c.from_residual.ensures.1 in
+    rw (p.1, p.2)
+    (serve-refused a.words.now a.book.now a.width a.list.now a.answers.now
+    (ap₂ answered (sym c.in_err-lay.was) refl ∙ c.lay.ensures))
 
 pub answer_all-requires : goal.answer_all-requires
 answer_all-requires c =
@@ -20,8 +23,8 @@ answer_all-requires c =
     record {
       good_book = rw c.settings-s.ensures
           (serve-laid a.words.now a.book.now _ _
-          (ap₂ answered (sym c.in_default.is) refl
-          ∙ c.lay-laid.ensures));
+          (ap₂ answered (sym c.in_ok-lay.was) refl
+          ∙ c.lay.ensures));
       le_width = c.requires;
       width_in_bounds = list-fits c.requires (length a.answers.now) c.answerable_in-count.ensures;
       n_in_bounds = omega (arith, c.answerable_in-count.ensures);
@@ -31,6 +34,6 @@ pub returns : goal.returns
 returns c =
     let a = c.args in
     serve-done a.words.now a.book.now a.width a.list.now a.answers.now
-    (ap₂ answered (sym c.in_default.is) refl
-    ∙ c.lay-laid.ensures)
+    (ap₂ answered (sym c.in_ok-lay.was) refl
+    ∙ c.lay.ensures)
     c.answerable_in-count.ensures c.answer_all.ensures

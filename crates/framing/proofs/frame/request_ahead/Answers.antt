@@ -1,28 +1,29 @@
 -- `frame::request_ahead`: word by word.
 -- Assumes nothing.
-use native.Mathlib.Omega.{arith}
-use Rattle.framing.specs.Frame.{request_at}
-use Rattle.text.proofs.Hexes.{digits-part}
-use Rattle.framing.proofs.Framing.{digits_from}
+use mathlib.Core.Path.{sym, ◌∙◌, ap}
+use Rattle.std.specs.Option.{is_some}
+use Rattle.framing.proofs.Framing.{none-of, request_some}
 use Rattle.framing.proofs.frame.request_ahead.Goals as goal
 
+pub returns-then-not-all : goal.returns-then-not-all
+returns-then-not-all c =
+    none-of c.args.s.now
+    (c.is_some.ensures ∙ ap is_some c.word_at-kind.ensures)
+    (c.is_some-2.ensures ∙ ap is_some c.word_at-a.ensures)
+    (c.is_some-3.ensures ∙ ap is_some c.word_at-b.ensures)
+    (c.is_some-4.ensures ∙ ap is_some c.word_at-first.ensures)
+    (c.is_some-5.ensures ∙ ap is_some c.word_at-last.ensures)
+    (c.is_some-6.ensures ∙ ap is_some c.word_at-n.ensures)
+    (c.is_some-7.ensures ∙ ap is_some c.word_at-info.ensures)
+    c.if-not-all.true
+
 pub returns : goal.returns
-unfolding request_at
 returns c =
-    let l = c.args.s.now in
-    record {
-      all =
-          digits_from l 48
-          (digits_from l 40 (digits_from l 32 (digits_from l 24 (digits_from l 16 (digits_from l 8 c.word_at-kind.ensures.all c.word_at-a.ensures.all) c.word_at-b.ensures.all) c.word_at-first.ensures.all) c.word_at-last.ensures.all) c.word_at-n.ensures.all)
-          c.word_at-info.ensures.all;
-      shows = λ e j.
-          record {
-            kind = c.word_at-kind.ensures.shows (digits-part l 0 8 56 (omega arith) e) j;
-            a = c.word_at-a.ensures.shows (digits-part l 8 8 56 (omega arith) e) j;
-            b = c.word_at-b.ensures.shows (digits-part l 16 8 56 (omega arith) e) j;
-            first = c.word_at-first.ensures.shows (digits-part l 24 8 56 (omega arith) e) j;
-            last = c.word_at-last.ensures.shows (digits-part l 32 8 56 (omega arith) e) j;
-            n = c.word_at-n.ensures.shows (digits-part l 40 8 56 (omega arith) e) j;
-            info = c.word_at-info.ensures.shows (digits-part l 48 8 56 (omega arith) e) j;
-          };
-    }
+    request_some c.args.s.now
+    (sym c.unwrap.ensures ∙ c.word_at-kind.ensures)
+    (sym c.unwrap-2.ensures ∙ c.word_at-a.ensures)
+    (sym c.unwrap-3.ensures ∙ c.word_at-b.ensures)
+    (sym c.unwrap-4.ensures ∙ c.word_at-first.ensures)
+    (sym c.unwrap-5.ensures ∙ c.word_at-last.ensures)
+    (sym c.unwrap-6.ensures ∙ c.word_at-n.ensures)
+    (sym c.unwrap-7.ensures ∙ c.word_at-info.ensures)

@@ -3,11 +3,14 @@
 use mathlib.Core.Path.{refl, sym, ◌∙◌, ap, ap₂}
 use mathlib.Core.Logic.{inl, inr}
 use native.Mathlib.Omega.{arith}
-use borrow.Author.Tests.{not-true, not-false}
+use lib.ListN.{take, drop}
+use Rattle.std.proofs.lemmas.Option.{cond_some}
+use Rattle.model.specs.Text.{shown}
 use Rattle.model.specs.Machine.{ordered}
 use Rattle.model.proofs.Search.{both}
+use Rattle.text.specs.Digits.{digits_only}
 use Rattle.text.proofs.Hexes.{digits-part}
-use Rattle.framing.proofs.Framing.{digits_from}
+use Rattle.framing.proofs.Framing.{shows-none, digits_from}
 use Rattle.framing.proofs.Looking.{frame-by, none-by, request-call, order-call}
 use Rattle.framing.proofs.line.framed.Goals as goal
 
@@ -19,10 +22,11 @@ returns-then-s-eq10 c =
 pub other-requires : goal.other-requires
 other-requires c = none-by _ (λ h. c.if-s-eq10.false h.1) (λ h. omega (arith, h.0))
 
-pub other-requires-then-not-order : goal.other-requires-then-not-order
-other-requires-then-not-order c =
-    none-by _ (λ h. c.if-s-eq10.false h.1)
-    (λ h. both (c.word_at-order.ensures.all ∙ digits-part c.args.s.now 56 8 64 (omega arith) h.2) (not-true _ c.if-not-order.true))
+pub other-requires-in_default : goal.other-requires-in_default
+other-requires-in_default c =
+    let l = c.args.s.now in
+    let f = shows-none (digits_only (take 8 (drop 56 l))) (shown (take 8 (drop 56 l))) c.in_default.ensures in
+    none-by _ (λ h. c.if-s-eq10.false h.1) (λ h. both (digits-part l 56 8 64 (omega arith) h.2) f)
 
 pub other-requires-then-s-ne10 : goal.other-requires-then-s-ne10
 other-requires-then-s-ne10 c = none-by _ (λ h. c.if-s-eq10.false h.1) (λ h. c.if-s-ne10.true h.1)
@@ -30,7 +34,7 @@ other-requires-then-s-ne10 c = none-by _ (λ h. c.if-s-eq10.false h.1) (λ h. c.
 pub returns : goal.returns
 returns c =
     let l = c.args.s.now in
-    let d = sym c.word_at-order.ensures.all ∙ not-false _ c.if-not-order.false in
-    let e = digits_from l 56 (sym c.requires.digits_ahead.digits) (sym d) in
+    let d = cond_some (digits_only (take 8 (drop 56 l))) (shown (take 8 (drop 56 l))) c.in-Some.order (sym c.in-Some.ensures) in
+    let e = digits_from l 56 (sym c.requires.digits_ahead.digits) (sym d.0) in
     let f = frame-by l 64 (inr refl) (omega arith, c.if-s-ne10.false, sym e) in
-    (f.0, f.1, ap₂ ordered (c.word_at-order.ensures.shows d) c.requires.request_value ∙ order-call l (omega arith))
+    (f.0, f.1, ap₂ ordered (sym d.1) c.requires.request_value ∙ order-call l (omega arith))

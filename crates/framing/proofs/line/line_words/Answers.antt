@@ -1,32 +1,28 @@
 -- `line::line_words`: the words before k are read.
 -- Assumes nothing.
-use native.Mathlib.Omega.{arith}
-use lib.Seq.{take_all}
-use borrow.Author.Rules.{rules}
 use Prim.Native.Nat.{ℕ, ◌+◌, ◌/◌}
-use mathlib.Core.Path.{◌≡◌, refl, sym, ◌∙◌, ap}
-use lib.ListN.{length, take, set}
+use native.Mathlib.Omega.{arith}
+use mathlib.Core.Path.{◌≡◌, sym, ◌∙◌, ap}
+use lib.ListN.{length, take, set, get_or}
+use lib.Seq.{take_all}
+use Rattle.std.specs.Option.{is_some}
 use Rattle.model.specs.Lines.{line_words}
-use Rattle.framing.proofs.Framing.{words_more, words-length, digits_of}
+use Rattle.framing.proofs.Framing.{word_by, words_more, words-length}
 use Rattle.framing.proofs.line.line_words.Goals as goal
 
-pub loop-k-init : goal.loop-k-init
-loop-k-init c = (search rules, search rules, refl)
+pub unwrap-requires : goal.unwrap-requires
+unwrap-requires c = ap is_some (c.word_at.ensures ∙ word_by c.args.line.now c.loop-k.k c.requires.line_value c.loop-k-test.true)
 
 pub loop-k-preserved : goal.loop-k-preserved
 loop-k-preserved c =
     let l = c.loop-k in
-    let line = c.args.line.now in (
-      search rules,
-      search rules,
-      ap (λ (w : ℕ). take (l.k + 1) (set l.words l.k w)) (c.word_at-read.ensures.shows (digits_of line l.k c.requires.line_value (omega arith)))
-          ∙ words_more line l.words l.k (omega arith) (omega (arith, c.requires)) l.invariant.2,
-    )
+    let line = c.args.line.now in
+    let e = c.word_at.ensures ∙ word_by line l.k c.requires.line_value c.loop-k-test.true in
+    let w : c.unwrap.result ≡ get_or (line_words line) l.k 0 = cc in
+    ap (λ (x : ℕ). take (l.k + 1) (set l.words l.k x)) w ∙ words_more line l.words l.k c.loop-k-test.true (omega (arith, c.requires)) l.invariant
 
 pub returns : goal.returns
 returns c =
     let l = c.args.line.now in
     let e : c.loop-k.k ≡ length l / 8 = omega arith in
-    ap (λ (k : ℕ). take k c.loop-k.words) (sym e)
-    ∙ c.loop-k.invariant.2
-    ∙ take_all c.loop-k.k (line_words l) (omega (arith, words-length l))
+    ap (λ (k : ℕ). take k c.loop-k.words) (sym e) ∙ c.loop-k.invariant ∙ take_all c.loop-k.k (line_words l) (omega (arith, words-length l))

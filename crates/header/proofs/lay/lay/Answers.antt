@@ -5,7 +5,7 @@ use mathlib.Core.Path.{sym, ◌∙◌, ap, subst}
 use Prim.Native.Nat.{ℕ}
 use native.Mathlib.Omega.{arith}
 use Rattle.model.specs.declared.Settings.{Settings}
-use Rattle.model.specs.declared.Answer.TheVariants.{Done}
+use Rattle.model.specs.Answers.{done_with}
 use Rattle.model.specs.Ledger.{book_length}
 use Rattle.book.specs.Good.{answered}
 use Rattle.units.specs.Ranges.{Ranges}
@@ -42,5 +42,5 @@ pub returns : goal.returns
 returns c =
     let a = c.args in
     let n = c.length_of-needed.ensures ∙ ap book_length c.settings.ensures in
-    ap (λ (b : List ℕ). answered (Done 0) b) c.fill.ensures
+    ap (λ (b : List ℕ). answered (done_with 0) b) c.fill.ensures
     ∙ sym (lay_done a.words.now a.book.now (sym c.settings_good.ensures ∙ c.if-not-settings_good.false) (omega (arith, n)))

@@ -30,7 +30,6 @@ add_lunch-requires c =
     let most = capacity-le c.requires.good c.args.a c.requires.a_lt_dining in
     record {
       good = c.requires.good;
-      sited = c.requires.sited;
       last_lt_dates = c.requires.last_lt_dates;
       a_lt_dining = c.requires.a_lt_dining;
       b_lt_meetings = c.requires.b_lt_meetings;

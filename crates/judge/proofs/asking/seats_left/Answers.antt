@@ -1,29 +1,26 @@
 -- Questions 4 to 7 by the kind's row, and past them what the kind asks for.
 -- Assumes nothing.
-use mathlib.Core.Path.{◌∙◌, ap}
+use mathlib.Core.Path.{refl, ◌∙◌, ap}
 use native.Mathlib.Omega.{arith}
-use Rattle.model.specs.declared.Answer.TheVariants.{Done}
+use Rattle.model.specs.Answers.{done_with}
 use Rattle.model.specs.Kinds.{kind_of, Kind.seats_left}
 use Rattle.judge.specs.Chains.{in_words}
-use Rattle.judge.proofs.Whole.{refused-by, ready}
+use Rattle.judge.proofs.Whole.{err-is, none-no, refused-fields, ready}
 use Rattle.judge.proofs.Meanings.{answered-by}
 use Rattle.judge.proofs.asking.seats_left.Goals as goal
 
-pub returns-then-no-ne0 : goal.returns-then-no-ne0
+pub returns-in_err-fields : goal.returns-in_err-fields
 unfolding kind_of
-returns-then-no-ne0 c =
-    c.refused.ensures
-    ∙ refused-by c.requires.good c.args.r seats_left (ap kind_of c.requires.kind_value) c.seats_left_row.ensures c.first_no-no.ensures
-    c.if-no-ne0.true
+returns-in_err-fields c =
+    err-is _ c.from_residual.ensures.1
+    ∙ refused-fields c.requires.good c.args.r seats_left (ap kind_of c.requires.kind_value) c.seats_left_row.ensures refl c.fields.ensures c.in_err-fields.was
 
 pub seats_left-requires : goal.seats_left-requires
 unfolding kind_of
 seats_left-requires c =
-    let h = ready c.requires.good c.args.r seats_left (ap kind_of c.requires.kind_value) c.seats_left_row.ensures c.first_no-no.ensures
-    c.if-no-ne0.false in
+    let h = ready c.requires.good c.args.r seats_left (ap kind_of c.requires.kind_value) c.seats_left_row.ensures refl (none-no c.fields.ensures c.in_ok-fields.was) in
     record {
       good = c.requires.good;
-      sited = c.requires.sited;
       date_lt_dates = omega (arith, h.order, h.slot);
       room_lt_dining = h.a;
     }
@@ -31,6 +28,5 @@ seats_left-requires c =
 pub returns : goal.returns
 unfolding kind_of in_words
 returns c =
-    ap Done c.seats_left.ensures
-    ∙ answered-by c.requires.good c.requires.sited c.args.r seats_left (ap kind_of c.requires.kind_value) c.seats_left_row.ensures c.first_no-no.ensures
-    c.if-no-ne0.false
+    ap done_with c.seats_left.ensures
+    ∙ answered-by c.requires.good c.args.site.sited c.args.r seats_left (ap kind_of c.requires.kind_value) c.seats_left_row.ensures refl (none-no c.fields.ensures c.in_ok-fields.was)

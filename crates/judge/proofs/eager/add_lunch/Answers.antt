@@ -1,36 +1,35 @@
 -- Questions 4 to 7 by the kind's row, question 8, and past them the others of kind 14.
 -- Assumes nothing.
-use mathlib.Core.Path.{◌∙◌, ap}
+use mathlib.Core.Path.{refl, ◌∙◌, ap}
 use native.Mathlib.Omega.{arith}
 use Rattle.judge.proofs.Meanings.{answered-by}
 use Rattle.judge.proofs.Together.{no-seats, too-many-seats, seats-fit}
-use Rattle.judge.proofs.Whole.{refused-by, ready}
+use Rattle.judge.proofs.Whole.{err-is, none-no, refused-fields, ready}
 use Rattle.judge.specs.Chains.{in_words}
 use Rattle.model.specs.Kinds.{kind_of, Kind.add_lunch}
 use Rattle.questions.proofs.Seats.{capacity-le}
 use Rattle.judge.proofs.eager.add_lunch.Goals as goal
 
-pub returns-then-no-ne0 : goal.returns-then-no-ne0
+pub returns-in_err-fields : goal.returns-in_err-fields
 unfolding kind_of
-returns-then-no-ne0 c =
-    c.refused.ensures
-    ∙ refused-by c.requires.good c.args.r add_lunch (ap kind_of c.requires.kind_value) c.add_lunch_row.ensures
-    c.first_no-no.ensures c.if-no-ne0.true
+returns-in_err-fields c =
+    err-is _ c.from_residual.ensures.1
+    ∙ refused-fields c.requires.good c.args.r add_lunch (ap kind_of c.requires.kind_value) c.add_lunch_row.ensures refl c.fields.ensures c.in_err-fields.was
 
 pub returns-then-r-lt1 : goal.returns-then-r-lt1
 unfolding kind_of in_words
 returns-then-r-lt1 c =
-    c.refused-then-r-lt1.ensures
+    c.refused.ensures
     ∙ no-seats c.args.site.settings _ c.args.site.grids.lunch c.args.r.a c.args.r.b c.args.r.n
     c.args.r.first c.args.r.last c.if-r-lt1.true
-    ∙ answered-by c.requires.good c.requires.sited c.args.r add_lunch (ap kind_of c.requires.kind_value) c.add_lunch_row.ensures
-    c.first_no-no.ensures c.if-no-ne0.false
+    ∙ answered-by c.requires.good c.args.site.sited c.args.r add_lunch (ap kind_of c.requires.kind_value) c.add_lunch_row.ensures
+    refl (none-no c.fields.ensures c.in_ok-fields.was)
 
 pub capacity-requires : goal.capacity-requires
 unfolding kind_of
 capacity-requires c =
     let h = ready c.requires.good c.args.r add_lunch (ap kind_of c.requires.kind_value) c.add_lunch_row.ensures
-    c.first_no-no.ensures c.if-no-ne0.false in
+    refl (none-no c.fields.ensures c.in_ok-fields.was) in
     record {
       good = c.requires.good;
       room_lt_dining = h.a;
@@ -43,18 +42,17 @@ returns-then-capacity-r c =
     ∙ too-many-seats c.args.site.settings _ c.args.site.grids.lunch c.args.r.a c.args.r.b c.args.r.n
     c.args.r.first c.args.r.last c.if-r-lt1.false c.capacity.ensures
     c.if-capacity-r.true
-    ∙ answered-by c.requires.good c.requires.sited c.args.r add_lunch (ap kind_of c.requires.kind_value) c.add_lunch_row.ensures
-    c.first_no-no.ensures c.if-no-ne0.false
+    ∙ answered-by c.requires.good c.args.site.sited c.args.r add_lunch (ap kind_of c.requires.kind_value) c.add_lunch_row.ensures
+    refl (none-no c.fields.ensures c.in_ok-fields.was)
 
 pub lunch_fits-requires : goal.lunch_fits-requires
 unfolding kind_of
 lunch_fits-requires c =
     let h = ready c.requires.good c.args.r add_lunch (ap kind_of c.requires.kind_value) c.add_lunch_row.ensures
-    c.first_no-no.ensures c.if-no-ne0.false in
+    refl (none-no c.fields.ensures c.in_ok-fields.was) in
     let most = capacity-le c.requires.good c.args.r.a h.a in
     record {
       good = c.requires.good;
-      sited = c.requires.sited;
       last_lt_dates = h.slot;
       a_lt_dining = h.a;
       b_lt_meetings = h.b;
@@ -68,5 +66,5 @@ returns c =
     ∙ seats-fit c.args.site.settings _ c.args.site.grids.lunch c.args.r.a c.args.r.b c.args.r.n
     c.args.r.first c.args.r.last c.if-r-lt1.false c.capacity.ensures
     c.if-capacity-r.false
-    ∙ answered-by c.requires.good c.requires.sited c.args.r add_lunch (ap kind_of c.requires.kind_value) c.add_lunch_row.ensures
-    c.first_no-no.ensures c.if-no-ne0.false
+    ∙ answered-by c.requires.good c.args.site.sited c.args.r add_lunch (ap kind_of c.requires.kind_value) c.add_lunch_row.ensures
+    refl (none-no c.fields.ensures c.in_ok-fields.was)

@@ -1,38 +1,40 @@
 -- Questions 4 to 7 by the kind's row, and past them all of the kind's own.
 -- Assumes nothing.
-use mathlib.Core.Path.{◌∙◌, ap}
+use mathlib.Core.Path.{refl, ◌∙◌, ap}
 use Rattle.judge.proofs.Meanings.{answered-by}
-use Rattle.judge.proofs.Whole.{refused-by, ready}
-use Rattle.judge.specs.Chains.{asked, in_words}
+use Rattle.judge.proofs.Whole.{err-is, none-no, refused-fields, ready}
+use Rattle.judge.specs.Chains.{in_words}
 use Rattle.model.specs.Kinds.{kind_of, Kind.end_leave}
-use Rattle.model.specs.declared.Answer.TheVariants.{Done}
+use Rattle.judge.proofs.Together.{stops, goes}
 use Rattle.judge.proofs.eager.end_leave.Goals as goal
 
-pub returns-then-no-ne0 : goal.returns-then-no-ne0
+pub returns-in_err-fields : goal.returns-in_err-fields
 unfolding kind_of
-returns-then-no-ne0 c =
-    c.refused.ensures
-    ∙ refused-by c.requires.good c.args.r end_leave (ap kind_of c.requires.kind_value) c.visitor_row.ensures
-    c.first_no-no.ensures c.if-no-ne0.true
+returns-in_err-fields c =
+    err-is _ c.from_residual.ensures.1
+    ∙ refused-fields c.requires.good c.args.r end_leave (ap kind_of c.requires.kind_value) c.visitor_row.ensures refl c.fields.ensures c.in_err-fields.was
 
-pub first_booked-requires : goal.first_booked-requires
+pub first_booked-booked-requires : goal.first_booked-booked-requires
 unfolding kind_of
-first_booked-requires c =
+first_booked-booked-requires c =
     let h = ready c.requires.good c.args.r end_leave (ap kind_of c.requires.kind_value) c.visitor_row.ensures
-    c.first_no-no.ensures c.if-no-ne0.false in
+    refl (none-no c.fields.ensures c.in_ok-fields.was) in
     record {
       good = c.requires.good;
-      sited = c.requires.sited;
       last_lt_dates = h.slot;
       visitor_lt_visitors = h.b;
     }
 
+pub returns-in_err-ask : goal.returns-in_err-ask
+unfolding kind_of in_words
+returns-in_err-ask c =
+    err-is _ c.from_residual-in_err-ask.ensures.1
+    ∙ (stops 18 _ c.ask.ensures c.first_booked-booked.ensures c.in_err-ask.was)
+    ∙ answered-by c.requires.good c.args.site.sited c.args.r end_leave (ap kind_of c.requires.kind_value) c.visitor_row.ensures refl (none-no c.fields.ensures c.in_ok-fields.was)
+
 pub returns : goal.returns
 unfolding kind_of in_words
 returns c =
-    let h = ready c.requires.good c.args.r end_leave (ap kind_of c.requires.kind_value) c.visitor_row.ensures
-    c.first_no-no.ensures c.if-no-ne0.false in
-    c.settled.ensures
-    ∙ ap (λ o. asked 18 o (Done 0)) c.first_booked.ensures
-    ∙ answered-by c.requires.good c.requires.sited c.args.r end_leave (ap kind_of c.requires.kind_value) c.visitor_row.ensures
-    c.first_no-no.ensures c.if-no-ne0.false
+    (goes 18 c.ask.ensures c.first_booked-booked.ensures c.in_ok-ask.was
+    refl)
+    ∙ answered-by c.requires.good c.args.site.sited c.args.r end_leave (ap kind_of c.requires.kind_value) c.visitor_row.ensures refl (none-no c.fields.ensures c.in_ok-fields.was)

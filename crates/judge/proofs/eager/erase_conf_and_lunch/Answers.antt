@@ -1,15 +1,14 @@
 -- Questions 4 to 7 by the kind's row, and past them all of the kind's own.
 -- Assumes nothing.
 use Prim.Native.Nat.{◌<◌}
-use mathlib.Core.Path.{◌∙◌, ap}
-use mathlib.Core.Path.{ap₂}
+use mathlib.Core.Path.{refl, ◌∙◌, ap}
+use mathlib.Core.Path.{refl, ap₂}
 use native.Mathlib.Omega.{arith}
 use Rattle.book.proofs.Goods.{good-laid}
 use Rattle.book.specs.Lent.{reading}
 use Rattle.book.specs.declared.grid.Grids.{Grids}
 use Rattle.judge.proofs.Meanings.{answered-by}
-use Rattle.judge.proofs.Together.{two}
-use Rattle.judge.proofs.Whole.{refused-by, ready}
+use Rattle.judge.proofs.Whole.{err-is, none-no, refused-fields, ready}
 use Rattle.judge.specs.Chains.{in_words, erase_all}
 use Rattle.model.specs.Kinds.{kind_of, Kind.erase_conf_and_lunch}
 use Rattle.model.specs.Kinds.{sessions}
@@ -18,63 +17,83 @@ use Rattle.questions.proofs.Grounds.{ground, row-ground}
 use Rattle.questions.proofs.Shown.{conf-fail, lunch-fail}
 use Rattle.questions.specs.Asked.{HasLunch, slots_fail}
 use Rattle.units.proofs.Slots.{date-lt}
+use Rattle.judge.proofs.Together.{stops, goes}
 use Rattle.judge.proofs.eager.erase_conf_and_lunch.Goals as goal
 
 pub meeting_row-requires : goal.meeting_row-requires
 meeting_row-requires c = (good-laid c.requires.good).ranges
 
-pub returns-then-no-ne0 : goal.returns-then-no-ne0
+pub returns-in_err-fields : goal.returns-in_err-fields
 unfolding kind_of
-returns-then-no-ne0 c =
-    c.refused.ensures
-    ∙ refused-by c.requires.good c.args.r erase_conf_and_lunch (ap kind_of c.requires.kind_value) c.meeting_row.ensures
-    c.first_no-no.ensures c.if-no-ne0.true
+returns-in_err-fields c =
+    err-is _ c.from_residual.ensures.1
+    ∙ refused-fields c.requires.good c.args.r erase_conf_and_lunch (ap kind_of c.requires.kind_value) c.meeting_row.ensures refl c.fields.ensures c.in_err-fields.was
 
-pub date_of_session-from-requires : goal.date_of_session-from-requires
-date_of_session-from-requires c =
+pub date_of-from-requires : goal.date_of-from-requires
+date_of-from-requires c =
     (good-laid c.requires.good).ranges
 
-pub date_of_session-to-requires : goal.date_of_session-to-requires
-date_of_session-to-requires c =
+pub date_of-to-requires : goal.date_of-to-requires
+date_of-to-requires c =
     (good-laid c.requires.good).ranges
 
 pub overflow_add-r : goal.overflow_add-r
 unfolding kind_of
 overflow_add-r c =
     let h = ready c.requires.good c.args.r erase_conf_and_lunch (ap kind_of c.requires.kind_value) c.meeting_row.ensures
-    c.first_no-no.ensures c.if-no-ne0.false in
+    refl (none-no c.fields.ensures c.in_ok-fields.was) in
     omega (arith, (good-laid c.requires.good).ranges.meetings, h.b)
 
 pub first_row_without-roomless-requires : goal.first_row_without-roomless-requires
 unfolding kind_of
 first_row_without-roomless-requires c =
     let h = ready c.requires.good c.args.r erase_conf_and_lunch (ap kind_of c.requires.kind_value) c.meeting_row.ensures
-    c.first_no-no.ensures c.if-no-ne0.false in
-    let both = row-ground c.requires.good conf_pairs (ap (λ (g : Grids). g.conf) c.requires.sited) h.slot in
+    refl (none-no c.fields.ensures c.in_ok-fields.was) in
+    let both = row-ground c.requires.good conf_pairs (ap (λ (g : Grids). g.conf) c.args.site.sited) h.slot in
     record { lies = both.0; last_lt_slots = both.1 }
 
 pub first_with-unfed-requires : goal.first_with-unfed-requires
 unfolding kind_of
 first_with-unfed-requires c =
     let h = ready c.requires.good c.args.r erase_conf_and_lunch (ap kind_of c.requires.kind_value) c.meeting_row.ensures
-    c.first_no-no.ensures c.if-no-ne0.false in
-    let d : c.date_of_session-to.result.0 < c.args.site.settings.dates =
-    rw c.date_of_session-to.ensures (date-lt c.args.site.settings (good-laid c.requires.good).ranges sessions c.args.r.last h.slot) in
-    let both = ground c.requires.good lunch_triples (ap (λ (g : Grids). g.lunch) c.requires.sited) d h.b in
+    refl (none-no c.fields.ensures c.in_ok-fields.was) in
+    let d : c.date_of-to.result.0 < c.args.site.settings.dates =
+    rw c.date_of-to.ensures (date-lt c.args.site.settings (good-laid c.requires.good).ranges sessions c.args.r.last h.slot) in
+    let both = ground c.requires.good lunch_triples (ap (λ (g : Grids). g.lunch) c.args.site.sited) d h.b in
     record { lies = both.0; last_lt_slots = both.1.0; item_lt_g = both.1.1 }
+
+pub returns-in_err-ask : goal.returns-in_err-ask
+unfolding kind_of in_words erase_all
+returns-in_err-ask c =
+    let h = ready c.requires.good c.args.r erase_conf_and_lunch (ap kind_of c.requires.kind_value) c.meeting_row.ensures refl (none-no c.fields.ensures c.in_ok-fields.was) in
+    let d : c.date_of-to.result.0 < c.args.site.settings.dates =
+    rw c.date_of-to.ensures (date-lt c.args.site.settings (good-laid c.requires.good).ranges sessions c.args.r.last h.slot) in
+    err-is _ c.from_residual-in_err-ask.ensures.1
+    ∙ (stops 16 _ c.ask.ensures (c.first_row_without-roomless.ensures ∙ conf-fail c.requires.good c.args.site.sited c.args.r.first c.args.r.last c.args.r.b h.b h.slot) c.in_err-ask.was)
+    ∙ answered-by c.requires.good c.args.site.sited c.args.r erase_conf_and_lunch (ap kind_of c.requires.kind_value) c.meeting_row.ensures refl (none-no c.fields.ensures c.in_ok-fields.was)
+
+pub returns-in_err-ask-2 : goal.returns-in_err-ask-2
+unfolding kind_of in_words erase_all
+returns-in_err-ask-2 c =
+    let h = ready c.requires.good c.args.r erase_conf_and_lunch (ap kind_of c.requires.kind_value) c.meeting_row.ensures refl (none-no c.fields.ensures c.in_ok-fields.was) in
+    let d : c.date_of-to.result.0 < c.args.site.settings.dates =
+    rw c.date_of-to.ensures (date-lt c.args.site.settings (good-laid c.requires.good).ranges sessions c.args.r.last h.slot) in
+    err-is _ c.from_residual-in_err-ask-2.ensures.1
+    ∙ (goes 16 c.ask.ensures (c.first_row_without-roomless.ensures ∙ conf-fail c.requires.good c.args.site.sited c.args.r.first c.args.r.last c.args.r.b h.b h.slot) c.in_ok-ask.was
+    (stops 17 _ c.ask-2.ensures (c.first_with-unfed.ensures
+    ∙ lunch-fail c.requires.good c.args.site.sited c.date_of-from.result.0 c.date_of-to.result.0 c.args.r.b h.b d
+    ∙ ap₂ (λ i j. slots_fail c.args.site.settings (reading c.args.book.now) HasLunch c.args.r.b 0 i j) c.date_of-from.ensures c.date_of-to.ensures) c.in_err-ask-2.was))
+    ∙ answered-by c.requires.good c.args.site.sited c.args.r erase_conf_and_lunch (ap kind_of c.requires.kind_value) c.meeting_row.ensures refl (none-no c.fields.ensures c.in_ok-fields.was)
 
 pub returns : goal.returns
 unfolding kind_of in_words erase_all
 returns c =
-    let h = ready c.requires.good c.args.r erase_conf_and_lunch (ap kind_of c.requires.kind_value) c.meeting_row.ensures
-    c.first_no-no.ensures c.if-no-ne0.false in
-    let d : c.date_of_session-to.result.0 < c.args.site.settings.dates =
-    rw c.date_of_session-to.ensures (date-lt c.args.site.settings (good-laid c.requires.good).ranges sessions c.args.r.last h.slot) in
-    c.first_of_two.ensures
-    ∙ two 16 17 (c.first_row_without-roomless.ensures
-    ∙ conf-fail c.requires.good c.requires.sited c.args.r.first c.args.r.last c.args.r.b h.b h.slot)
-    (c.first_with-unfed.ensures
-    ∙ lunch-fail c.requires.good c.requires.sited c.date_of_session-from.result.0 c.date_of_session-to.result.0 c.args.r.b h.b d
-    ∙ ap₂ (λ i j. slots_fail c.args.site.settings (reading c.args.book.now) HasLunch c.args.r.b 0 i j) c.date_of_session-from.ensures c.date_of_session-to.ensures)
-    ∙ answered-by c.requires.good c.requires.sited c.args.r erase_conf_and_lunch (ap kind_of c.requires.kind_value) c.meeting_row.ensures
-    c.first_no-no.ensures c.if-no-ne0.false
+    let h = ready c.requires.good c.args.r erase_conf_and_lunch (ap kind_of c.requires.kind_value) c.meeting_row.ensures refl (none-no c.fields.ensures c.in_ok-fields.was) in
+    let d : c.date_of-to.result.0 < c.args.site.settings.dates =
+    rw c.date_of-to.ensures (date-lt c.args.site.settings (good-laid c.requires.good).ranges sessions c.args.r.last h.slot) in
+    (goes 16 c.ask.ensures (c.first_row_without-roomless.ensures ∙ conf-fail c.requires.good c.args.site.sited c.args.r.first c.args.r.last c.args.r.b h.b h.slot) c.in_ok-ask.was
+    (goes 17 c.ask-2.ensures (c.first_with-unfed.ensures
+    ∙ lunch-fail c.requires.good c.args.site.sited c.date_of-from.result.0 c.date_of-to.result.0 c.args.r.b h.b d
+    ∙ ap₂ (λ i j. slots_fail c.args.site.settings (reading c.args.book.now) HasLunch c.args.r.b 0 i j) c.date_of-from.ensures c.date_of-to.ensures) c.in_ok-ask-2.was
+    refl))
+    ∙ answered-by c.requires.good c.args.site.sited c.args.r erase_conf_and_lunch (ap kind_of c.requires.kind_value) c.meeting_row.ensures refl (none-no c.fields.ensures c.in_ok-fields.was)

@@ -1,6 +1,6 @@
 -- Questions 4 to 7 by the kind's row, and past them the kind's own.
 -- Assumes nothing.
-use mathlib.Core.Path.{◌∙◌, ap}
+use mathlib.Core.Path.{refl, ◌∙◌, ap}
 use native.Mathlib.Omega.{arith}
 use Rattle.book.specs.declared.grid.Grids.{Grids}
 use Rattle.book.proofs.Goods.{good-laid}
@@ -8,35 +8,31 @@ use Rattle.model.specs.Kinds.{kind_of, Kind.erase_hotel}
 use Rattle.model.specs.Words.{hotel_cells}
 use Rattle.questions.proofs.Grounds.{ground}
 use Rattle.judge.specs.Chains.{in_words}
-use Rattle.judge.proofs.Whole.{refused-by, ready}
+use Rattle.judge.proofs.Whole.{err-is, none-no, refused-fields, ready}
 use Rattle.judge.proofs.Meanings.{answered-by}
 use Rattle.judge.proofs.visitors.erase_hotel.Goals as goal
 
-pub returns-then-no-ne0 : goal.returns-then-no-ne0
+pub returns-in_err-fields : goal.returns-in_err-fields
 unfolding kind_of
-returns-then-no-ne0 c =
-    c.refused.ensures
-    ∙ refused-by c.requires.good c.args.r erase_hotel (ap kind_of c.requires.kind_value) c.hotel_row.ensures c.first_no-no.ensures
-    c.if-no-ne0.true
+returns-in_err-fields c =
+    err-is _ c.from_residual.ensures.1
+    ∙ refused-fields c.requires.good c.args.r erase_hotel (ap kind_of c.requires.kind_value) c.hotel_row.ensures refl c.fields.ensures c.in_err-fields.was
 
 pub overflow_add-r : goal.overflow_add-r
 unfolding kind_of
 overflow_add-r c =
-    let h = ready c.requires.good c.args.r erase_hotel (ap kind_of c.requires.kind_value) c.hotel_row.ensures c.first_no-no.ensures
-    c.if-no-ne0.false in
+    let h = ready c.requires.good c.args.r erase_hotel (ap kind_of c.requires.kind_value) c.hotel_row.ensures refl (none-no c.fields.ensures c.in_ok-fields.was) in
     omega (arith, (good-laid c.requires.good).ranges.visitors, h.b)
 
 pub erase-requires : goal.erase-requires
 unfolding kind_of
 erase-requires c =
-    let h = ready c.requires.good c.args.r erase_hotel (ap kind_of c.requires.kind_value) c.hotel_row.ensures c.first_no-no.ensures
-    c.if-no-ne0.false in
-    let both = ground c.requires.good hotel_cells (ap (λ (g : Grids). g.hotel) c.requires.sited) (omega (arith, h.order, h.slot)) h.a in
+    let h = ready c.requires.good c.args.r erase_hotel (ap kind_of c.requires.kind_value) c.hotel_row.ensures refl (none-no c.fields.ensures c.in_ok-fields.was) in
+    let both = ground c.requires.good hotel_cells (ap (λ (g : Grids). g.hotel) c.args.site.sited) (omega (arith, h.order, h.slot)) h.a in
     record { lies = both.0; last_lt_slots = both.1.0; item_lt_cells = both.1.1 }
 
 pub returns : goal.returns
 unfolding kind_of in_words
 returns c =
     c.erase.ensures
-    ∙ answered-by c.requires.good c.requires.sited c.args.r erase_hotel (ap kind_of c.requires.kind_value) c.hotel_row.ensures c.first_no-no.ensures
-    c.if-no-ne0.false
+    ∙ answered-by c.requires.good c.args.site.sited c.args.r erase_hotel (ap kind_of c.requires.kind_value) c.hotel_row.ensures refl (none-no c.fields.ensures c.in_ok-fields.was)

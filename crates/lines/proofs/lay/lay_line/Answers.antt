@@ -8,10 +8,10 @@ use borrow.Author.Rules.{rules}
 use Rattle.lines.proofs.lay.lay_line.Goals as goal
 
 pub returns-then-not-whole_words : goal.returns-then-not-whole_words
-returns-then-not-whole_words c = by-not-whole _ (sym c.whole_words.ensures ∙ c.if-not-whole_words.true)
+returns-then-not-whole_words c = rw c.refused.ensures (by-not-whole _ (sym c.whole_words.ensures ∙ c.if-not-whole_words.true))
 
 pub returns-then-n-gt-SETTINGS_WORDS : goal.returns-then-n-gt-SETTINGS_WORDS
-returns-then-n-gt-SETTINGS_WORDS c = by-long _ c.if-n-gt-SETTINGS_WORDS.true
+returns-then-n-gt-SETTINGS_WORDS c = rw c.refused-then-n-gt-SETTINGS_WORDS.ensures (by-long _ c.if-n-gt-SETTINGS_WORDS.true)
 
 pub line_words-requires : goal.line_words-requires
 line_words-requires c = record {

@@ -3,12 +3,12 @@
 use Rattle.lines.proofs.Layings.{laid-is, settled-book, settled-refused}
 use Rattle.lines.proofs.stream.settle.Goals as goal
 
-pub returns-in-Book : goal.returns-in-Book
-returns-in-Book c = settled-book _ _ (laid-is c.lay_line.ensures c.in-Book.is)
+pub returns-in-Ok : goal.returns-in-Ok
+returns-in-Ok c = settled-book _ _ (laid-is c.lay_line.ensures c.in-Ok.is)
 
-pub returns-in-Refused : goal.returns-in-Refused
-returns-in-Refused c =
+pub returns-in-Err : goal.returns-in-Err
+returns-in-Err c =
     settled-refused _ _
     (laid-is c.lay_line.ensures
-    c.in-Refused.is)
+    c.in-Err.is)
     c.put_answer.ensures

@@ -26,19 +26,12 @@ loop-i-init c =
 pub lines_in-n-requires : goal.lines_in-n-requires
 lines_in-n-requires c = record {
   good = c.requires.good;
-  sited = c.requires.sited;
   session_bound = omega (arith, c.requires.from_le_to);
 }
 
 pub overflow_add-n : goal.overflow_add-n
 overflow_add-n c =
     omega (arith, c.lines_in-n.ensures.few, c.requires.from_le_to, all-sessions _ (good-laid c.requires.good).ranges)
-
-pub overflow_add-i : goal.overflow_add-i
-overflow_add-i c = omega arith
-
-pub loop-i-smaller : goal.loop-i-smaller
-loop-i-smaller c = omega arith
 
 pub loop-i-preserved : goal.loop-i-preserved
 loop-i-preserved c =

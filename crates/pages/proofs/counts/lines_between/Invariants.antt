@@ -9,8 +9,5 @@ use Rattle.book.specs.Lent.{reading}
 use Rattle.pages.proofs.counts.lines_between.Given as goal
 
 abbrev pub invariant-loop-i : goal.invariant-loop-i
-invariant-loop-i l = (l.initial.i ≤ l.i) × (l.i ≤ l.end) × (l.n ≡ length (join_from (session_lines (state_of (reading l.diary))) l.initial.i (l.i - l.initial.i))) ×
-    (l.n ≤ 64 * (l.i - l.initial.i))
-
-abbrev pub decreases-loop-i : goal.decreases-loop-i
-decreases-loop-i l = l.end - l.i
+invariant-loop-i l = (l.fn.from.0 ≤ l.i) × (l.i ≤ l.fn.to.0) × (l.n ≡ length (join_from (session_lines (state_of (reading l.diary))) l.fn.from.0 (l.i - l.fn.from.0))) ×
+    (l.n ≤ 64 * (l.i - l.fn.from.0))

@@ -22,9 +22,9 @@ loop-room-init c = (omega arith, refl, omega arith)
 
 pub cell-requires : goal.cell-requires
 cell-requires c = record {
-  lies = rw c.requires.sited (good-lies c.requires.good conf_pairs);
-  slot_lt_slots = rw c.requires.sited c.requires.session_bound;
-  item_lt_g = rw c.requires.sited (omega arith);
+  lies = rw c.args.site.sited (good-lies c.requires.good conf_pairs);
+  slot_lt_slots = rw c.args.site.sited c.requires.session_bound;
+  item_lt_g = rw c.args.site.sited (omega arith);
 }
 
 pub overflow_add-n : goal.overflow_add-n
@@ -36,17 +36,11 @@ overflow_add-n c = omega (
       c.requires.good).ranges.rooms,
 )
 
-pub overflow_add-room : goal.overflow_add-room
-overflow_add-room c = omega arith
-
-pub loop-room-smaller : goal.loop-room-smaller
-loop-room-smaller c = omega arith
-
 pub loop-room-preserved : goal.loop-room-preserved
 loop-room-preserved c =
     let a = c.args in
     let f = room_line (state_of (reading a.diary.now)) a.session.0 in
-    let w = c.full-n.ensures ∙ ap (λ (w : ℕ). one (not (eqb w 0))) (rw c.requires.sited at c.cell.ensures) in
+    let w = c.full-n.ensures ∙ ap (λ (w : ℕ). one (not (eqb w 0))) (rw c.args.site.sited at c.cell.ensures) in
     let q = line-count a.site.settings (reading a.diary.now) c.requires.good a.session.0 c.requires.session_bound c.loop-room.room (omega arith) in (
       omega arith,
       omega (arith, c.loop-room.invariant.1, w, q, ap length (join-upto f c.loop-room.room), length-append (join_from f 0 c.loop-room.room) (f c.loop-room.room)),

@@ -11,9 +11,9 @@ use Rattle.pages.proofs.lines.put_room.Goals as goal
 
 pub cell-w-requires : goal.cell-w-requires
 cell-w-requires c = record {
-  lies = rw c.requires.sited (good-lies c.requires.good conf_pairs);
-  slot_lt_slots = rw c.requires.sited c.requires.session_bound.0;
-  item_lt_g = rw c.requires.sited c.requires.session_bound.1;
+  lies = rw c.args.site.sited (good-lies c.requires.good conf_pairs);
+  slot_lt_slots = rw c.args.site.sited c.requires.session_bound.0;
+  item_lt_g = rw c.args.site.sited c.requires.session_bound.1;
 }
 
 pub returns-then-w-eq0 : goal.returns-then-w-eq0
@@ -21,20 +21,20 @@ returns-then-w-eq0 c =
     let a = c.args in
     written_none a.page.now a.at
     (no_line a.site.settings (reading a.diary.now) c.requires.good a.session.0 c.requires.session_bound.0 a.room c.requires.session_bound.1
-    (rw c.requires.sited at (sym c.cell-w.ensures ∙ c.if-w-eq0.true)))
+    (rw c.args.site.sited at (sym c.cell-w.ensures ∙ c.if-w-eq0.true)))
 
 pub word-info-requires : goal.word-info-requires
 word-info-requires c = record {
-  lies = rw c.requires.sited (good-lies c.requires.good conf_pairs);
-  slot_lt_slots = rw c.requires.sited c.requires.session_bound.0;
-  item_lt_g = rw c.requires.sited c.requires.session_bound.1;
-  k_lt_width = rw c.requires.sited (omega arith);
+  lies = rw c.args.site.sited (good-lies c.requires.good conf_pairs);
+  slot_lt_slots = rw c.args.site.sited c.requires.session_bound.0;
+  item_lt_g = rw c.args.site.sited c.requires.session_bound.1;
+  k_lt_width = rw c.args.site.sited (omega arith);
 }
 
 pub bounds-table-w : goal.bounds-table-w
 bounds-table-w c =
     let a = c.args in
-    let e = rw c.requires.sited at c.cell-w.ensures in
+    let e = rw c.args.site.sited at c.cell-w.ensures in
     omega (
       arith,
       c.requires.tally.long,
@@ -45,7 +45,7 @@ bounds-table-w c =
 pub put_line-requires : goal.put_line-requires
 put_line-requires c =
     let a = c.args in
-    let e = rw c.requires.sited at c.cell-w.ensures in
+    let e = rw c.args.site.sited at c.cell-w.ensures in
     omega (
       arith,
       c.requires.room_in_bounds,
@@ -56,7 +56,7 @@ put_line-requires c =
 pub overflow_add-result : goal.overflow_add-result
 overflow_add-result c =
     let a = c.args in
-    let e = rw c.requires.sited at c.cell-w.ensures in
+    let e = rw c.args.site.sited at c.cell-w.ensures in
     omega (
       arith,
       c.requires.room_in_bounds,
@@ -67,8 +67,8 @@ overflow_add-result c =
 pub returns : goal.returns
 returns c =
     let a = c.args in
-    let e = rw c.requires.sited at c.cell-w.ensures in
-    let i = rw c.requires.sited at c.word-info.ensures in
+    let e = rw c.args.site.sited at c.cell-w.ensures in
+    let i = rw c.args.site.sited at c.word-info.ensures in
     written_one (table-line a.site.settings (reading a.diary.now) c.requires.good a.session.0 c.requires.session_bound.0 a.room
     c.requires.session_bound.1 e c.if-w-eq0.false c.requires.tally i)
     c.put_line.ensures

@@ -6,7 +6,6 @@ use native.Mathlib.Omega.{arith}
 use Rattle.model.specs.Reading.{state_of}
 use Rattle.model.specs.Page.{PageLine, room_line}
 use Rattle.book.specs.Lent.{reading}
-use Rattle.book.proofs.Goods.{good-laid}
 use Rattle.pages.specs.Pages.{Written}
 use Rattle.pages.proofs.Joins.{join-upto, room-upto, written_none, written-more}
 use Rattle.pages.proofs.Shows.{session-rooms}
@@ -15,7 +14,6 @@ use Rattle.pages.proofs.lines.put_session.Goals as goal
 pub tally-table-requires : goal.tally-table-requires
 tally-table-requires c = record {
   good = c.requires.good;
-  sited = c.requires.sited;
   session_bound = c.requires.session_bound;
 }
 
@@ -33,18 +31,10 @@ put_room-next-requires c =
     let room = room-upto f c.loop-room.room a.site.settings.rooms (omega arith) (rw e c.requires.session_in_bounds) c.loop-room.invariant.1 in
     record {
       good = c.requires.good;
-      sited = c.requires.sited;
       tally = c.tally-table.ensures;
       session_bound = (c.requires.session_bound, omega arith);
       room_in_bounds = room;
     }
-
-pub overflow_add-room : goal.overflow_add-room
-overflow_add-room c =
-    omega (arith, c.loop-room.invariant.0, c.loop-room-test.true, (good-laid c.requires.good).ranges.rooms)
-
-pub loop-room-smaller : goal.loop-room-smaller
-loop-room-smaller c = omega arith
 
 pub loop-room-preserved : goal.loop-room-preserved
 loop-room-preserved c =

@@ -6,8 +6,6 @@ use native.Mathlib.Omega.{arith}
 use Rattle.model.specs.Reading.{state_of}
 use Rattle.model.specs.Page.{join_from, session_lines, page_bytes}
 use Rattle.book.specs.Lent.{reading}
-use Rattle.book.proofs.Goods.{good-laid}
-use Rattle.units.proofs.Slots.{all-sessions}
 use Rattle.text.specs.Put.{Put}
 use Rattle.pages.specs.Pages.{between}
 use Rattle.pages.proofs.Joins.{join-next, join-start, still-room, written_none, written-more}
@@ -30,17 +28,9 @@ put_session-at-requires c =
     (omega (arith, c.requires.to_in_bounds)) c.loop-i.invariant.2 in
     record {
       good = c.requires.good;
-      sited = c.requires.sited;
       session_bound = omega (arith, c.requires.from_le_to);
       session_in_bounds = room;
     }
-
-pub overflow_add-i : goal.overflow_add-i
-overflow_add-i c =
-    omega (arith, c.loop-i-test.true, c.requires.from_le_to, all-sessions _ (good-laid c.requires.good).ranges)
-
-pub loop-i-smaller : goal.loop-i-smaller
-loop-i-smaller c = omega (arith, c.loop-i-test.true)
 
 pub loop-i-preserved : goal.loop-i-preserved
 loop-i-preserved c =

@@ -16,9 +16,9 @@ loop-v-init c =
 
 pub cell-w-requires : goal.cell-w-requires
 cell-w-requires c = record {
-  lies = rw c.requires.sited (good-lies c.requires.good attend_cells);
-  slot_lt_slots = rw c.requires.sited c.requires.session_bound;
-  item_lt_g = rw c.requires.sited (omega arith);
+  lies = rw c.args.site.sited (good-lies c.requires.good attend_cells);
+  slot_lt_slots = rw c.args.site.sited c.requires.session_bound;
+  item_lt_g = rw c.args.site.sited (omega arith);
 }
 
 pub overflow_cast-w : goal.overflow_cast-w
@@ -32,13 +32,13 @@ bounds-table-w c =
     omega (
       arith,
       c.loop-v.invariant.1.long,
-      cell-few c.args.site.settings _ c.requires.good c.requires.sited _ c.requires.session_bound _ (omega arith)
+      cell-few c.args.site.settings _ c.requires.good c.args.site.sited _ c.requires.session_bound _ (omega arith)
           c.cell-w.ensures,
     )
 
 pub overflow_add-table : goal.overflow_add-table
 overflow_add-table c =
-    let few = cell-few c.args.site.settings _ c.requires.good c.requires.sited _ c.requires.session_bound _ (omega arith) c.cell-w.ensures in
+    let few = cell-few c.args.site.settings _ c.requires.good c.args.site.sited _ c.requires.session_bound _ (omega arith) c.cell-w.ensures in
     omega (
       arith,
       tallied-few c.args.site.grids.attend (reading c.args.diary.now) c.args.session.0 few
@@ -51,19 +51,13 @@ bounds-table-w-in-loop-v c =
     omega (
       arith,
       c.loop-v.invariant.1.long,
-      cell-few c.args.site.settings _ c.requires.good c.requires.sited _ c.requires.session_bound _ (omega arith)
+      cell-few c.args.site.settings _ c.requires.good c.args.site.sited _ c.requires.session_bound _ (omega arith)
           c.cell-w.ensures,
     )
 
-pub overflow_add-v : goal.overflow_add-v
-overflow_add-v c = omega arith
-
-pub loop-v-smaller : goal.loop-v-smaller
-loop-v-smaller c = omega arith
-
 pub loop-v-preserved : goal.loop-v-preserved
 loop-v-preserved c =
-    let few = cell-few c.args.site.settings _ c.requires.good c.requires.sited _ c.requires.session_bound _ (omega arith) c.cell-w.ensures in (
+    let few = cell-few c.args.site.settings _ c.requires.good c.args.site.sited _ c.requires.session_bound _ (omega arith) c.cell-w.ensures in (
       omega arith,
       tallied-more c.args.site.grids.attend (reading c.args.diary.now) c.args.session.0 c.cell-w.ensures few
           c.loop-v.invariant.1,
@@ -72,4 +66,4 @@ loop-v-preserved c =
 pub returns : goal.returns
 returns c =
     tally-all c.args.site.settings (reading c.args.diary.now) c.requires.good c.args.session.0 c.requires.session_bound {n = c.loop-v.v} (omega arith)
-    (rw c.requires.sited at c.loop-v.invariant.1)
+    (rw c.args.site.sited at c.loop-v.invariant.1)

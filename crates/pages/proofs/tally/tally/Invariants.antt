@@ -1,12 +1,9 @@
 -- The cells before v are counted.
 -- Assumes nothing.
-use Prim.Native.Nat.{◌-◌, ◌≤◌}
+use Prim.Native.Nat.{◌≤◌}
 use Rattle.book.specs.Lent.{reading}
 use Rattle.pages.proofs.Shows.{Tallied}
 use Rattle.pages.proofs.tally.tally.Given as goal
 
 abbrev pub invariant-loop-v : goal.invariant-loop-v
 invariant-loop-v l = (l.v ≤ l.visitors) × Tallied l.site.grids.attend (reading l.diary) l.session.0 l.v l.table
-
-abbrev pub decreases-loop-v : goal.decreases-loop-v
-decreases-loop-v l = l.visitors - l.v

@@ -46,9 +46,9 @@ pub slice_bounds-take_back-end : goal.slice_bounds-take_back-end
 unfolding reading
 slice_bounds-take_back-end c = search relent-fits
 
-pub slice_bounds-take_back-end-in-Refused : goal.slice_bounds-take_back-end-in-Refused
+pub slice_bounds-take_back-end-in-Err : goal.slice_bounds-take_back-end-in-Err
 unfolding reading
-slice_bounds-take_back-end-in-Refused c = search relent-long
+slice_bounds-take_back-end-in-Err c = search relent-long
 
 pub take_back-requires : goal.take_back-requires
 unfolding reading
@@ -57,11 +57,11 @@ take_back-requires c = record {
   n_in_bounds = omega (arith, c.requires.n_in_bounds, c.add_guests-added.ensures.few);
 }
 
-pub returns-in-Refused : goal.returns-in-Refused
+pub returns-in-Err : goal.returns-in-Err
 unfolding reading
-returns-in-Refused c =
+returns-in-Err c =
     none-joined c.requires.good_book c.diary_len-diary.ensures c.add_guests-added.ensures c.count-changes.ensures
-    c.last_asked-answer.ensures c.in-Refused.is c.take_back.ensures
+    c.last_asked-answer.ensures c.in-Err.is c.take_back.ensures
 
 pub returns : goal.returns
 unfolding reading

@@ -1,58 +1,34 @@
--- After the slots before i, n is their count.
+-- The cells of the column, counted one by one.
 -- Assumes nothing.
-use Rattle.book.specs.Lent.{reading}
-use Prim.Native.Nat.{ℕ, ◌+◌, ◌-◌}
-use mathlib.Core.Path.{◌≡◌, sym, ◌∙◌, ap, ap₂}
+use Prim.Native.Nat.{ℕ, ◌-◌}
+use mathlib.Core.Path.{refl, ◌∙◌}
 use mathlib.Core.Bool.{not}
 use native.Mathlib.Omega.{arith}
 use lib.Dec.{eqb}
-use borrow.Author.Rules.{rules}
-use Rattle.model.specs.Bounded.{one, sum_from}
+use Rattle.std.proofs.Common.{rules}
+use Rattle.std.specs.List.{range_with_len}
+use Rattle.std.proofs.lemmas.Iterator.{YieldsList-from_range, YieldsList-from_map}
+use Rattle.std.proofs.lemmas.Iterator.Consumers.{sum_by_from_yields_List, fits_by_from_yields_list}
+use Rattle.model.specs.Bounded.{one}
 use Rattle.book.specs.Grids.{cell_at}
+use Rattle.book.specs.Lent.{reading}
 use Rattle.model.proofs.ReadBack.{one-le}
+use Rattle.model.proofs.Sums.{sum-most}
 use Rattle.queries.specs.Shown.{column_count}
-use Rattle.queries.proofs.Runs.{sum-start, sum-next}
+use Rattle.queries.proofs.Ranges.{sum-range}
 use Rattle.queries.proofs.bookings.column_count.Goals as goal
 
-pub loop-i-init : goal.loop-i-init
-loop-i-init c =
-    let a = c.args in (
-      search rules,
-      omega (arith, c.requires.lo_le_hi),
-      sum-start (λ k. one (not (eqb (cell_at a.g (reading a.book.now) k a.item) 0)))
-          a.lo,
-      search rules,
-    )
-
-pub cell-requires : goal.cell-requires
-cell-requires c = record {
-  lies = c.requires.lies;
-  slot_lt_slots = omega (arith, c.requires.lo_le_hi);
-  item_lt_g = c.requires.item_lt_g;
-}
-
-pub overflow_add-n : goal.overflow_add-n
-overflow_add-n c = omega (arith, c.requires.lo_le_hi, c.full-n.ensures, one-le (not (eqb c.cell.result 0)))
-
-pub overflow_add-i : goal.overflow_add-i
-overflow_add-i c = omega arith
-
-pub loop-i-smaller : goal.loop-i-smaller
-loop-i-smaller c = omega arith
-
-pub loop-i-preserved : goal.loop-i-preserved
-loop-i-preserved c =
-    let a = c.args in (
-      omega arith,
-      omega arith,
-      ap₂ ◌+◌ c.loop-i.invariant.2 (c.full-n.ensures ∙ ap (λ (w : ℕ). one (not (eqb w 0))) c.cell.ensures)
-          ∙ sym (sum-next (λ k. one (not (eqb (cell_at a.g (reading a.book.now) k a.item) 0))) a.lo c.loop-i.i c.loop-i.invariant.0),
-      omega (arith, c.full-n.ensures, one-le (not (eqb c.cell.result 0))),
-    )
+pub sum-requires-clause-fits : goal.sum-requires-clause-fits
+sum-requires-clause-fits c =
+    let a = c.args in
+    let f : ℕ → ℕ = λ k. one (not (eqb (cell_at a.g (reading a.book.now) k a.item) 0)) in
+    fits_by_from_yields_list f (range_with_len a.lo (a.hi - a.lo)) c.map.result _ (YieldsList-from_map _ f (YieldsList-from_range a.lo a.hi (a.hi - a.lo) c.map.ensures.source refl) c.map.ensures.closure (λ x r q k. search rules))
+    (omega (arith, sum-range f a.lo (a.hi - a.lo), sum-most f 1 a.lo (a.hi - a.lo) (λ k. one-le _), c.requires.lo_le_hi))
 
 pub returns : goal.returns
 unfolding column_count
 returns c =
     let a = c.args in
-    let e : c.loop-i.i ≡ a.hi = omega arith in
-    c.loop-i.invariant.2 ∙ ap (λ (k : ℕ). sum_from (λ i. one (not (eqb (cell_at a.g (reading a.book.now) i a.item) 0))) a.lo (k - a.lo)) e
+    let f : ℕ → ℕ = λ k. one (not (eqb (cell_at a.g (reading a.book.now) k a.item) 0)) in
+    sum_by_from_yields_List f (range_with_len a.lo (a.hi - a.lo)) c.map.result _ c.sum.ensures.ran (YieldsList-from_map _ f (YieldsList-from_range a.lo a.hi (a.hi - a.lo) c.map.ensures.source refl) c.map.ensures.closure (λ x r q k. search rules))
+    ∙ sum-range f a.lo (a.hi - a.lo)

@@ -15,36 +15,25 @@ pub returns-then-not-on_leave : goal.returns-then-not-on_leave
 returns-then-not-on_leave c =
     sym (bookings-none-on c.requires.good c.args.visitor c.args.date.0 (sym c.on_leave.ensures ∙ c.if-not-on_leave.true))
 
-pub sessions_on-sessions-requires : goal.sessions_on-sessions-requires
-sessions_on-sessions-requires c = record {
-  ranges = (good-laid c.requires.good).ranges;
-  first_le_last = omega arith;
-  last_lt_dates = c.requires.date_lt_dates;
-}
+pub on_dates-sessions-requires-clause-ranges : goal.on_dates-sessions-requires-clause-ranges
+on_dates-sessions-requires-clause-ranges c = (good-laid c.requires.good).ranges
 
-pub times_on-times-requires : goal.times_on-times-requires
-times_on-times-requires c = record {
-  ranges = (good-laid c.requires.good).ranges;
-  first_le_last = omega arith;
-  last_lt_dates = c.requires.date_lt_dates;
-}
+pub on_dates-times-requires-clause-ranges : goal.on_dates-times-requires-clause-ranges
+on_dates-times-requires-clause-ranges c = (good-laid c.requires.good).ranges
 
 pub overflow_add-visitor : goal.overflow_add-visitor
 overflow_add-visitor c = omega (arith, (good-laid c.requires.good).ranges.visitors, c.requires.visitor_lt_visitors)
 
-pub row_count-nights-requires : goal.row_count-nights-requires
-row_count-nights-requires c = record {
-  lies = rw c.requires.sited (good-lies c.requires.good hotel_cells);
-  slot_lt_slots = rw c.requires.sited c.requires.date_lt_dates;
-}
+pub row_count-nights-requires-clause-lies : goal.row_count-nights-requires-clause-lies
+row_count-nights-requires-clause-lies c = rw c.args.site.sited (good-lies c.requires.good hotel_cells)
 
 pub column_count-meetings-requires : goal.column_count-meetings-requires
 column_count-meetings-requires c = record {
-  lies = rw c.requires.sited (good-lies c.requires.good attend_cells);
-  item_lt_g = rw c.requires.sited c.requires.visitor_lt_visitors;
-  lo_le_hi = rw c.requires.sited (
-    run-order c.args.site.settings sessions _ _ _ _ c.sessions_on-sessions.ensures (omega arith),
-    c.sessions_on-sessions.ensures.ends.most,
+  lies = rw c.args.site.sited (good-lies c.requires.good attend_cells);
+  item_lt_g = rw c.args.site.sited c.requires.visitor_lt_visitors;
+  lo_le_hi = rw c.args.site.sited (
+    run-order c.args.site.settings sessions _ _ _ _ c.on_dates-sessions.ensures (omega arith),
+    c.on_dates-sessions.ensures.ends.most,
     omega
         (arith, all-sessions c.args.site.settings (good-laid c.requires.good).ranges),
   );
@@ -56,37 +45,37 @@ overflow_add-visitor-2 c =
 
 pub rows_count-rides-requires : goal.rows_count-rides-requires
 rows_count-rides-requires c = record {
-  lies = rw c.requires.sited (good-lies c.requires.good ride_cells);
-  width_value = rw c.requires.sited refl;
-  lo_le_hi = rw c.requires.sited (run-order c.args.site.settings times _ _ _ _ c.times_on-times.ensures (omega arith), c.times_on-times.ensures.ends.most);
+  lies = rw c.args.site.sited (good-lies c.requires.good ride_cells);
+  width_value = rw c.args.site.sited refl;
+  lo_le_hi = rw c.args.site.sited (run-order c.args.site.settings times _ _ _ _ c.on_dates-times.ensures (omega arith), c.on_dates-times.ensures.ends.most);
 }
 
 pub overflow_add-result : goal.overflow_add-result
 overflow_add-result c =
     let a = c.args in
-    let e1 = rw c.requires.sited at c.row_count-nights.ensures in
-    let e2 = rw c.requires.sited at c.column_count-meetings.ensures in
-    let e3 = rw c.requires.sited at c.rows_count-rides.ensures in
+    let e1 = rw c.args.site.sited at c.row_count-nights.ensures in
+    let e2 = rw c.args.site.sited at c.column_count-meetings.ensures in
+    let e3 = rw c.args.site.sited at c.rows_count-rides.ensures in
     let k = bookings-is a.site.settings (reading a.book.now) c.requires.good a.visitor a.date.0 c.requires.visitor_lt_visitors c.requires.date_lt_dates _ _ _ _
-    c.sessions_on-sessions.ensures c.times_on-times.ensures in
+    c.on_dates-sessions.ensures c.on_dates-times.ensures in
     omega (arith, e1, e2, e3, k, bookings-few c.requires.good a.visitor a.date.0 a.date.0)
 
 pub overflow_add-result-2 : goal.overflow_add-result-2
 overflow_add-result-2 c =
     let a = c.args in
-    let e1 = rw c.requires.sited at c.row_count-nights.ensures in
-    let e2 = rw c.requires.sited at c.column_count-meetings.ensures in
-    let e3 = rw c.requires.sited at c.rows_count-rides.ensures in
+    let e1 = rw c.args.site.sited at c.row_count-nights.ensures in
+    let e2 = rw c.args.site.sited at c.column_count-meetings.ensures in
+    let e3 = rw c.args.site.sited at c.rows_count-rides.ensures in
     let k = bookings-is a.site.settings (reading a.book.now) c.requires.good a.visitor a.date.0 c.requires.visitor_lt_visitors c.requires.date_lt_dates _ _ _ _
-    c.sessions_on-sessions.ensures c.times_on-times.ensures in
+    c.on_dates-sessions.ensures c.on_dates-times.ensures in
     omega (arith, e1, e2, e3, k, bookings-few c.requires.good a.visitor a.date.0 a.date.0)
 
 pub returns : goal.returns
 returns c =
     let a = c.args in
-    let e1 = rw c.requires.sited at c.row_count-nights.ensures in
-    let e2 = rw c.requires.sited at c.column_count-meetings.ensures in
-    let e3 = rw c.requires.sited at c.rows_count-rides.ensures in
+    let e1 = rw c.args.site.sited at c.row_count-nights.ensures in
+    let e2 = rw c.args.site.sited at c.column_count-meetings.ensures in
+    let e3 = rw c.args.site.sited at c.rows_count-rides.ensures in
     let k = bookings-is a.site.settings (reading a.book.now) c.requires.good a.visitor a.date.0 c.requires.visitor_lt_visitors c.requires.date_lt_dates _ _ _ _
-    c.sessions_on-sessions.ensures c.times_on-times.ensures in
+    c.on_dates-sessions.ensures c.on_dates-times.ensures in
     omega (arith, e1, e2, e3, k)

@@ -24,26 +24,22 @@ returns-then-not-on_leave c =
     sym (ap not (eq-eqb _ 0 (bookings-none-on c.requires.good c.args.visitor c.args.date.0
     (sym c.on_leave.ensures ∙ c.if-not-on_leave.true))))
 
-pub sessions_on-sessions-requires : goal.sessions_on-sessions-requires
-sessions_on-sessions-requires c = record {
-  ranges = (good-laid c.requires.good).ranges;
-  first_le_last = omega arith;
-  last_lt_dates = c.requires.date_lt_dates;
-}
+pub on_dates-sessions-requires-clause-ranges : goal.on_dates-sessions-requires-clause-ranges
+on_dates-sessions-requires-clause-ranges c = (good-laid c.requires.good).ranges
 
 pub column_has-requires : goal.column_has-requires
 column_has-requires c = record {
-  lies = rw c.requires.sited (good-lies c.requires.good attend_cells);
-  item_lt_g = rw c.requires.sited c.requires.visitor_lt_visitors;
-  hi_le_slots = rw c.requires.sited c.sessions_on-sessions.ensures.ends.most;
+  lies = rw c.args.site.sited (good-lies c.requires.good attend_cells);
+  item_lt_g = rw c.args.site.sited c.requires.visitor_lt_visitors;
+  hi_le_slots = rw c.args.site.sited c.on_dates-sessions.ensures.ends.most;
 }
 
 pub returns-then-column_has : goal.returns-then-column_has
 returns-then-column_has c =
     let a = c.args in
-    let n : ℕ = column_count (grid_of a.site.settings attend_cells) (reading a.book.now) a.visitor c.sessions_on-sessions.result.from.0 c.sessions_on-sessions.result.to.0 in
-    let e : not (eqb n 0) ≡ true = sym (rw c.requires.sited at c.column_has.ensures) ∙ c.if-column_has.true in
-    let k = seated-le a.site.settings (reading a.book.now) c.requires.good a.visitor a.date.0 c.requires.visitor_lt_visitors c.requires.date_lt_dates _ _ c.sessions_on-sessions.ensures in
+    let n : ℕ = column_count (grid_of a.site.settings attend_cells) (reading a.book.now) a.visitor c.on_dates-sessions.result.from.0 c.on_dates-sessions.result.to.0 in
+    let e : not (eqb n 0) ≡ true = sym (rw c.args.site.sited at c.column_has.ensures) ∙ c.if-column_has.true in
+    let k = seated-le a.site.settings (reading a.book.now) c.requires.good a.visitor a.date.0 c.requires.visitor_lt_visitors c.requires.date_lt_dates _ _ c.on_dates-sessions.ensures in
     sym (ap not (ne_eqb (bookings (state_of (reading a.book.now)) a.visitor a.date.0 a.date.0) 0
     (λ z. false≢true (sym (ap not (eq-eqb n 0 (omega (arith, k, z)))) ∙ e))))
 
@@ -51,26 +47,19 @@ pub overflow_add-visitor : goal.overflow_add-visitor
 overflow_add-visitor c =
     omega (arith, (good-laid c.requires.good).ranges.visitors, c.requires.visitor_lt_visitors)
 
-pub row_count-requires : goal.row_count-requires
-row_count-requires c = record {
-  lies = rw c.requires.sited (good-lies c.requires.good hotel_cells);
-  slot_lt_slots = rw c.requires.sited c.requires.date_lt_dates;
-}
+pub row_count-requires-clause-lies : goal.row_count-requires-clause-lies
+row_count-requires-clause-lies c = rw c.args.site.sited (good-lies c.requires.good hotel_cells)
 
 pub returns-then-row_count-ne0 : goal.returns-then-row_count-ne0
 returns-then-row_count-ne0 c =
     let a = c.args in
-    let e = rw c.requires.sited at c.row_count.ensures in
+    let e = rw c.args.site.sited at c.row_count.ensures in
     let k = nights-le a.site.settings (reading a.book.now) c.requires.good a.visitor a.date.0 c.requires.visitor_lt_visitors c.requires.date_lt_dates in
     sym (ap not (ne_eqb (bookings (state_of (reading a.book.now)) a.visitor a.date.0 a.date.0) 0
     (λ z. c.if-row_count-ne0.true (omega (arith, e, k, z)))))
 
-pub times_on-times-requires : goal.times_on-times-requires
-times_on-times-requires c = record {
-  ranges = (good-laid c.requires.good).ranges;
-  first_le_last = omega arith;
-  last_lt_dates = c.requires.date_lt_dates;
-}
+pub on_dates-times-requires-clause-ranges : goal.on_dates-times-requires-clause-ranges
+on_dates-times-requires-clause-ranges c = (good-laid c.requires.good).ranges
 
 pub overflow_add-visitor-2 : goal.overflow_add-visitor-2
 overflow_add-visitor-2 c =
@@ -78,22 +67,22 @@ overflow_add-visitor-2 c =
 
 pub rows_have-requires : goal.rows_have-requires
 rows_have-requires c = record {
-  lies = rw c.requires.sited (good-lies c.requires.good ride_cells);
-  width_value = rw c.requires.sited refl;
-  lo_le_hi = rw c.requires.sited (run-order c.args.site.settings times _ _ _ _ c.times_on-times.ensures (omega arith), c.times_on-times.ensures.ends.most);
+  lies = rw c.args.site.sited (good-lies c.requires.good ride_cells);
+  width_value = rw c.args.site.sited refl;
+  lo_le_hi = rw c.args.site.sited (run-order c.args.site.settings times _ _ _ _ c.on_dates-times.ensures (omega arith), c.on_dates-times.ensures.ends.most);
 }
 
 pub returns : goal.returns
 returns c =
     let a = c.args in
-    let e1 = rw c.requires.sited at c.row_count.ensures in
-    let n : ℕ = column_count (grid_of a.site.settings attend_cells) (reading a.book.now) a.visitor c.sessions_on-sessions.result.from.0 c.sessions_on-sessions.result.to.0 in
+    let e1 = rw c.args.site.sited at c.row_count.ensures in
+    let n : ℕ = column_count (grid_of a.site.settings attend_cells) (reading a.book.now) a.visitor c.on_dates-sessions.result.from.0 c.on_dates-sessions.result.to.0 in
     let e2 : n ≡ 0 = eqb-true n 0 (not-false _
-    (sym (rw c.requires.sited at c.column_has.ensures) ∙ c.if-column_has.false)) in
-    let e3 = rw c.requires.sited at c.rows_have.ensures in
+    (sym (rw c.args.site.sited at c.column_has.ensures) ∙ c.if-column_has.false)) in
+    let e3 = rw c.args.site.sited at c.rows_have.ensures in
     let k = bookings-is a.site.settings (reading a.book.now) c.requires.good a.visitor a.date.0 c.requires.visitor_lt_visitors c.requires.date_lt_dates _ _ _ _
-    c.sessions_on-sessions.ensures c.times_on-times.ensures in
-    let e : rows_count (grid_of a.site.settings ride_cells) (reading a.book.now) (a.visitor + 1) c.times_on-times.result.from.0 c.times_on-times.result.to.0
+    c.on_dates-sessions.ensures c.on_dates-times.ensures in
+    let e : rows_count (grid_of a.site.settings ride_cells) (reading a.book.now) (a.visitor + 1) c.on_dates-times.result.from.0 c.on_dates-times.result.to.0
     ≡ bookings (state_of (reading a.book.now)) a.visitor a.date.0 a.date.0
     = omega (arith, e1, e2, k, c.if-row_count-ne0.false) in
     e3 ∙ ap (λ (n : ℕ). not (eqb n 0)) e

@@ -11,15 +11,12 @@ use Rattle.queries.proofs.entries.conf_held.Goals as goal
 pub overflow_add-meeting : goal.overflow_add-meeting
 overflow_add-meeting c = omega (arith, (good-laid c.requires.good).ranges.meetings)
 
-pub row_has-requires : goal.row_has-requires
-row_has-requires c = record {
-  lies = rw c.requires.sited (good-lies c.requires.good conf_pairs);
-  slot_lt_slots = rw c.requires.sited c.requires.session_bound;
-}
+pub row_has-requires-clause-lies : goal.row_has-requires-clause-lies
+row_has-requires-clause-lies c = rw c.args.site.sited (good-lies c.requires.good conf_pairs)
 
 pub returns : goal.returns
 returns c =
     let a = c.args in
     c.row_has.ensures
-    ∙ rw c.requires.sited (sym (conf-held-is a.site.settings (reading a.book.now) c.requires.good a.session.0 a.meeting c.requires.session_bound
+    ∙ rw c.args.site.sited (sym (conf-held-is a.site.settings (reading a.book.now) c.requires.good a.session.0 a.meeting c.requires.session_bound
     c.requires.meeting_lt_meetings))

@@ -10,16 +10,12 @@ use Rattle.book.proofs.Goods.{good-lies}
 use Rattle.queries.proofs.Shows.{lunch-held-is}
 use Rattle.queries.proofs.entries.lunch_held.Goals as goal
 
-pub cell-requires : goal.cell-requires
-cell-requires c = record {
-  lies = rw c.requires.sited (good-lies c.requires.good lunch_triples);
-  slot_lt_slots = rw c.requires.sited c.requires.date_lt_dates;
-  item_lt_g = rw c.requires.sited c.requires.meeting_lt_meetings;
-}
+pub cell-requires-clause-lies : goal.cell-requires-clause-lies
+cell-requires-clause-lies c = rw c.args.site.sited (good-lies c.requires.good lunch_triples)
 
 pub returns : goal.returns
 returns c =
     let a = c.args in
     ap (λ (w : ℕ). not (eqb w 0)) c.cell.ensures
-    ∙ rw c.requires.sited (sym (lunch-held-is a.site.settings (reading a.book.now) c.requires.good a.date.0 a.meeting c.requires.date_lt_dates
+    ∙ rw c.args.site.sited (sym (lunch-held-is a.site.settings (reading a.book.now) c.requires.good a.date.0 a.meeting c.requires.date_lt_dates
     c.requires.meeting_lt_meetings))

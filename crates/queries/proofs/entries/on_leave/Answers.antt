@@ -10,13 +10,13 @@ use Rattle.queries.proofs.entries.on_leave.Goals as goal
 
 pub member-requires : goal.member-requires
 member-requires c = record {
-  lies = rw c.requires.sited (good-lies c.requires.good leaves);
-  slot_lt_slots = rw c.requires.sited c.requires.date_lt_dates;
-  v_bound = rw c.requires.sited (group-lt c.args.site.settings.visitors c.args.visitor c.requires.visitor_lt_visitors);
+  lies = rw c.args.site.sited (good-lies c.requires.good leaves);
+  slot_lt_slots = rw c.args.site.sited c.requires.date_lt_dates;
+  v_bound = rw c.args.site.sited (group-lt c.args.site.settings.visitors c.args.visitor c.requires.visitor_lt_visitors);
 }
 
 pub returns : goal.returns
 returns c =
     let a = c.args in
     c.member.ensures
-    ∙ rw c.requires.sited (sym (leave-is a.site.settings (reading a.book.now) c.requires.good a.date.0 a.visitor c.requires.date_lt_dates c.requires.visitor_lt_visitors))
+    ∙ rw c.args.site.sited (sym (leave-is a.site.settings (reading a.book.now) c.requires.good a.date.0 a.visitor c.requires.date_lt_dates c.requires.visitor_lt_visitors))

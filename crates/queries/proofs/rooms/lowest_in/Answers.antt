@@ -5,7 +5,6 @@ use mathlib.Core.Path.{◌≡◌, ◌∙◌, ap}
 use mathlib.Core.Bool.{not}
 use native.Mathlib.Omega.{arith}
 use borrow.Author.Tests.{eq-eqb, ne_eqb}
-use borrow.Author.Rules.{rules}
 use Rattle.model.specs.State.{State}
 use Rattle.model.specs.Reading.{state_of, read_state}
 use Rattle.model.specs.Words.{conf_pairs}
@@ -15,29 +14,13 @@ use Rattle.queries.proofs.Shows.{room-taken-is}
 use Rattle.model.proofs.Search.{passed_first, passed-more}
 use Rattle.queries.proofs.rooms.lowest_in.Goals as goal
 
-pub rooms-init : goal.rooms-init
-rooms-init c = (search rules, λ k h. absurd (omega (arith, h)))
-
-pub overflow_add-next : goal.overflow_add-next
-overflow_add-next c = omega arith
-
-pub loop-slot-init : goal.loop-slot-init
-loop-slot-init c = (search rules, omega arith, λ k h g. absurd (omega (arith, h, g)))
-
-pub cell-requires : goal.cell-requires
-cell-requires c = record {
-  lies = rw c.requires.sited (good-lies c.requires.good conf_pairs);
-  slot_lt_slots = rw c.requires.sited (omega (arith, c.requires.last_bound));
-  item_lt_g = rw c.requires.sited (omega arith);
-}
-
-pub rooms-smaller : goal.rooms-smaller
-rooms-smaller c = omega arith
+pub cell-requires-clause-lies : goal.cell-requires-clause-lies
+cell-requires-clause-lies c = rw c.args.site.sited (good-lies c.requires.good conf_pairs)
 
 pub rooms-preserved : goal.rooms-preserved
 rooms-preserved c =
     let a = c.args in
-    let e = rw c.requires.sited at c.cell.ensures in
+    let e = rw c.args.site.sited at c.cell.ensures in
     let t = room-taken-is a.site.settings (reading a.book.now) c.requires.good c.rooms.next c.loop-slot.slot (omega (arith, c.requires.last_bound)) (omega arith) in (
       omega arith,
       passed_first _ c.rooms.next c.rooms.invariant.1
@@ -45,16 +28,10 @@ rooms-preserved c =
           (t ∙ rw (← e) (ap not (ne_eqb _ 0 c.if-cell-ne0.true)))),
     )
 
-pub overflow_step-slot : goal.overflow_step-slot
-overflow_step-slot c = omega arith
-
-pub loop-slot-smaller : goal.loop-slot-smaller
-loop-slot-smaller c = omega arith
-
 pub loop-slot-preserved : goal.loop-slot-preserved
 loop-slot-preserved c =
     let a = c.args in
-    let e = rw c.requires.sited at c.cell.ensures in
+    let e = rw c.args.site.sited at c.cell.ensures in
     let t = room-taken-is a.site.settings (reading a.book.now) c.requires.good c.rooms.next c.loop-slot.slot (omega (arith, c.requires.last_bound)) (omega arith) in
     (omega arith, omega arith, passed-more _ _ c.loop-slot.slot c.loop-slot.invariant.2 (t ∙ rw (← e) (ap not (eq-eqb _ 0 c.if-cell-ne0.false))))
 
@@ -65,15 +42,12 @@ returns-then-next-rooms c =
     let n : (state_of (reading a.book.now)).settings.rooms ≡ a.site.settings.rooms = ap (λ (x : State). x.settings.rooms) (good-state c.requires.good) in
     lowest-none (state_of (reading a.book.now)) a.first.0 a.last.0 (λ k h. c.rooms.invariant.1 k (omega (arith, h, n, c.if-next-rooms.true)))
 
-pub returns-else-next-rooms : goal.returns-else-next-rooms
-returns-else-next-rooms c = absurd (omega arith)
-
 pub returns-else-cell-ne0 : goal.returns-else-cell-ne0
 unfolding read_state
 returns-else-cell-ne0 c =
     let a = c.args in
     let n : (state_of (reading a.book.now)).settings.rooms ≡ a.site.settings.rooms = ap (λ (x : State). x.settings.rooms) (good-state c.requires.good) in
-    let e = rw c.requires.sited at c.cell.ensures in
+    let e = rw c.args.site.sited at c.cell.ensures in
     let t = room-taken-is a.site.settings (reading a.book.now) c.requires.good c.rooms.next c.loop-slot.slot (omega (arith, c.requires.last_bound)) (omega arith) in
     let all = passed-more _ _ c.loop-slot.slot c.loop-slot.invariant.2 (t ∙ rw (← e) (ap not (eq-eqb _ 0 c.if-cell-ne0.false))) in
     lowest-at (state_of (reading a.book.now)) a.first.0 a.last.0 c.rooms.next (omega (arith, n)) c.rooms.invariant.1

@@ -2,9 +2,8 @@
 -- Assumes nothing.
 use Rattle.book.specs.Lent.{reading}
 use Prim.Native.Nat.{ℕ, ◌+◌}
-use mathlib.Core.Path.{◌≡◌, refl, sym, ◌∙◌, ap, ap₂}
+use mathlib.Core.Path.{◌≡◌, sym, ◌∙◌, ap, ap₂}
 use native.Mathlib.Omega.{arith}
-use borrow.Author.Rules.{rules}
 use Rattle.model.specs.Bounded.{sum}
 use Rattle.model.specs.State.{State, seats_of, reserved}
 use Rattle.model.specs.Words.{lunch_triples}
@@ -17,48 +16,24 @@ use Rattle.queries.proofs.rooms.reserved.Goals as goal
 pub bounds-weights-room : goal.bounds-weights-room
 bounds-weights-room c = omega (arith, (good-laid c.requires.good).ranges.dining)
 
-pub overflow_add-weights : goal.overflow_add-weights
-overflow_add-weights c = omega (arith, bounds-weights-room c)
+pub cell-at-requires-clause-lies : goal.cell-at-requires-clause-lies
+cell-at-requires-clause-lies c = rw c.args.site.sited (good-lies c.requires.good lunch_triples)
 
-pub overflow_cast-weights : goal.overflow_cast-weights
-overflow_cast-weights c = omega (arith, bounds-weights-room c)
-
-pub offset_bounds-weights-room : goal.offset_bounds-weights-room
-offset_bounds-weights-room c = omega (arith, bounds-weights-room c)
-
-pub loop-m-init : goal.loop-m-init
-loop-m-init c = (omega arith, refl, omega arith)
-
-pub cell-at-requires : goal.cell-at-requires
-cell-at-requires c = record {
-  lies = rw c.requires.sited (good-lies c.requires.good lunch_triples);
-  slot_lt_slots = rw c.requires.sited c.requires.date_lt_dates;
-  item_lt_g = rw c.requires.sited c.loop-m-test.true;
-}
-
-pub word-requires : goal.word-requires
-word-requires c = record {
-  lies = rw c.requires.sited (good-lies c.requires.good lunch_triples);
-  slot_lt_slots = rw c.requires.sited c.requires.date_lt_dates;
-  item_lt_g = rw c.requires.sited c.loop-m-test.true;
-  k_lt_width = rw c.requires.sited (omega arith);
-}
+pub word-requires-clause-lies : goal.word-requires-clause-lies
+word-requires-clause-lies c = rw c.args.site.sited (good-lies c.requires.good lunch_triples)
 
 pub bounds-weights-at : goal.bounds-weights-at
 bounds-weights-at c =
     let a = c.args in
-    let e = rw c.requires.sited at c.cell-at.ensures in
+    let e = rw c.args.site.sited at c.cell-at.ensures in
     weight-lt a.site.settings (reading a.book.now) c.requires.good a.date.0 a.room c.loop-m.m
     c.requires.date_lt_dates c.requires.room_lt_dining c.loop-m-test.true _ e
-
-pub offset_bounds-weights-at : goal.offset_bounds-weights-at
-offset_bounds-weights-at c = omega (arith, bounds-weights-at c)
 
 pub overflow_mul-seats : goal.overflow_mul-seats
 overflow_mul-seats c =
     let a = c.args in
-    let e = rw c.requires.sited at c.cell-at.ensures in
-    let w = rw c.requires.sited at c.word.ensures in
+    let e = rw c.args.site.sited at c.cell-at.ensures in
+    let w = rw c.args.site.sited at c.word.ensures in
     let t = weighed a.site.settings (reading a.book.now) c.requires.good a.date.0 a.room c.loop-m.m
     c.requires.date_lt_dates c.requires.room_lt_dining c.loop-m-test.true _ _ w e in
     omega (arith, t.few)
@@ -66,8 +41,8 @@ overflow_mul-seats c =
 pub overflow_add-seats : goal.overflow_add-seats
 overflow_add-seats c =
     let a = c.args in
-    let e = rw c.requires.sited at c.cell-at.ensures in
-    let w = rw c.requires.sited at c.word.ensures in
+    let e = rw c.args.site.sited at c.cell-at.ensures in
+    let w = rw c.args.site.sited at c.word.ensures in
     let t = weighed a.site.settings (reading a.book.now) c.requires.good a.date.0 a.room c.loop-m.m
     c.requires.date_lt_dates c.requires.room_lt_dining c.loop-m-test.true _ _ w e in
     omega (arith, t.few, (good-laid c.requires.good).ranges.meetings)
@@ -75,12 +50,11 @@ overflow_add-seats c =
 pub loop-m-preserved : goal.loop-m-preserved
 loop-m-preserved c =
     let a = c.args in
-    let e = rw c.requires.sited at c.cell-at.ensures in
-    let w = rw c.requires.sited at c.word.ensures in
+    let e = rw c.args.site.sited at c.cell-at.ensures in
+    let w = rw c.args.site.sited at c.word.ensures in
     let t = weighed a.site.settings (reading a.book.now) c.requires.good a.date.0 a.room c.loop-m.m
     c.requires.date_lt_dates c.requires.room_lt_dining c.loop-m-test.true _ _ w e in (
-      search rules,
-      ap₂ ◌+◌ c.loop-m.invariant.1 t.is
+      ap₂ ◌+◌ c.loop-m.invariant.0 t.is
           ∙ sym (sum_more (λ k. seats_of ((state_of (reading a.book.now)).lunch a.date.0 a.room k)) c.loop-m.m),
       omega (arith, t.few),
     )
@@ -91,4 +65,4 @@ returns c =
     let a = c.args in
     let e : c.loop-m.m ≡ a.site.settings.meetings = omega arith in
     let f : ℕ → ℕ = λ k. seats_of ((state_of (reading a.book.now)).lunch a.date.0 a.room k) in
-    c.loop-m.invariant.1 ∙ ap (sum f) (e ∙ sym (ap (λ (x : State). x.settings.meetings) (good-state c.requires.good)))
+    c.loop-m.invariant.0 ∙ ap (sum f) (e ∙ sym (ap (λ (x : State). x.settings.meetings) (good-state c.requires.good)))

@@ -7,28 +7,23 @@ use Rattle.units.proofs.Slots.{date-lt}
 use Rattle.questions.specs.Asked.{not_held}
 use Rattle.questions.proofs.slots.not_held.Goals as goal
 
-pub date_of_session-date-requires : goal.date_of_session-date-requires
-date_of_session-date-requires c = (good-laid c.requires.good).ranges
+pub date_of-date-requires : goal.date_of-date-requires
+date_of-date-requires c = (good-laid c.requires.good).ranges
 
-pub lunch_held-requires : goal.lunch_held-requires
-lunch_held-requires c =
+pub lunch_held-requires-clause-date_lt_dates : goal.lunch_held-requires-clause-date_lt_dates
+lunch_held-requires-clause-date_lt_dates c =
     let a = c.args in
-    record {
-      good = c.requires.good;
-      sited = c.requires.sited;
-      date_lt_dates = rw c.date_of_session-date.ensures (date-lt a.site.settings (good-laid c.requires.good).ranges sessions a.session.0 c.requires.session_bound);
-      meeting_lt_meetings = c.requires.meeting_lt_meetings;
-    }
+    rw c.date_of-date.ensures (date-lt a.site.settings (good-laid c.requires.good).ranges sessions a.session.0 c.requires.session_bound)
 
 pub returns-then-lunch_held : goal.returns-then-lunch_held
 unfolding not_held
-returns-then-lunch_held c = rw (← c.date_of_session-date.ensures, ← c.lunch_held.ensures, c.if-lunch_held.true, and-false _)
+returns-then-lunch_held c = rw (← c.date_of-date.ensures, ← c.lunch_held.ensures, c.if-lunch_held.true, and-false _)
 
 pub returns : goal.returns
 unfolding not_held
 returns c =
     rw (
-      ← c.date_of_session-date.ensures,
+      ← c.date_of-date.ensures,
       ← c.lunch_held.ensures,
       c.if-lunch_held.false,
       ← c.conf_held.ensures,

@@ -16,12 +16,6 @@ overflow_add-result c =
       c.requires.n_bound,
     )
 
-pub capacity-requires : goal.capacity-requires
-capacity-requires c = record {
-  good = c.requires.good;
-  room_lt_dining = c.requires.room_lt_dining;
-}
-
 pub returns : goal.returns
 unfolding room_left
 returns c = rw (← c.reserved.ensures, ← c.capacity.ensures)

@@ -21,8 +21,8 @@ all_zero-requires c = omega (arith, c.requires.tail_len, c.requires.i_lt_ring_pl
 pub returns-then-order-eq0 : goal.returns-then-order-eq0
 returns-then-order-eq0 c = c.all_zero.ensures ∙ kept-empty c.args.tail.now c.args.i c.if-order-eq0.true
 
-pub returns-in-At : goal.returns-in-At
-returns-in-At c = kept-twice c.args.tail.now c.args.i c.if-order-eq0.false _ c.numbered.ensures _ c.in-At.is
+pub returns-in-Some : goal.returns-in-Some
+returns-in-Some c = kept-twice c.args.tail.now c.args.i c.if-order-eq0.false _ c.numbered.ensures _ c.in-Some.is
 
 pub bounds-tail-at-2 : goal.bounds-tail-at-2
 unfolding tail_length

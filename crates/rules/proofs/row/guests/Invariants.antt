@@ -1,6 +1,5 @@
 -- The rest of the pass gives the answer.
 -- Assumes nothing.
-use Prim.Native.Nat.{◌-◌, ◌≤◌}
 use mathlib.Core.Path.{◌≡◌}
 use mathlib.Core.Bool.{false}
 use lib.ListN.{length, drop, get_or}
@@ -8,10 +7,7 @@ use Rattle.rules.specs.Rows.{Marked}
 use Rattle.rules.proofs.Passing.{pass}
 use Rattle.rules.proofs.row.guests.Given as goal
 
-abbrev pub invariant-loop-i : goal.invariant-loop-i
-invariant-loop-i l =
-    (l.i ≤ length l.row) × (length l.seen ≡ length l.initial.seen) × (get_or l.seen 0 false ≡ false) ×
-    (pass (drop l.i l.row) l.seen l.bad ≡ pass l.row l.initial.seen false) × Marked l.initial.seen l.seen
-
-abbrev pub decreases-loop-i : goal.decreases-loop-i
-decreases-loop-i l = length l.row - l.i
+abbrev pub invariant-loop-cell : goal.invariant-loop-cell
+invariant-loop-cell l =
+    (length l.seen ≡ length l.initial.seen) × (get_or l.seen 0 false ≡ false) ×
+    (pass (drop l.cell-index l.row) l.seen l.bad ≡ pass l.row l.initial.seen false) × Marked l.initial.seen l.seen

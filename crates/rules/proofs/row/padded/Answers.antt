@@ -6,18 +6,14 @@ use lib.ListN.{get_or, length}
 use Rattle.rules.specs.Rows.{Padded}
 use borrow.Author.Tests.{eqb-true, eq-eqb}
 use Rattle.rules.proofs.Answers.{decide}
-use Rattle.rules.proofs.Cells.{pad-none, pad-by, pad-is}
+use Rattle.rules.proofs.Cells.{pad-by, pad-is}
 use Rattle.rules.proofs.row.padded.Goals as goal
-
-pub returns-then-used-eq0 : goal.returns-then-used-eq0
-returns-then-used-eq0 c = pad-none c.args.row.now _ (λ j. (c.shared_slice_known-1.given j).fits) c.requires.2
-    c.if-used-eq0.true
 
 pub returns : goal.returns
 returns c =
     let row = c.args.row.now in
     let n = c.args.n in
     decide {P = Padded row n} (eqb (get_or row (length row - 1) 0 / 2 ^ (n % 32)) 0)
-    (λ e. pad-by row n (λ j. (c.shared_slice_known-1.given j).fits) c.requires.2 c.if-used-eq0.false (eqb-true _ _ e))
-    (λ p. eq-eqb _ _ (pad-is row n (λ j. (c.shared_slice_known-1.given j).fits) c.requires.2 c.requires.0
+    (λ e. pad-by row n (λ j. (c.type_inv.row j).fits) c.requires.2 c.if-used-eq0.false (eqb-true _ _ e))
+    (λ p. eq-eqb _ _ (pad-is row n (λ j. (c.type_inv.row j).fits) c.requires.2 c.requires.0
     c.if-used-eq0.false p))

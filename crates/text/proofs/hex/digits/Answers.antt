@@ -15,9 +15,6 @@ pub overflow_add-result : goal.overflow_add-result
 unfolding Values
 overflow_add-result c = omega (arith, values-le c.args.v (omega arith) c.requires)
 
-pub overflow_mul-result : goal.overflow_mul-result
-overflow_mul-result c = omega (arith, and_le_r (c.args.v + 0x0606_0606_0606_0606) 0x1010_1010_1010_1010)
-
 pub overflow_add-result-2 : goal.overflow_add-result-2
 unfolding Values
 overflow_add-result-2 c =

@@ -1,9 +1,0 @@
--- By the case of what was found.
--- Assumes nothing.
-use Rattle.judge.proofs.answers.found_or.Goals as goal
-
-pub returns-in-At : goal.returns-in-At
-returns-in-At c = rw c.in-At.is
-
-pub returns-in-Nothing : goal.returns-in-Nothing
-returns-in-Nothing c = rw c.in-Nothing.is
