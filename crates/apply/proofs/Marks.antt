@@ -1,12 +1,13 @@
 -- A bit turned twice is turned once; so the one, two or three slots of a short run are three slots marked, some of them again.
 -- Assumes nothing.
 use Prim.Native.Nat.{ℕ, zero, suc, ◌+◌, ◌-◌, ◌/◌, ◌%◌, ◌≤◌, ◌<◌, min}
-use mathlib.Core.Path.{◌≡◌, sym, ◌∙◌, ap}
-use mathlib.Core.Bool.{Bool, true, false, not, ◌&&◌, ◌||◌}
+use mathlib.Core.Path.{◌≡◌, refl, sym, ◌∙◌, ap}
+use mathlib.Core.Bool.{Bool, true, false, not, ◌&&◌, ◌||◌, cond}
+use borrow.Author.Tests.{leb-true, leb-false}
 use Rattle.std.proofs.Math.Bool.{and_assoc, and_self, or_assoc, or_self}
 use mathlib.Core.List.{List}
 use native.Mathlib.Omega.{arith}
-use lib.Dec.{eqb}
+use lib.Dec.{eqb, leb}
 use lib.ListN.{length, set, get_or, length-set}
 use lib.Seq.{set-get_or, get_or-set_same}
 use Rattle.model.specs.Bounded.{bit}
@@ -18,6 +19,7 @@ use Rattle.book.specs.Lent.{Lies}
 use Rattle.book.specs.Stores.{over, replaced}
 use Rattle.book.proofs.Cells.{cell_room}
 use Rattle.book.proofs.Turns.{over-turn, over-end}
+use Rattle.queries.specs.Found.{middle_of}
 use Rattle.apply.specs.Stores.{flipped, marked, marked_three, marked_all}
 
 or-again : (a e : Bool) → (a || e) || e ≡ a || e
@@ -60,7 +62,6 @@ module _ (g : Grid) (on : Bool) (v : ℕ) (hv : v / 32 < g.items) where
       ap (λ (y : ℕ). set (set b n x) n y) e ∙ set-get_or (set b n x) n 0
 
   in-book : (i : ℕ) (b : List ℕ) → Lies g b → i < g.slots → place g i (v / 32) 0 < length b
-  unfolding Lies
   in-book i b f hi = omega (arith, f.ends, f.wide, (cell_room g.width hi hv).room)
 
   -- the slots of a short run, the last one marked again where they are fewer than three
@@ -91,3 +92,12 @@ module _ (g : Grid) (on : Bool) (v : ℕ) (hv : v / 32 < g.items) where
           let q : min (from + 1) (to - 1) ≡ from + 1 = omega arith in
           rw (q, p) (last (from + 1 + 1) (F (from + 1) (F from b)) (omega arith) ∙ sym (over-turn F (from + 1) to (F from b) (omega arith)) ∙ sym (over-turn F from to b l))
       go (suc (suc (suc n))) e k = absurd (let z : ⊥ = omega arith in z)
+
+-- the slot in the middle of a run that has one
+pub middle-min : (first last : ℕ) → first ≤ last → middle_of first last ≡ min (first + 1) last
+unfolding middle_of
+middle-min first last h = go (leb last first) refl
+  where
+    go : (t : Bool) → leb last first ≡ t → cond (leb last first) last (first + 1) ≡ min (first + 1) last
+    go true e = ap (λ (t : Bool). cond t last (first + 1)) e ∙ (let l = leb-true last first e in omega arith)
+    go false e = ap (λ (t : Bool). cond t last (first + 1)) e ∙ (let l = leb-false last first e in omega arith)

@@ -1,11 +1,13 @@
 // Writes to a grid of pool words: one member's bit in a run of slots.
-ghost use Rattle.std.specs.Prelude.{◌≡◌, ◌+◌, ◌/◌, ◌≤◌, ◌<◌, min};
+ghost use Rattle.std.specs.Prelude.{◌≡◌, ◌/◌, ◌≤◌, ◌<◌};
 ghost use Rattle.book.specs.Lent.{reading, Lies};
 ghost use Rattle.book.specs.Stores.{Wrote};
 ghost use Rattle.apply.specs.Stores.{flipped, marked, marked_three, marked_all};
 
-use book::grid::{Grid, cell};
+use book::grid::Grid;
 use book::puts::put_word;
+use book::region::Cells;
+use queries::search::middle_of;
 
 // A pool word with bit k set or cleared.
 fn flip<const ON: bool>(w: u32, k: u32) -> u32
@@ -26,20 +28,13 @@ fn mark<const ON: bool>(book: &mut [u32], g: Grid, v: u32, slot: u32)
     requires v_bound { v / 32 < g.items }
     ensures { Wrote (marked g ON v slot) (reading book.old) (reading book.new) }
 {
-    let word = cell(book, g, slot, v / 32);
+    let word = Cells {
+        words: book,
+        grid: g,
+    }
+    .cell(slot, v / 32);
     let next = flip::<ON>(word, v % 32);
     put_word(book, g, slot, v / 32, next);
-}
-
-// The slot between the first and the last of up to three: the one behind the first, or the last again.
-// By hand: with `u32::min` a request of kind 5 or 8 takes three to five instructions more, of some hundred.
-fn between(first: u32, last: u32) -> u32
-    ensures { result ≡ min (first + 1) last }
-{
-    if first < last {
-        return first + 1;
-    }
-    last
 }
 
 // The bit of member v in three slots, some of which may be the same: no branch depends on how many they are.
@@ -79,7 +74,7 @@ pub fn mark_all<const ON: bool>(book: &mut [u32], g: Grid, v: u32, from: u32, to
     }
     let last = to - 1;
     if last - from <= 2 {
-        let middle = between(from, last);
+        let middle = middle_of(from, last);
         mark_three::<ON>(book, g, v, from, middle, last);
         return;
     }

@@ -4,8 +4,9 @@ ghost use Rattle.book.specs.Lent.{reading, Lies};
 ghost use Rattle.book.specs.Stores.{Wrote, swept_row, swept};
 ghost use Rattle.apply.specs.Stores.{filled, Emptied};
 
-use book::grid::{Grid, cell};
+use book::grid::Grid;
 use book::puts::{Content, EMPTY, clear, put};
+use book::region::Cells;
 
 // The cell of one item in each slot from `from` to before `to`.
 pub fn fill(book: &mut [u32], g: Grid, item: u32, c: Content, from: u32, to: u32)
@@ -30,7 +31,12 @@ pub fn empty_column(book: &mut [u32], g: Grid, item: u32, from: u32, to: u32) ->
 {
     let mut n: u32 = 0;
     for i in from..to {
-        n += u32::from(cell(book, g, i, item) != 0);
+        let held = Cells {
+            words: book,
+            grid: g,
+        }
+        .cell(i, item);
+        n += u32::from(held != 0);
         put(book, g, i, item, EMPTY);
     }
     n

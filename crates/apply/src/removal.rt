@@ -10,6 +10,7 @@ ghost use Rattle.apply.specs.Removals.{without, Erased};
 
 use crate::cells::empty_column;
 use crate::sets::turn;
+use book::diary::Diary;
 use book::grid::Site;
 use book::runs::{sweep_long, sweep_run};
 use model::{Date, Session, Time};
@@ -43,7 +44,7 @@ fn remove_on(book: &mut [u32], site: Site, v: u32, date: Date) -> u32
     ensures book_after { reading book.new ≡ words (without (state_of (reading book.old)) v date.0 date.0) }
     ensures value { result ≡ bookings (state_of (reading book.old)) v date.0 date.0 }
 {
-    if !on_leave(book, site, date, v) {
+    if !on_leave(Diary { words: book, site }, date, v) {
         return 0;
     }
     erase(book, site, v, date)

@@ -34,6 +34,9 @@ pub fn add(book: &mut [u32], g: Grid, item: u32, c: Content, first: u32, last: u
     fill(book, g, item, c, first, last + 1);
 }
 
+// What is taken away again is an item's cells, whoever has them (`take`), an entry wherever it stands (`drop`), or a bit (`turn`): each has its
+// own way through a grid, so they are three functions.
+//
 // The cells of an item emptied.
 pub fn take(book: &mut [u32], g: Grid, item: u32, first: u32, last: u32)
     requires span { Span g (reading book.old) last }

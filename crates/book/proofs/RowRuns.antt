@@ -10,7 +10,7 @@ use lib.Dec.{eqb}
 use lib.ListN.{length, get_or, take, drop, length-take, length-drop}
 use lib.Seq.{get_or-drop, get_or-take}
 use Rattle.model.specs.Bounded.{one, bit, sum_from, count}
-use Rattle.model.proofs.Sums.{sum-agree, sum-split, sum-cut}
+use Rattle.model.proofs.Sums.{sum-agree, sum-split}
 use Rattle.pool.specs.Pool.{member}
 use Rattle.pool.proofs.Counts.{sum-shift}
 use Rattle.book.specs.declared.grid.Grid.{Grid}
@@ -119,18 +119,3 @@ module _ (row : List ℕ) (w : ℕ) where
       (λ j t. ap (λ (v : ℕ). eqb v w) (get_or-take n (drop i row) j 0 t ∙ get_or-drop i row j 0))
       ∙ sum-on (λ j. one (here j)) i 0 n
       ∙ ap (λ (k : ℕ). sum_from (λ j. one (here j)) k n) (let z : i + 0 ≡ i = omega arith in z)
-
-  pub part-next : (i n : ℕ) → i + n ≤ length row → count here (i + n) ≡ count here i + part_count (take n (drop i row)) w
-  part-next i n h = sum-cut (λ j. one (here j)) i n ∙ ap (λ (k : ℕ). count here i + k) (sym (part-from i n h))
-
-  pub part-le : (i : ℕ) → i ≤ length row → count here i ≤ part_count row w
-  unfolding part_count
-  part-le i h =
-      let m : i + (length row - i) ≡ length row = omega arith in
-      omega (arith, rw m at (sum-cut (λ j. one (here j)) i (length row - i)))
-
-  pub part-last : (i : ℕ) → i ≤ length row → count here i ≡ 0 → part_count (take (length row - i) (drop i row)) w ≡ part_count row w
-  unfolding part_count
-  part-last i h z =
-      let m : i + (length row - i) ≡ length row = omega arith in
-      omega (arith, rw m at (part-next i (length row - i) (omega arith)), z)

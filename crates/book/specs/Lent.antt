@@ -7,5 +7,5 @@ use Rattle.book.specs.Grids.{Fits}
 unfoldable pub reading : List ℕ → List ℕ
 reading b = b
 
-unfoldable pub Lies : Grid → List ℕ → Type 0
+abbrev pub Lies : Grid → List ℕ → Type 0
 Lies g b = Fits g (length b)

@@ -1,4 +1,5 @@
-// Writes to one cell: all its words, its first word alone, or all words emptied where the first is a given word.
+// Writes to one cell: all its words, its first word alone, or all words emptied where the first is a given word. That a cell has at most three
+// words is a clause where all of them are written, and no fact of a grid: the others know nothing of it.
 ghost use Rattle.std.specs.Prelude.{◌≡◌, ◌+◌, ◌≤◌, ◌<◌, length};
 ghost use Rattle.book.specs.Lent.{reading, Lies};
 ghost use Rattle.book.specs.Stores.{puts, replaced, stored, cleared, Wrote};

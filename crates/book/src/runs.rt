@@ -24,7 +24,8 @@ fn unless(x: u32, w: u32) -> u32
     x
 }
 
-// The words of a run that are w become 0.
+// The words of a run that are w become 0. That a run lies in the book is a clause of each function here: the run goes on where the book is lent
+// anew, part by part.
 fn clear_words(book: &mut [u32], w: u32, run: Range<usize>)
     requires { run.end ≤ length book.old }
     ensures { book.new ≡ over (zeroed w) run.start run.end book.old }
@@ -52,7 +53,7 @@ fn clear_run(book: &mut [u32], w: u32, run: Range<usize>) -> u32
     requires { (run.start ≤ run.end) × (run.end ≤ length book.old) × (length book.old ≤ 1000000000) }
     ensures { Cleared w run.start run.end book.old book.new result }
 {
-    // By hand, like the loop of `clear_halves`: once a borrow by `chunks_mut` is over, the check knows of the words that they have a length.
+    // By hand, like the loop of `clear_halves`: the library says nothing of what words end as that were lent by `chunks_mut` or `as_chunks_mut`.
     let mut cleared: u32 = 0;
     let mut n = run.start;
     while BLOCK <= run.end - n {
@@ -177,7 +178,7 @@ pub fn sweep_run(book: &mut [u32], g: Grid, w: u32, from: u32, to: u32) -> u32
     clear_run(book, w, rows_run(g, from, to))
 }
 
-// The same; a long run is read in two places at once.
+// The same by another way through the words, and so another function: a long run is read in two places at once.
 pub fn sweep_long(book: &mut [u32], g: Grid, w: u32, from: u32, to: u32) -> u32
     requires lies { Lies g (reading book.old) }
     requires width_value { g.width ≡ 1 }

@@ -7,3 +7,4 @@ pub mod Slots
 pub mod Facts
 pub mod Question2
 pub mod Verdicts
+pub mod Cuts

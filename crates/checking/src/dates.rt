@@ -1,20 +1,20 @@
 // One date of a book: its part of each region is a slice, so that nothing below a date speaks of an address.
-ghost use Rattle.std.specs.Prelude.{◌≡◌, ◌*◌, ◌/◌, ◌≤◌, ◌<◌, true, ℕ, length, get_or};
+ghost use Rattle.std.specs.Prelude.{◌≡◌, ◌*◌, ◌-◌, ◌/◌, ◌≤◌, ◌<◌, true, ℕ, length, get_or};
 ghost use Rattle.model.specs.Words.{groups};
 ghost use Rattle.units.specs.Ranges.{Ranges};
 ghost use Rattle.book.specs.Grids.{Laid};
-ghost use Rattle.book.specs.Lent.{reading};
-ghost use Rattle.rules.specs.Rows.{Decides, Padded, Caps, row_at};
+ghost use Rattle.book.specs.Lent.{reading, Lies};
+ghost use Rattle.book.specs.Blocks.{Part, across, block_of};
+ghost use Rattle.rules.specs.Rows.{Decides, Padded, Caps, Guests, Ready, row_at};
 ghost use Rattle.checking.specs.Days.{Session, Day, Long, Empty};
 ghost use Rattle.checking.specs.Kept.{At, Kept};
 
-use crate::rows::{guest_rows, row_of};
-use book::blocks::block;
-use book::grid::Site;
+use book::grid::{Grid, Site};
+use book::region::Cells;
 use model::{Date, Settings};
 use rules::tables::{GUESTS, MEETINGS, ROOMS, VISITORS};
 use rules::{row, tables};
-use units::{Run, after, date_of, on_dates};
+use units::{Run, on_dates};
 
 // One session: its standing words, its attend cells, its conf pairs.
 fn session(
@@ -79,8 +79,7 @@ impl Parts<'_> {
     {
         let meetings = self.settings.meetings as usize;
         let words = (meetings + 31) / 32;
-        for p in 0..self.n {
-            let row = row_of(self.stand, p, words, self.n);
+        for row in self.stand.chunks_exact(words) {
             if !row::padded(row, meetings) {
                 return false;
             }
@@ -98,13 +97,25 @@ impl Parts<'_> {
     {
         let s = self.settings;
         let words = (s.meetings as usize + 31) / 32;
-        let visitors = s.visitors as usize;
-        let wide = (s.rooms as usize) * 2;
-        for p in 0..self.n {
-            let stand = row_of(self.stand, p, words, self.n);
-            let attend = row_of(self.attend, p, visitors, self.n);
-            let conf = row_of(self.conf, p, wide, self.n);
+        let stands_of = self.stand.chunks_exact(words);
+        let attends = self.attend.chunks_exact(s.visitors as usize);
+        let confs = self.conf.chunks_exact((s.rooms as usize) * 2);
+        for ((stand, attend), conf) in stands_of.zip(attends).zip(confs) {
             if !session(stand, attend, conf, bounds, stands, s.meetings) {
+                return false;
+            }
+        }
+        true
+    }
+
+    // Each time of the date: its rides, with the tables of its guests.
+    fn rides(&self, guests: &[bool], seen: &mut [bool]) -> bool
+        requires { Ready self.now.settings.visitors guests.now seen.old }
+        ensures { Decides result ((i : ℕ) → i < self.now.q → Guests (row_at self.now.settings.transports i self.now.ride.now) self.now.settings.visitors guests.now) }
+    {
+        let limit = self.settings.visitors;
+        for row in self.ride.chunks_exact(self.settings.transports as usize) {
+            if !row::guest_row(row, guests, seen, limit) {
                 return false;
             }
         }
@@ -136,14 +147,7 @@ impl Parts<'_> {
         if !row::triples(self.lunch, &stands, self.caps, s.dining) {
             return false;
         }
-        guest_rows(
-            self.ride,
-            self.q,
-            s.transports as usize,
-            &guests,
-            &mut seen,
-            s.visitors,
-        )
+        self.rides(&guests, &mut seen)
     }
 
     // Does the date keep its laws? No tables are made for one without entries.
@@ -159,6 +163,15 @@ impl Parts<'_> {
         }
         self.entries()
     }
+}
+
+// The rows of a grid in the book from one slot to before another, as a date takes them of seven regions.
+fn rows(book: &[u32], grid: Grid, from: u32, to: u32) -> &[u32]
+    requires lies { Lies grid (reading book.now) }
+    requires from_le_to { (from ≤ to) × (to ≤ grid.slots) }
+    ensures { Part result.now ((to - from) * across grid) (block_of grid (reading book.now) from to) }
+{
+    Cells { words: book, grid }.block(from, to)
 }
 
 // Date d of a well-laid book: its row of each region by date, and the rows of its sessions and of its times, as many as there are.
@@ -180,13 +193,13 @@ fn date_at(
     let to = sessions.to.0;
     let first = times.from.0;
     let last = times.to.0;
-    let leave = block(book, site.grids.leave, day, next);
-    let hotel = block(book, site.grids.hotel, day, next);
-    let stand = block(book, site.grids.standing, from, to);
-    let attend = block(book, site.grids.attend, from, to);
-    let conf = block(book, site.grids.conf, from, to);
-    let lunch = block(book, site.grids.lunch, day, next);
-    let ride = block(book, site.grids.ride, first, last);
+    let leave = rows(book, site.grids.leave, day, next);
+    let hotel = rows(book, site.grids.hotel, day, next);
+    let stand = rows(book, site.grids.standing, from, to);
+    let attend = rows(book, site.grids.attend, from, to);
+    let conf = rows(book, site.grids.conf, from, to);
+    let lunch = rows(book, site.grids.lunch, day, next);
+    let ride = rows(book, site.grids.ride, first, last);
     let parts = Parts {
         settings: site.settings,
         caps,
@@ -209,16 +222,13 @@ pub fn dates(book: &[u32], site: Site, caps: &[u32; ROOMS]) -> bool
     requires caps { Caps site.settings caps.now }
     ensures { Decides result ((d : ℕ) → d < site.settings.dates → Kept site.settings caps.now (reading book.now) d) }
 {
-    let days = site.settings.dates;
-    // By hand: this counts dates, not numbers. A date is a slot's, or the one after a date (docs/DECISIONS, "Units are types").
-    let mut date = date_of(site.settings, model::Session(0));
-    while date.0 < days {
+    for d in 0..site.settings.dates {
+        let date = Date(d);
         let sessions = on_dates(site.settings, date, date);
         let times = on_dates(site.settings, date, date);
         if !date_at(book, site, caps, date, sessions, times) {
             return false;
         }
-        date = after(date);
     }
     true
 }

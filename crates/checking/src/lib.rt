@@ -2,7 +2,6 @@
 #![tactic(auto)]
 
 mod dates;
-mod rows;
 
 ghost use Rattle.std.specs.Prelude.{◌≡◌, true};
 ghost use Rattle.model.specs.Laws.{well_laid, diary_laid, lawful, diary_lawful};
@@ -10,7 +9,7 @@ ghost use Rattle.model.specs.Calls;
 
 use book::grid::site_of;
 use header::settings;
-use model::{Answer, Refusal};
+use model::{Answer, refused};
 use ring::law;
 use rules::tables;
 
@@ -42,16 +41,10 @@ pub fn check(book: &[u32]) -> Answer
     ensures { result ≡ Calls.check book.now }
 {
     if !settings::well_laid(book) {
-        return Err(Refusal {
-            number: 1,
-            place: 0,
-        });
+        return refused(1, 0);
     }
     if !book_lawful(book) {
-        return Err(Refusal {
-            number: 2,
-            place: 0,
-        });
+        return refused(2, 0);
     }
     Ok(0)
 }

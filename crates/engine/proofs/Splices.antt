@@ -3,30 +3,21 @@
 use Prim.Native.Nat.{ℕ, suc, ◌+◌, ◌*◌, ◌/◌, ◌-◌, ◌≤◌, ◌<◌, min}
 use mathlib.Core.Path.{◌≡◌, refl, sym, ◌∙◌, ap, ap₂, subst}
 use mathlib.Core.Bool.{Bool, true, false}
-use mathlib.Core.List.{List, [], ◌∷◌, ◌++◌, append_assoc, append-nil}
+use mathlib.Core.List.{List, ◌∷◌, ◌++◌, append_assoc, append-nil}
 use native.Mathlib.Omega.{arith}
 use lib.Dec.{ltb}
-use lib.ListN.{length, get_or, set, take, drop, length-append, length-take, length-drop, take-append-drop, get_or-eq_default}
-use lib.Seq.{take_at, drop_at, drop-drop, get_or-take, sets-eq}
+use lib.ListN.{length, get_or, take, drop, length-append, length-take, length-drop, take-append-drop, get_or-eq_default}
+use lib.Seq.{take_at, drop_at, drop-drop, get_or-take}
 use borrow.Author.Tests.{ltb-true, ltb-false}
 use Rattle.model.specs.declared.Settings.{Settings}
 use Rattle.model.specs.Messages.{request_length, request_of}
 use Rattle.model.specs.Machine.{Call, call_of, reply_words, perform}
 use Rattle.model.specs.Ledger.{ledger_of}
 use Rattle.model.specs.Calls.{Calls, calls, calls_of, replies_words}
-use Rattle.model.proofs.Told.{reply-long}
+use Rattle.model.proofs.Tells.{reply-long}
 use Rattle.book.specs.Good.{GoodBook}
 use Rattle.engine.specs.Lists.{spliced, One, All}
 use Rattle.step.proofs.Kept.{good-calls}
-
--- three writes in a row
-pub write-three : (l : List ℕ) (i x y z : ℕ) → i + 3 ≤ length l → set (set (set l i x) (i + 1) y) (i + 2) z ≡ spliced l i (x ∷ y ∷ z ∷ [])
-unfolding spliced
-write-three l i x y z h =
-    let e1 : i + 1 ≡ suc i = omega arith in
-    let e2 : i + 2 ≡ suc (suc i) = omega arith in
-    ap₂ (λ (j k : ℕ). set (set (set l i x) j y) k z) e1 e2 ∙ sets-eq (x ∷ y ∷ z ∷ []) l i h
-    ∙ append_assoc (take i l) (x ∷ y ∷ z ∷ []) (drop (i + 3) l)
 
 module _ (l : List ℕ) (i : ℕ) (h : i + 3 ≤ length l) (ws : List ℕ) (long : length ws ≡ 3) where
   split : length (take i l ++ ws) ≡ i + 3

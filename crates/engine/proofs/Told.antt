@@ -12,7 +12,7 @@ use Rattle.model.specs.Tail.{kept_at}
 use Rattle.model.specs.Machine.{ordered, Reply, told, reply_words, answer_order, perform}
 use Rattle.model.specs.Ledger.{Ledger, ledger_of}
 use Rattle.model.specs.Calls.{Calls, called, calls, calls_of, replies_words}
-use Rattle.model.proofs.Told.{Tellable, read, told_back}
+use Rattle.model.proofs.Tells.{Tellable, read, told_back}
 use Rattle.model.proofs.Ledger.{ledger-sound}
 use Rattle.book.specs.Good.{GoodBook, answered}
 use Rattle.engine.specs.Lists.{All}

@@ -12,7 +12,7 @@ ghost use Rattle.engine.specs.Lists.{as_asked};
 
 use crate::list::answer_one;
 use header::settings::{diary_len, settings};
-use model::{Answer, Asked, Refusal, Request};
+use model::{Answer, Asked, Request, refused};
 use ring::changes;
 use step::foresee;
 
@@ -62,10 +62,7 @@ pub fn commit(book: &mut [u32], count: u32, r: Request) -> Answer
 {
     checking::check(book)?;
     if changes::count(book) != count {
-        return Err(Refusal {
-            number: 29,
-            place: 0,
-        });
+        return refused(29, 0);
     }
     let s = settings(book);
     answer_one(book, s, 0, r)

@@ -12,8 +12,7 @@ ghost use Rattle.engine.specs.Lists.{spliced, One, All, as_listed};
 
 use header::lay::lay;
 use header::settings::{diary_len, settings};
-use model::{Answer, Request, Settings};
-use ring::answer_of;
+use model::{Answer, Request, Settings, Told};
 use step::told_step;
 
 // The words of a request, and those of a request with its order.
@@ -26,15 +25,9 @@ fn request_at(list: &[u32], at: usize) -> Request
     requires { at + 7 ≤ length list.now }
     ensures { result ≡ request_of (drop at list.now) }
 {
-    Request {
-        kind: list[at],
-        a: list[at + 1],
-        b: list[at + 2],
-        first: list[at + 3],
-        last: list[at + 4],
-        n: list[at + 5],
-        info: list[at + 6],
-    }
+    let mut words = [0; REQUEST_WORDS];
+    words.copy_from_slice(&list[at..at + REQUEST_WORDS]);
+    words.into()
 }
 
 // The number of its order: 0 where a request has seven words.
@@ -49,15 +42,13 @@ fn order_at(list: &[u32], at: usize, width: usize) -> u32
     list[at + 7]
 }
 
-// Three words at answer i.
-fn put_words(answers: &mut [u32], i: usize, number: u32, place: u32, value: u32)
+// The three words of answer i.
+fn put_words(answers: &mut [u32], i: usize, t: Told)
     requires { i * 3 + 3 ≤ length answers.old }
-    ensures { answers.new ≡ spliced answers.old (i * 3) (number ∷ place ∷ value ∷ []) }
+    ensures { answers.new ≡ spliced answers.old (i * 3) (t.number ∷ t.place ∷ t.value ∷ []) }
 {
     let at = i * 3;
-    answers[at] = number;
-    answers[at + 1] = place;
-    answers[at + 2] = value;
+    answers[at..at + 3].copy_from_slice(&[t.number, t.place, t.value]);
 }
 
 // Request i of the list, and its answer.
@@ -81,7 +72,7 @@ fn answer_at(
     let order = order_at(list, at, width);
     let r = request_at(list, at);
     let told = told_step(book, s, diary, order, r);
-    put_words(answers, i, told.number, told.place, told.value);
+    put_words(answers, i, told);
 }
 
 // The first n requests of the list, and their answers.
@@ -106,7 +97,8 @@ fn answer_all(
 }
 
 // One request on a good book, as a list of one: whatever judges and writes goes through the loop above, which has the only call of
-// `told_step`, so that the compiler puts the step into it.
+// `told_step`, so that the compiler puts the step into it. The eight words stand one by one: the seven that `From` makes would have to be copied
+// to get the order behind them.
 pub fn answer_one(book: &mut [u32], s: Settings, order: u32, r: Request) -> Answer
     requires { GoodBook s book.old }
     ensures { answered result book.new ≡ called (Machine.perform (ledger_of book.old) (ordered order r)) }
@@ -114,7 +106,13 @@ pub fn answer_one(book: &mut [u32], s: Settings, order: u32, r: Request) -> Answ
     let list = [r.kind, r.a, r.b, r.first, r.last, r.n, r.info, order];
     let mut words = [0u32; 3];
     answer_all(book, s, &list, ORDER_WORDS, &mut words, 1);
-    answer_of(words[0], words[1], words[2])
+    let [number, place, value] = words;
+    let told = Told {
+        number,
+        place,
+        value,
+    };
+    told.into()
 }
 
 // How many requests of a list of `words` words are answered in `room` words.
@@ -122,14 +120,7 @@ fn answerable_in(words: usize, width: usize, room: usize) -> usize
     requires { (7 ≤ width) × (width ≤ 8) }
     ensures { result ≡ min (min (words / width) (room / 3)) 4294967295 }
 {
-    let requests = words / width;
-    let answers = room / 3;
-    let both = if requests < answers {
-        requests
-    } else {
-        answers
-    };
-    if both < 4294967295 { both } else { 4294967295 }
+    (words / width).min(room / 3).min(4294967295)
 }
 
 // Each request of the list as it would be answered by itself, after one check of the book. The answer is done with their number.
@@ -144,6 +135,10 @@ fn answer_list(book: &mut [u32], list: &[u32], width: usize, answers: &mut [u32]
     Ok(n as u32)
 }
 
+// `requests` and `orders` here, `serve` and `serve_orders` below, are what callers in C have, one for each width. The width goes on as a number:
+// a const parameter would make a loop for each, and the compiler puts `told_step` into a loop only where it is called once (docs/DECISIONS, "One
+// call of the step").
+//
 // Requests of seven words, each as `request` would answer it.
 pub fn requests(book: &mut [u32], list: &[u32], answers: &mut [u32]) -> Answer
     ensures { as_listed result book.new answers.new

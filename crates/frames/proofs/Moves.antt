@@ -1,41 +1,10 @@
 -- What calls of `read` and `write` do one after the other, where the bytes are known.
 -- Assumes nothing.
-use Rattle.std.proofs.Common.{ℕ, zero, suc, ◌≡◌, ◌+◌, ◌-◌, ◌<◌, List, [], ◌++◌, length, take, drop, Option, None, Some, IfSome, Result, Ok, Err, refl, sym, ap, ◌∙◌, subst, append-nil, take-add}
-use Rattle.std.specs.Io.KnownBytes.{Keeps, Appends, Consumes, ReadConsumes, IsAtEnd}
-use Rattle.std.specs.declared.io.Error.{Error}
-use Rattle.std.proofs.KnownBytes.{Keeps-trans, Appends-trans, Appends-kept}
+use Rattle.std.proofs.Common.{ℕ, ◌≡◌, ◌+◌, ◌-◌, List, [], ◌++◌, length, take, drop, Option, None, Some, IfSome, sym, ap, ◌∙◌, subst, append-nil, take-add}
+use Rattle.std.specs.Io.KnownBytes.{Keeps, Appends, Consumes}
+use Rattle.std.proofs.KnownBytes.{Appends-trans, Appends-kept}
 use Rattle.std.proofs.lemmas.List.{take_rest}
 use Rattle.std.proofs.Math.Seq.{take-append-add, take-nil}
-use Rattle.model.proofs.Search.{both}
-use Rattle.frames.specs.declared.Sign.TheVariants.{Ended}
-use Rattle.frames.specs.Run.{heard, count_of, is_end}
-
-pub Consumes-after : (a b c : Option (List ℕ)) (bs : List ℕ) → Keeps a b → Consumes b c bs → Consumes a c bs
-Consumes-after None b c bs p q = tt
-Consumes-after (Some x) None c bs p q = absurd p
-Consumes-after (Some x) (Some y) None bs p q = absurd q
-Consumes-after (Some x) (Some y) (Some z) bs p q = sym p ∙ q
-
--- a call that moved nothing, and then another
-pub ReadConsumes-after : {E : Type 0} (a b c : Option (List ℕ)) (r : Result ℕ E) (buf : List ℕ) → Keeps a b → ReadConsumes b c r buf → ReadConsumes a c r buf
-ReadConsumes-after a b c (Ok n) buf p q = (Consumes-after a b c (take n buf) p q.0, q.1)
-ReadConsumes-after a b c (Err e) buf p q = Keeps-trans a b c p q
-
-Consumes-none : (a b : Option (List ℕ)) → Keeps a b → Consumes a b []
-Consumes-none None b q = tt
-Consumes-none (Some x) None q = absurd q
-Consumes-none (Some x) (Some y) q = sym q
-
--- what a read consumed, as its caller counts it
-pub Consumes-of_read : (a b : Option (List ℕ)) (r : Result ℕ Error) (buf : List ℕ) → ReadConsumes a b r buf → Consumes a b (take (count_of r) buf)
-Consumes-of_read a b (Ok n) buf q = q.0
-Consumes-of_read a b (Err e) buf q = Consumes-none a b q
-
--- nothing was read, though there was room
-pub IsAtEnd-of_read : (a b : Option (List ℕ)) (r : Result ℕ Error) (buf : List ℕ) → ReadConsumes a b r buf → 0 < length buf → heard r ≡ Ended → IsAtEnd b
-IsAtEnd-of_read a b (Ok zero) buf q h e = q.1 refl h
-IsAtEnd-of_read a b (Ok (suc n)) buf q h e = both (ap is_end e) refl
-IsAtEnd-of_read a b (Err x) buf q h e = both (ap is_end e) refl
 
 -- behind the m bytes that were sent, a call took n of the rest
 pub Appends-further : (a b c : Option (List ℕ)) (m n s : ℕ) (l : List ℕ) → s ≡ m + n → Appends a b (take m l)

@@ -1,6 +1,6 @@
 -- The sign of a turn: which signs say that the input ended, and which that all was written.
 -- Assumes nothing.
-use Rattle.std.proofs.Common.{ℕ, zero, suc, ◌≡◌, true, false, Result, Ok, Err, ◌⊎◌, inl, inr, refl, ap}
+use Rattle.std.proofs.Common.{◌≡◌, true, false, Result, Ok, Err, ◌⊎◌, inl, inr, refl, ap}
 use Rattle.std.specs.Prelude.{⊤}
 use Rattle.std.specs.declared.io.Error.{Error}
 use Rattle.model.proofs.Search.{both}
@@ -8,7 +8,7 @@ use Rattle.lines.specs.declared.stream.Phase.{Phase}
 use Rattle.lines.specs.declared.stream.Phase.TheVariants.{Opening, Later, Over}
 use Rattle.frames.specs.declared.Sign.{Sign}
 use Rattle.frames.specs.declared.Sign.TheVariants.{More, Ended, Unread, Unwritten}
-use Rattle.frames.specs.Run.{heard, count_of, signed, is_end, goes_on, is_put}
+use Rattle.frames.specs.Run.{signed, is_end, goes_on, is_put}
 
 -- the program goes on behind no other sign
 pub going_more : (g : Sign) → goes_on g ≡ true → g ≡ More
@@ -41,9 +41,3 @@ ended_by More Over (Ok t) h = inr refl
 ended_by Ended p q h = inl refl
 ended_by (Unread e) p q h = both h refl
 ended_by (Unwritten e) p q h = both h refl
-
--- where writing failed and the sign does not say so, nothing had been read
-pub unput_by : (r : Result ℕ Error) (p : Phase) (e : Error) → is_put (signed (heard r) p (Err e)) ≡ true → count_of r ≡ 0
-unput_by (Ok zero) p e h = refl
-unput_by (Ok (suc n)) p e h = both h refl
-unput_by (Err x) p e h = refl

@@ -1,40 +1,21 @@
 -- The program's turns, one after the other.
 -- Assumes nothing.
-use Rattle.std.proofs.Common.{ℕ, ◌≡◌, ◌*◌, ◌≤◌, ◌<◌, Bool, true, false, List, [], ◌∷◌, ◌++◌, length, take, Option, IfSome, Result, Ok, Err, OnOk, ◌⊎◌, inl, inr, refl, sym, ap, ◌∙◌, subst, append-nil, arith}
+use Rattle.std.proofs.Common.{ℕ, ◌≡◌, ◌<◌, Bool, true, false, List, [], ◌++◌, length, take, Option, IfSome, Result, Ok, Err, OnOk, ◌⊎◌, inl, inr, refl, sym, ap, ◌∙◌, subst, append-nil}
 use Rattle.std.specs.Prelude.{⊤}
 use Rattle.std.specs.Io.KnownBytes.{Appends, Consumes, IsAtEnd}
 use Rattle.std.specs.declared.io.Error.{Error}
 use Rattle.std.proofs.KnownBytes.{Consumes-trans, Consumes-nil, Appends-trans, Appends-nil, Consumes-whole}
-use Rattle.model.specs.Lines.{answer_bytes, frames}
+use Rattle.model.specs.Lines.{frames}
 use Rattle.model.proofs.Search.{both}
 use Rattle.lines.specs.Stream.{Turn as Written}
-use Rattle.lines.specs.Post.{Begun, Moved}
-use Rattle.lines.specs.declared.stream.Phase.{Phase}
+use Rattle.lines.specs.Post.{Begun}
 use Rattle.lines.specs.declared.stream.Phase.TheVariants.{Over}
-use Rattle.lines.specs.declared.stream.Stream.{Stream}
 use Rattle.lines.proofs.Program.{Ran, ran-none, ran-more, ran_ends, ran_over}
 use Rattle.frames.specs.declared.Turn.{Turn}
 use Rattle.frames.specs.declared.Sign.TheVariants.{More, Ended}
-use Rattle.frames.specs.Run.{heard, count_of, signed, is_end, is_put, Turned, Carried, Finished, Driven}
-use Rattle.frames.proofs.Signs.{put_more, put_end, end_unput, ended_by, unput_by}
-use Rattle.frames.proofs.Moves.{Appends-part, Appends-none, Appends-still, Consumes-rest}
-
--- the same by the number of bytes that were handed to write
-pub moved_as : {t : Written} {s : Stream} {b₀ b out₀ out : List ℕ} {wrote k n m : ℕ} → k ≡ wrote → n ≡ m
-    → Moved t s b₀ b out₀ out 0 wrote (answer_bytes * m) → Moved t s b₀ b out₀ out 0 k (answer_bytes * n)
-moved_as {t} {s} {b₀} {b} {out₀} {out} f e v = rw (← e, ← f) at v
-
--- what a turn wrote is written where its sign does not say otherwise
-pub put_by : (w w' : Option (List ℕ)) (got : Result ℕ Error) (p : Phase) (q : Result ⊤ Error) (l : List ℕ) → length l ≤ answer_bytes * count_of got
-    → OnOk q (Appends w w' l) → (n : ℕ) × Appends w w' (take n l) → is_put (signed (heard got) p q) ≡ true → Appends w w' l
-put_by w w' got p (Ok t) l few whole part h = whole
-put_by w w' got p (Err e) l few whole part h =
-    let z = unput_by got p e h in
-    Appends-none w w' l (empty l (subst (λ (k : ℕ). length l ≤ answer_bytes * k) z few)) part
-  where
-    empty : (l : List ℕ) → length l ≤ 0 → l ≡ []
-    empty [] k = refl
-    empty (x ∷ xs) k = absurd (omega arith)
+use Rattle.frames.specs.Run.{heard, count_of, is_end, is_put, Turned, Carried, Finished, Driven}
+use Rattle.frames.proofs.Signs.{put_more, put_end, end_unput, ended_by}
+use Rattle.frames.proofs.Moves.{Appends-part, Appends-still, Consumes-rest}
 
 -- Since the program began: what was read and handed to `write`; what the reader had left and the writer held then, r and w, and what they
 -- have and hold now, r' and w'; and why no more is read, where that is so and a turn has room for k bytes.
@@ -63,9 +44,9 @@ pub since-more : {r r₁ r₂ w w₁ w₂ : Option (List ℕ)} {k : ℕ} {b b' c
     → Turned t.stream b out₀ chunk t' b' out → Carried r₁ r₂ w₁ w₂ t' chunk out → k ≡ length chunk → Since r r₂ w w₂ k t' b'
 since-more {r} {r₁} {r₂} {w} {w₁} {w₂} {k} {chunk = chunk} {out = out} {t' = t'} v m d c e =
     record {
-      input = v.input ++ take t'.read chunk;
+      input = v.input ++ take (count_of t'.got) chunk;
       output = v.output ++ take t'.wrote out;
-      ran = ran-more (take t'.read chunk) v.ran d.moved;
+      ran = ran-more (take (count_of t'.got) chunk) v.ran d.moved;
       taken = Consumes-trans r r₁ r₂ _ _ v.taken c.taken;
       given = λ h. Appends-trans w w₁ w₂ _ _ (v.given (put_more m)) (c.whole h);
       part = Appends-part w w₁ w₂ _ _ (v.given (put_more m)) c.part;

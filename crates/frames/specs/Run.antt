@@ -69,15 +69,14 @@ status_of (Unwritten e) q = 1
 -- A turn from the stream s and the book b₀: `read` left the first bytes of chunk, as many as it answered, and the first bytes of out, which
 -- were handed to `write`, are what the model writes for them.
 pub record Turned (s : Stream) (b₀ out₀ chunk : List ℕ) (t : Turn) (b out : List ℕ) : Type 0 where
-  pub count : t.read ≡ count_of t.got
-  pub within : t.read ≤ length chunk
-  pub moved : Moved (run (point_of s b₀) (take t.read chunk)) t.stream b₀ b out₀ out 0 t.wrote (answer_bytes * t.read)
+  pub within : count_of t.got ≤ length chunk
+  pub moved : Moved (run (point_of s b₀) (take (count_of t.got) chunk)) t.stream b₀ b out₀ out 0 t.wrote (answer_bytes * count_of t.got)
   pub sign : t.sign ≡ signed (heard t.got) t.stream.phase t.put
 
 -- What the reader had left, r before the turn and r' behind it, and what the writer held, w and w', where they say it: the reader lost the
 -- bytes that were read, and had no more where none were; the writer gained what was handed to `write`, or a part of it where that failed.
 pub record Carried (r r' w w' : Option (List ℕ)) (t : Turn) (chunk out : List ℕ) : Type 0 where
-  pub taken : Consumes r r' (take t.read chunk)
+  pub taken : Consumes r r' (take (count_of t.got) chunk)
   pub last : 0 < length chunk → heard t.got ≡ Ended → IsAtEnd r'
   pub whole : is_put t.sign ≡ true → Appends w w' (take t.wrote out)
   pub part : (n : ℕ) × Appends w w' (take n (take t.wrote out))

@@ -31,7 +31,8 @@ const CHUNK: usize = 65536;
 
 const ANSWERS_ROOM: usize = ANSWER_BYTES * CHUNK;
 
-// How a turn went: there may be more input; there is none, or none that is read; reading failed; writing failed.
+// How a turn went: there may be more input; there is none, or none that is read; reading failed; writing failed. An enum of its own, since
+// two ways to go well and two to fail are neither an Option nor a Result: the failures are told apart by what the status says of them.
 #[derive(Clone, Copy)]
 pub enum Sign {
     More,
@@ -40,12 +41,11 @@ pub enum Sign {
     Unwritten(Error),
 }
 
-// What `read` answered in a turn, and how many bytes that is; where the stream is then; how many bytes are handed to `write`, and what
-// came of writing them; and how the turn went.
+// What `read` answered in a turn; where the stream is then; how many bytes are handed to `write`, and what came of writing them; and how the
+// turn went.
 #[derive(Drop)]
 pub struct Turn {
     pub got: io::Result<usize>,
-    pub read: usize,
     pub stream: Stream,
     pub wrote: usize,
     pub put: io::Result<()>,
@@ -68,13 +68,17 @@ pub struct End {
 }
 
 // What an answer of `read` says.
-fn sign_of_read(got: io::Result<usize>) -> Sign
-    ensures { result ≡ heard got }
-{
-    match got {
-        Ok(0) => Sign::Ended,
-        Ok(_) => Sign::More,
-        Err(e) => Sign::Unread(e),
+impl From<io::Result<usize>> for Sign {
+    ghost use Rattle.frames.specs.Run.{heard};
+
+    ghost from_gives = { λ got sign. sign ≡ heard got };
+
+    fn from(got: io::Result<usize>) -> Sign {
+        match got {
+            Ok(0) => Sign::Ended,
+            Ok(_) => Sign::More,
+            Err(e) => Sign::Unread(e),
+        }
     }
 }
 
@@ -86,37 +90,24 @@ fn sign_of_turn(read: Sign, phase: Phase, put: io::Result<()>) -> Sign
         Sign::More => match put {
             Err(e) => Sign::Unwritten(e),
             Ok(()) => match phase {
-                Phase::Opening => Sign::More,
-                Phase::Later => Sign::More,
+                Phase::Opening | Phase::Later => Sign::More,
                 Phase::Over => Sign::Ended,
             },
         },
-        Sign::Ended => Sign::Ended,
-        Sign::Unread(e) => Sign::Unread(e),
-        Sign::Unwritten(e) => Sign::Unwritten(e),
+        other => other,
     }
 }
 
 fn is_end(sign: Sign) -> bool
     ensures { result ≡ is_end sign }
 {
-    match sign {
-        Sign::More => false,
-        Sign::Ended => true,
-        Sign::Unread(_) => false,
-        Sign::Unwritten(_) => false,
-    }
+    matches!(sign, Sign::Ended)
 }
 
 fn goes_on(turn: &Turn) -> bool
     ensures { result ≡ goes_on turn.now.sign }
 {
-    match turn.sign {
-        Sign::More => true,
-        Sign::Ended => false,
-        Sign::Unread(_) => false,
-        Sign::Unwritten(_) => false,
-    }
+    matches!(turn.sign, Sign::More)
 }
 
 // Whether a call that failed so was interrupted by a signal before it moved a byte.
@@ -144,7 +135,8 @@ fn receive<R: Read>(input: &mut R, chunk: &mut [u8]) -> io::Result<usize>
     input.read(chunk)
 }
 
-// Hands all the bytes to `write`, the rest again where it took a part.
+// Hands all the bytes to `write`, the rest again where it took a part. By hand and not by `write_all`, whose contract does not say what was
+// written where it fails.
 fn send<W: Write>(output: &mut W, bytes: &[u8]) -> Sent
     ensures handed { result.handed ≡ length bytes.now }
     ensures whole { OnOk result.put (Appends (W.contents output.old) (W.contents output.new) bytes.now) }
@@ -214,11 +206,10 @@ fn take_turn<R: Read, W: Write>(
     let put = sent.put;
     Turn {
         got,
-        read: n,
         stream: next,
         wrote: sent.handed,
         put,
-        sign: sign_of_turn(sign_of_read(got), phase, put),
+        sign: sign_of_turn(Sign::from(got), phase, put),
     }
 }
 
@@ -229,7 +220,6 @@ fn start() -> Turn
 {
     Turn {
         got: Ok(0),
-        read: 0,
         stream: lines::stream::begin(),
         wrote: 0,
         put: Ok(()),

@@ -1,6 +1,6 @@
 -- What stands at the front of the input.
 -- Assumes nothing.
-use Prim.Native.Nat.{ℕ, zero, suc, ◌+◌, ◌*◌, ◌≤◌, ◌<◌}
+use Prim.Native.Nat.{ℕ, suc, ◌+◌, ◌-◌, ◌*◌, ◌≤◌, ◌<◌}
 use native.Mathlib.Omega.{arith}
 use mathlib.Core.Path.{◌≡◌, refl, sym, ◌∙◌, ap, ap₂}
 use mathlib.Core.Logic.{◌⊎◌, inl, inr}
@@ -17,6 +17,7 @@ use Rattle.text.specs.Digits.{is_digit, digits_only}
 use Rattle.std.specs.Prelude.{Some, None, position}
 use Rattle.std.specs.List.{position_from}
 use Rattle.std.proofs.lemmas.Option.{none-some}
+use Rattle.std.proofs.lemmas.List.{drop-take}
 use Rattle.std.proofs.lemmas.List.Quantifiers.{position-Some}
 use Rattle.std.proofs.lemmas.Iterator.Adapters.{position_from-zero}
 use borrow.Author.Tests.{eqb-true, eqb-false}
@@ -51,10 +52,9 @@ free-from (b ∷ l) i h = by (eqb b 10) refl h (free-from l (i + 1))
 
 -- a part of a line is that part of the input
 part_of : (k m n : ℕ) (l : List ℕ) → m + k ≤ n → take k (drop m (take n l)) ≡ take k (drop m l)
-part_of k zero n l h = take-take k n l (omega arith)
-part_of k (suc m) zero l h = absurd (omega arith)
-part_of k (suc m) (suc n) [] h = refl
-part_of k (suc m) (suc n) (b ∷ l) h = part_of k m n l (omega arith)
+part_of k m n l h =
+    let s : m + (n - m) ≡ n = omega arith in
+    ap (λ (i : ℕ). take k (drop m (take i l))) (sym s) ∙ ap (take k) (drop-take m (n - m) l) ∙ take-take k (n - m) (drop m l) (omega arith)
 
 module _ (l : List ℕ) where
   -- the words of a line

@@ -23,7 +23,7 @@ pub fn request_ahead(s: &[u8]) -> Option<Request>
     let n = word_at(s, 40);
     let info = word_at(s, 48);
     // One test of all words and not `?` at each: lines of frames then take a sixth longer, since each branch parts words that are read side
-    // by side.
+    // by side. `all` over an array of the seven would branch at each too.
     let all = kind.is_some()
         & a.is_some()
         & b.is_some()

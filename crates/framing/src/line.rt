@@ -27,7 +27,7 @@ pub fn line_end(s: &[u8]) -> Option<usize>
 }
 
 // What stands at the front of the input: a frame line of some length, with its call; another line of some length; or a line that is not
-// over.
+// over. An enum of its own, since three cases with values of their own, none of them a failure, are neither an Option nor a Result.
 #[derive(Clone, Copy)]
 pub enum Next {
     Frame {
@@ -121,12 +121,13 @@ pub fn line_words(line: &[u8], words: &mut [u32])
     requires line_in_bounds { length line.now / 8 ≤ length words.old }
     ensures { take (length line.now / 8) words.new ≡ line_words line.now }
 {
-    for k in 0..line.len() / 8 {
-        words[k] = word_at(line, 8 * k).unwrap();
+    for (k, word) in words[..line.len() / 8].iter_mut().enumerate() {
+        *word = word_at(line, 8 * k).unwrap();
     }
 }
 
-// The three words of an answer behind what was written.
+// The three words of an answer behind what was written. By its two cases, and not word by word as in `Told`: the words that are 0 would be
+// made into digits too, and an answer takes a quarter longer.
 fn put_words(out: &mut [u8], at: usize, a: Answer)
     requires { at + answer_digits ≤ length out.old }
     ensures { Put out.old out.new at (hexadecimal (answer_words a)) }

@@ -1,8 +1,8 @@
 -- The head of a book: what the tests of single limits and capacities make of the model's tests.
 -- Assumes nothing.
 use Prim.Native.Nat.{ℕ, ◌≤◌, ◌<◌}
-use mathlib.Core.Path.{◌≡◌, refl, sym, ◌∙◌, ap}
-use mathlib.Core.Bool.{Bool, true, false, not, ◌&&◌, and_assoc, and-true}
+use mathlib.Core.Path.{◌≡◌, refl, sym, ◌∙◌, ap, subst}
+use mathlib.Core.Bool.{Bool, true, false, cond, not, ◌&&◌, and_assoc, and-true}
 use mathlib.Core.List.{List}
 use native.Mathlib.Omega.{arith}
 use lib.Dec.{leb, ltb, eqb}
@@ -17,7 +17,11 @@ use Rattle.model.specs.Reading.{settings_of}
 use Rattle.model.specs.Ledger.{book_length}
 use Rattle.model.specs.Laws.{well_laid, diary_laid}
 use Rattle.model.specs.Calls.{settings_good}
-use Rattle.model.proofs.Search.{true-any, and_left, and_right}
+use Rattle.std.specs.Prelude.{MatchBool, None, Option, Some}
+use Rattle.std.specs.List.{zip, range_with_len, AllWithin, HoldsAt}
+use Rattle.std.proofs.lemmas.List.FromFn.{length-range_with_len, get_or-range_with_len}
+use Rattle.std.proofs.lemmas.Slice.Zip.{length-zip, get_or-zip}
+use Rattle.model.proofs.Search.{true-any, true-all, and_left, and_right}
 use Rattle.model.proofs.Places.{length-list, get_d-list}
 use Rattle.model.proofs.ReadBack.{Valid, valid-is as model-valid}
 use Rattle.book.specs.Grids.{grid_of, end, Laid}
@@ -112,10 +116,34 @@ good-is b e =
       and_right (leb fixed_words (length b) && eqb (length b) (settings_length (settings_of b))) _ e,
     )
 
-pub needed-none : (b : List ℕ) → settings_good b ≡ false → needed_length b ≡ 0
+pub needed-none : (b : List ℕ) → settings_good b ≡ false → needed_length b ≡ None
 unfolding needed_length
 needed-none b e = rw e
 
-pub needed-some : (b : List ℕ) → settings_good b ≡ true → needed_length b ≡ book_length (settings_of b)
+pub needed-some : (b : List ℕ) → settings_good b ≡ true → needed_length b ≡ Some (book_length (settings_of b))
 unfolding needed_length
 needed-some b e = rw e
+
+-- ---- the capacities, each beside its number
+
+abbrev seats : Settings → List (ℕ × ℕ)
+seats S = zip (range_with_len 0 16) S.capacities
+
+abbrev pub seat_said : Settings → ℕ × ℕ → Bool
+seat_said S y = cond (ltb y.0 S.dining) (within 1 1000 y.1) (eqb y.1 0)
+
+seat-at : (S : Settings) → length S.capacities ≡ 16 → (k : ℕ) → k < 16 → get_or (seats S) k (0, 0) ≡ (k, get_or S.capacities k 0)
+seat-at S h k l =
+    get_or-zip (range_with_len 0 16) S.capacities k (0, 0) (omega (arith, length-range_with_len 0 16)) (omega (arith, h))
+    ∙ ap (λ (i : ℕ). (i, get_or S.capacities k 0)) (get_or-range_with_len 0 16 k 0 l ∙ omega arith)
+
+pub seats-said : (S : Settings) → length S.capacities ≡ 16 → (r : Bool)
+    → MatchBool r (AllWithin (λ y. seat_said S y ≡ true) (seats S) 0 (length (seats S)))
+    ((k : ℕ) × (k < length (seats S)) × HoldsAt (λ y. seat_said S y ≡ false) (seats S) k)
+    → r ≡ all (seat_good S) 16
+seats-said S h true good =
+    sym (true-all (seat_good S) 16 (λ k l. subst (λ (y : ℕ × ℕ). seat_said S y ≡ true) (seat-at S h k l)
+    (good k (0, 0) (omega arith) (omega (arith, l, h, length-zip (range_with_len 0 16) S.capacities, length-range_with_len 0 16)))))
+seats-said S h false (k, l, bad) =
+    let m : k < 16 = omega (arith, l, h, length-zip (range_with_len 0 16) S.capacities, length-range_with_len 0 16) in
+    sym (not-all (seat_good S) 16 k m (subst (λ (y : ℕ × ℕ). seat_said S y ≡ false) (seat-at S h k m) (bad (0, 0))))

@@ -4,7 +4,7 @@ ghost use Rattle.model.specs.Calls;
 ghost use Rattle.book.specs.Good.{answered};
 
 use crate::settings::{length_of, settings, settings_good};
-use model::{Answer, Refusal};
+use model::{Answer, refused};
 
 // The words, then zeros to the end of the book.
 fn fill(words: &[u32], book: &mut [u32])
@@ -21,17 +21,11 @@ pub fn lay(words: &[u32], book: &mut [u32]) -> Answer
     ensures { answered result book.new ≡ Calls.lay words.now book.old }
 {
     if !settings_good(words) {
-        return Err(Refusal {
-            number: 24,
-            place: 0,
-        });
+        return refused(24, 0);
     }
     let needed = length_of(settings(words));
     if book.len() != needed {
-        return Err(Refusal {
-            number: 25,
-            place: 0,
-        });
+        return refused(25, 0);
     }
     fill(words, book);
     Ok(0)

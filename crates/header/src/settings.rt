@@ -35,7 +35,7 @@ fn seat(words: &[u32], dining: u32, g: usize) -> u32
     word(words, FIXED_WORDS + g)
 }
 
-// By index: of an array from a function it is not proved that it is that list.
+// A loop: `array::from_fn` was tried, and the proof did not close: its clause `at` tells of a call on some captures, not on these.
 fn seats(words: &[u32], dining: u32) -> [u32; 16]
     ensures { result ≡ list (seat_of words.now dining) 16 }
 {
@@ -88,13 +88,9 @@ fn seats_good(s: Settings) -> bool
     requires { length s.capacities ≡ 16 }
     ensures { result ≡ all (seat_good s) 16 }
 {
-    let caps = s.capacities;
-    for g in 0..16 {
-        if !seat_good(s.dining, g as u32, caps[g]) {
-            return false;
-        }
-    }
-    true
+    (0..16)
+        .zip(s.capacities.iter())
+        .all(|(g, cap)| seat_good(s.dining, g, *cap))
 }
 
 // Every limit and capacity is in its range, and there are fewer early times than times of a date.
@@ -139,15 +135,14 @@ pub fn settings_good(words: &[u32]) -> bool
     valid(s)
 }
 
-// The length of the book that settings ask for, and 0 for settings that question 24 refuses: C is told the number as it is, and no book
-// has 0 words.
-pub fn book_len(words: &[u32]) -> usize
+// The length of the book that settings ask for, and none for settings that question 24 refuses.
+pub fn book_len(words: &[u32]) -> Option<usize>
     ensures { result ≡ needed_length words.now }
 {
     if !settings_good(words) {
-        return 0;
+        return None;
     }
-    length_of(settings(words))
+    Some(length_of(settings(words)))
 }
 
 // Question 1.

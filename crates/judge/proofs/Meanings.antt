@@ -13,7 +13,7 @@ use Rattle.kinds.specs.declared.table.Row.{Row}
 use Rattle.kinds.specs.Rows.{Ready, row_of, fields_no}
 use Rattle.questions.specs.Asked.{first_with, first_without, first_row_with, holds_in, room_left, not_held}
 use Rattle.judge.specs.Chains.{asked, tested, found_or, asked_all, answer_for, in_words}
-use Rattle.judge.specs.Chains.{add_stay, attend_adds, conf_adds, lunch_adds, lunch_fits, standing_ends, erase_all, erase_pair}
+use Rattle.judge.specs.Chains.{add_stay, stay_adds, attend_adds, conf_adds, lunch_adds, lunch_fits, standing_ends, erase_all, erase_pair}
 use Rattle.questions.proofs.Pairs.{present-fails, absent-fails, free-fails, elsewhere-a-fails, elsewhere-v-fails}
 use Rattle.model.specs.declared.Settings.{Settings}
 use Rattle.model.specs.declared.Request.{Request}
@@ -90,7 +90,7 @@ module _ (b : List ℕ) (good : Good (settings_of b) b) (r : Request) where
   kind-is : (k : Kind) → Ready (settings_of b) (row k) r → in_words (settings_of b) (grids_of (settings_of b)) b r k
       ≡ asked_all (state_of b) r k (further k) (done_with (value (state_of b) r k))
   unfolding state_of read_state ask test value in_words holds_in room_left not_held first_with first_without first_row_with
-      add_stay attend_adds conf_adds lunch_adds lunch_fits standing_ends erase_all erase_pair
+      add_stay stay_adds attend_adds conf_adds lunch_adds lunch_fits standing_ends erase_all erase_pair
   kind-is add_leave h = refl
   kind-is end_leave h = refl
   kind-is remove_visitor h = refl

@@ -3,15 +3,14 @@
 use Prim.Native.Nat.{ℕ, zero, suc}
 use mathlib.Core.Path.{◌≡◌, refl, sym, ◌∙◌, ap}
 use mathlib.Core.Bool.{Bool, true, false, cond}
-use Rattle.std.specs.Prelude.{Option, None, Some, Result, Ok, Err, IsErrAnd}
-use Rattle.std.proofs.lemmas.Result.{err_from_is_err_and}
+use Rattle.std.specs.Prelude.{Option, None, Some, Result, Ok, Err}
 use native.Mathlib.Omega.{arith}
 use mathlib.Core.List.{List, [], ◌∷◌, ◌++◌}
 use Rattle.book.specs.Good.{Good}
 use Rattle.kinds.specs.declared.table.Row.{Row}
-use Rattle.kinds.specs.Rows.{Ready, row_of, first_no, fields_no, zero_unused, slots_fit}
+use Rattle.kinds.specs.Rows.{Ready, row_of, first_no, fields_no, passed, zero_unused, slots_fit}
 use Rattle.kinds.proofs.Limits.{fields-is, ready_by}
-use Rattle.judge.specs.Chains.{asked, asked_all, answer_for, passed}
+use Rattle.judge.specs.Chains.{asked, asked_all, answer_for}
 use Rattle.model.specs.declared.Settings.{Settings}
 use Rattle.model.specs.declared.Request.{Request}
 use Rattle.model.specs.Answers.{Answer}
@@ -83,10 +82,6 @@ module _ (b : List ℕ) (r : Request) (k : Kind) where
       ∙ sym (judge-asked (state_of b) r k (always ++ further k) (value (state_of b) r k))
       ∙ sym (finish-asked (state_of b) r k (judge (state_of b) r k (always ++ further k)))
       ∙ ap (λ (o : Option Kind). (step_kind (state_of b) r o).answer) (sym e)
-
--- what an exit by `?` returns
-pub err-is : {T : Type 0} {e : Refusal} (r : Result T Refusal) → IsErrAnd r (λ y. y ≡ e) → r ≡ Err e
-err-is r h = let p = err_from_is_err_and r h in p.1 ∙ ap Err p.2
 
 -- where the code goes on, questions 4 to 7 have no no
 pub none-no : {n : ℕ} {a : Result (Unit {0}) Refusal} {u : Unit {0}} → a ≡ passed n → a ≡ Ok u → n ≡ 0

@@ -1,6 +1,6 @@
 -- The questions of each kind past 7 as the code asks them, one after the other, over the words of a book.
 -- Assumes nothing.
-use Rattle.std.specs.Prelude.{ℕ, zero, suc, ◌+◌, ◌-◌, Bool, true, false, List, [], ◌∷◌}
+use Rattle.std.specs.Prelude.{ℕ, ◌+◌, ◌-◌, Bool, true, false, List, [], ◌∷◌}
 use Rattle.std.specs.Prelude.{Option, Some, None, Result, Ok, Err}
 use Rattle.book.specs.declared.grid.Grid.{Grid}
 use Rattle.book.specs.declared.grid.Grids.{Grids}
@@ -23,11 +23,7 @@ use Rattle.model.specs.Questions.{Question, number, ask, further, bookings, meet
 use Rattle.model.specs.Machine.{value}
 use Rattle.model.specs.Reading.{state_of}
 
--- what the code does with the number of the first no of questions 4 to 7, and with the slot that a question found: refused, or on to the next
-abbrev pub passed : ℕ → Result (Unit {0}) Refusal
-passed zero = Ok tt
-passed (suc n) = Err (record { number = suc n; place = 0 })
-
+-- what the code does with the slot that a question found: refused there, or on to the next
 abbrev pub ask_of : ℕ → Option ℕ → Result (Unit {0}) Refusal
 ask_of n None = Ok tt
 ask_of n (Some i) = Err (record { number = n; place = i })
@@ -42,13 +38,18 @@ abbrev pub tested : ℕ → Bool → Answer → Answer
 tested n true next = next
 tested n false next = refused_with n 0
 
--- kinds 4 and 6; after question 11 the pair's own cell does not hold it, so that 13 may ask the whole row
-unfoldable pub add_stay : Settings → List ℕ → Grid → SlotUnit → ℕ → ℕ → ℕ → ℕ → Answer
-add_stay S b g u a v first last =
-    asked 9 (slots_fail S b (OnLeave u) v 0 first last)
-    (asked 11 (first_with g b a (v + 1) first last)
+-- kinds 4 and 6 by what question 9 found, where w stands for the visitor in a cell; after question 11 the pair's own cell does not hold it, so that
+-- 13 may ask the whole row
+unfoldable pub stay_adds : Option ℕ → List ℕ → Grid → ℕ → ℕ → ℕ → ℕ → Answer
+stay_adds away b g a w first last =
+    asked 9 away
+    (asked 11 (first_with g b a w first last)
     (asked 12 (first_without g b a 0 first last)
-    (asked 13 (first_row_with g b (v + 1) first last) (done_with 0))))
+    (asked 13 (first_row_with g b w first last) (done_with 0))))
+
+-- kinds 4 and 6
+unfoldable pub add_stay : Settings → List ℕ → Grid → SlotUnit → ℕ → ℕ → ℕ → ℕ → Answer
+add_stay S b g u a v first last = stay_adds (slots_fail S b (OnLeave u) v 0 first last) b g a (v + 1) first last
 
 -- kind 10; after question 11 the visitor's cell does not hold the meeting, so that 13 asks whether it is empty
 unfoldable pub attend_adds : Settings → List ℕ → Grid → ℕ → ℕ → ℕ → ℕ → Answer

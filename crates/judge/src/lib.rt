@@ -1,4 +1,4 @@
-// The answers of requests on a good book, kind by kind: reads only.
+// The answers of requests on a good diary, kind by kind: reads only.
 #![tactic(auto)]
 
 pub mod answers;
@@ -10,41 +10,37 @@ pub mod visitors;
 ghost use Rattle.std.specs.Prelude.{◌≡◌};
 ghost use Rattle.model.specs.Machine.{step};
 ghost use Rattle.model.specs.Reading.{state_of};
-ghost use Rattle.book.specs.Good.{Good};
 ghost use Rattle.book.specs.Lent.{reading};
 
-use book::grid::site_of;
-use model::{Answer, Request, Settings};
+use book::diary::Diary;
+use model::{Answer, Request, refused};
 
 // The answer that a request of any kind would get, question 3 included, where nothing is to be written. By number: the kind of a request is
 // any word of a caller, and an enum would be made by the same choice.
-pub fn judge(book: &[u32], s: Settings, r: Request) -> Answer
-    requires { Good s (reading book.now) }
-    ensures { result ≡ (step (state_of (reading book.now)) r).answer }
+pub fn judge(diary: Diary<'_>, r: Request) -> Answer
+    ensures { result ≡ (step (state_of (reading diary.entry.words.now)) r).answer }
 {
-    let site = site_of(s);
-    let kind = r.kind;
-    match kind {
-        1 => visitors::add_leave(book, site, r),
-        2 => eager::end_leave(book, site, r),
-        3 => visitors::remove_visitor(book, site, r),
-        4 => eager::add_hotel(book, site, r),
-        5 => visitors::erase_hotel(book, site, r),
-        6 => eager::add_ride(book, site, r),
-        7 => visitors::erase_ride(book, site, r),
-        8 => meetings::add_standing(book, site, r),
-        9 => eager::end_standing(book, site, r),
-        10 => eager::add_attend(book, site, r),
-        11 => meetings::erase_attend(book, site, r),
-        12 => eager::add_conf(book, site, r),
-        13 => meetings::erase_conf(book, site, r),
-        14 => eager::add_lunch(book, site, r),
-        15 => meetings::erase_lunch(book, site, r),
-        16 => eager::erase_conf_and_lunch(book, site, r),
-        17 => asking::which_meeting(book, site, r),
-        18 => asking::count_leave(book, site, r),
-        19 => asking::seats_left(book, site, r),
-        20 => asking::free_room(book, site, r),
-        _ => answers::refused(3, 0),
+    match r.kind {
+        1 => visitors::add_leave(diary, r),
+        2 => eager::end_leave(diary, r),
+        3 => visitors::remove_visitor(diary, r),
+        4 => eager::add_hotel(diary, r),
+        5 => visitors::erase_hotel(diary, r),
+        6 => eager::add_ride(diary, r),
+        7 => visitors::erase_ride(diary, r),
+        8 => meetings::add_standing(diary, r),
+        9 => eager::end_standing(diary, r),
+        10 => eager::add_attend(diary, r),
+        11 => meetings::erase_attend(diary, r),
+        12 => eager::add_conf(diary, r),
+        13 => meetings::erase_conf(diary, r),
+        14 => eager::add_lunch(diary, r),
+        15 => meetings::erase_lunch(diary, r),
+        16 => eager::erase_conf_and_lunch(diary, r),
+        17 => asking::which_meeting(diary, r),
+        18 => asking::count_leave(diary, r),
+        19 => asking::seats_left(diary, r),
+        20 => asking::free_room(diary, r),
+        _ => refused(3, 0),
     }
 }

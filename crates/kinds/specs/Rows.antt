@@ -1,11 +1,12 @@
 -- The code's table of kinds, from the model's at a site, and questions 4 to 7 over a row of it.
 -- Assumes nothing.
-use Rattle.std.specs.Prelude.{ℕ, ◌≤◌, ◌<◌, ◌≡◌, Bool, true, false, not, ◌&&◌, ◌||◌, leb, ltb, eqb}
+use Rattle.std.specs.Prelude.{ℕ, zero, suc, ◌≤◌, ◌<◌, ◌≡◌, Bool, true, false, not, ◌&&◌, ◌||◌, leb, ltb, eqb}
 use Rattle.std.specs.Option.{is_some}
-use Rattle.std.specs.Prelude.{Option, None, Some}
+use Rattle.std.specs.Prelude.{Option, None, Some, Result, Ok, Err}
 use Rattle.kinds.specs.declared.table.Row.{Row}
 use Rattle.model.specs.declared.Settings.{Settings}
 use Rattle.model.specs.declared.Request.{Request}
+use Rattle.model.specs.declared.Refusal.{Refusal}
 use Rattle.model.specs.Kinds.{used, limit, slots_of}
 use Rattle.model.specs.Kinds.{Row as ModelRow}
 use Rattle.model.specs.Questions.{zero_unless}
@@ -57,6 +58,11 @@ fields_no w r =
     (first_no 5 (below w.a r.a)
     (first_no 6 (below w.b r.b)
     (first_no 7 (slots_fit w.slots w.one r.first r.last) 0)))
+
+-- what the code does with the number of the first no: refused, or on to the next
+abbrev pub passed : ℕ → Result (Unit {0}) Refusal
+passed zero = Ok tt
+passed (suc n) = Err (record { number = suc n; place = 0 })
 
 -- what questions 5 to 7 leave of a request
 abbrev pub Below : Option ℕ → ℕ → Type 0

@@ -1,9 +1,9 @@
 // Questions 4 to 7, asked of the words of a request and the row of its kind.
 ghost use Rattle.std.specs.Prelude.{◌≡◌};
-ghost use Rattle.kinds.specs.Rows.{left_over, below, unused_zero, slots_fit, fields_no};
+ghost use Rattle.kinds.specs.Rows.{left_over, below, unused_zero, slots_fit, fields_no, passed};
 
 use crate::table::Row;
-use model::Request;
+use model::{Refusal, Request, refused};
 
 // What a word leaves over for question 4: nothing where its field is used.
 fn left_over(used: bool, w: u32) -> u32
@@ -39,22 +39,22 @@ fn slots_fit(slots: u32, one: bool, first: u32, last: u32) -> bool
     first <= last && last < slots && (!one || first == last)
 }
 
-// The number of the first no, or 0.
+// Questions 4 to 7, which a row puts to the words of a request: the first no refuses it.
 #[tactic(auto, unfolding(crate::specs::Rows::fields_no))]
-pub fn first_no(w: Row, r: Request) -> u32
-    ensures { result ≡ fields_no w r }
+pub fn fields(row: Row, r: Request) -> Result<(), Refusal>
+    ensures { result ≡ passed (fields_no row r) }
 {
-    if !unused_zero(w, r.a, r.b, r.n, r.info) {
-        return 4;
+    if !unused_zero(row, r.a, r.b, r.n, r.info) {
+        return refused(4, 0);
     }
-    if !is_below(w.a, r.a) {
-        return 5;
+    if !is_below(row.a, r.a) {
+        return refused(5, 0);
     }
-    if !is_below(w.b, r.b) {
-        return 6;
+    if !is_below(row.b, r.b) {
+        return refused(6, 0);
     }
-    if !slots_fit(w.slots, w.one, r.first, r.last) {
-        return 7;
+    if !slots_fit(row.slots, row.one, r.first, r.last) {
+        return refused(7, 0);
     }
-    0
+    Ok(())
 }

@@ -12,7 +12,7 @@ ghost use Rattle.kinds.specs.Rows.{row_of, plain as plain_row, single as single_
 use model::Settings;
 
 // A row of the table: the limits that the fields a and b stay below, none for one that is not used, the number of slots of the kind's unit,
-// whether n and info are used, and whether first = last.
+// whether n and info are used, and whether first = last: three flags, none of which has a value beside it.
 #[derive(Clone, Copy)]
 pub struct Row {
     pub a: Option<u32>,

@@ -1,7 +1,7 @@
 -- A good book stays good, and shows the machine's ledger, behind every line.
 -- Assumes nothing.
 use Prim.Native.Nat.{ℕ, ◌+◌, ◌-◌}
-use mathlib.Core.Path.{◌≡◌, refl, sym, ◌∙◌, ap, subst}
+use mathlib.Core.Path.{◌≡◌, refl, sym, ◌∙◌, ap}
 use mathlib.Core.Bool.{Bool, true, false}
 use mathlib.Core.List.{List}
 use lib.ListN.{take, get_or}
@@ -20,9 +20,8 @@ use Rattle.model.specs.Lines.{is_frame, line_words, line_outcome}
 use Rattle.model.proofs.Ledger.{LedgerSound, diary-settings, ledger-sound, words-ledger_of, ledger_of-words}
 use Rattle.model.proofs.Calls.{perform-sound, empty-ledger, fresh-words}
 use native.Mathlib.Omega.{arith}
-use Rattle.framing.specs.Front.{Free, NextOf}
-use Rattle.lines.specs.Post.{TakenOf}
-use Rattle.framing.specs.declared.line.Next.{Next}
+use Rattle.framing.specs.Front.{NextOf}
+use Rattle.lines.specs.Post.{TakenBy}
 use Rattle.framing.specs.declared.line.Next.TheVariants.{Frame, Other}
 use Rattle.book.specs.Good.{GoodBook, answered}
 use Rattle.book.proofs.Goods.{book-words}
@@ -69,36 +68,26 @@ pub fresh-shows : (S : Settings) → valid_settings S ≡ true → ledger_of (fr
 fresh-shows S v = rw (fresh-words S v) (ledger_of-words (empty_ledger S) (empty-ledger S v))
 
 -- the first line of a chunk
-pub next-is : (l : List ℕ) {m n : Next} → NextOf l m → m ≡ n → NextOf l n
-next-is l q e = subst (λ (k : Next). NextOf l k) e q
-
 module _ {S : Settings} {b : List ℕ} (l : List ℕ) (h : GoodBook S b) where
   pub taken-frame : {a : Answer} {b' : List ℕ} {o : ℕ} {r : Request} (n : ℕ) → NextOf l (Frame n o r)
       → answered a b' ≡ called (perform (ledger_of b) (ordered o r))
-      → TakenOf l b (record { used = n + 1; answer = a }) b'
+      → TakenBy l b (record { used = n + 1; answer = a }) b'
   taken-frame {a} {b'} {o} {r} n q e =
       let i : n + 1 - 1 ≡ n = omega arith in
       record {
-        none = λ z. absurd (omega arith);
-        some = λ z.
-            rw i (
-              q.0,
-              e ∙ ap (λ (c : Call). called (perform (ledger_of b) c)) q.2 ∙ sym (ap called (outcome-yes (ledger_of b) (take n l) q.1)),
-            );
+        some = omega arith;
+        leads = rw i q.0;
+        gives = rw i (e ∙ ap (λ (c : Call). called (perform (ledger_of b) c)) q.2 ∙ sym (ap called (outcome-yes (ledger_of b) (take n l) q.1)));
       }
 
-  pub taken-other : (n : ℕ) → NextOf l (Other n) → TakenOf l b (record { used = n + 1; answer = refused_with 23 0 }) b
-  taken-other n q =
-      let e : n + 1 - 1 ≡ n = omega arith in
+  pub taken-other : {a : Answer} (n : ℕ) → NextOf l (Other n) → a ≡ refused_with 23 0 → TakenBy l b (record { used = n + 1; answer = a }) b
+  taken-other n q e =
+      let i : n + 1 - 1 ≡ n = omega arith in
       record {
-        none = λ z. absurd (omega arith);
-        some = λ z.
-            rw e (
-              q.0,
-              ap (λ (w : List ℕ). answered (refused_with 23 0) w) (sym (words-ledger_of b h.laid h.lawful))
-                  ∙ sym (ap called (outcome-no (ledger_of b) (take n l) q.1)),
-            );
+        some = omega arith;
+        leads = rw i q.0;
+        gives =
+            rw (i, e)
+            (ap (λ (w : List ℕ). answered (refused_with 23 0) w) (sym (words-ledger_of b h.laid h.lawful))
+            ∙ sym (ap called (outcome-no (ledger_of b) (take n l) q.1)));
       }
-
-pub taken_none : {b : List ℕ} {a : Answer} (l : List ℕ) → Free l → TakenOf l b (record { used = 0; answer = a }) b
-taken_none l f = record { none = λ z. (f, refl); some = λ z. absurd (omega arith) }

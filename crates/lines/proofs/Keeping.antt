@@ -2,12 +2,13 @@
 -- Assumes nothing.
 use Prim.Native.Nat.{ℕ, zero, suc, ◌+◌, ◌-◌, ◌≤◌, min}
 use native.Mathlib.Numerals.{add-one}
+use native.Mathlib.Nat.{min_comm}
 use native.Mathlib.Omega.{arith}
+use Rattle.std.proofs.lemmas.List.{take_min}
 use mathlib.Core.Path.{◌≡◌, refl, sym, ◌∙◌, ap, subst}
 use mathlib.Core.List.{List, [], ◌∷◌, ◌++◌}
-use native.Mathlib.Decide.{dec_le}
 use lib.ListN.{length, take, set}
-use lib.Seq.{take_all, take-append-add, take-suc-set, length-take-le}
+use lib.Seq.{take-append-add, take-suc-set, length-take-le}
 use Rattle.lines.specs.Stream.{held_most, kept}
 use Rattle.text.specs.Put.{Put}
 use Rattle.framing.specs.Front.{Free}
@@ -23,23 +24,16 @@ take-front (suc n) (x ∷ a) b = ap (λ (l : List ℕ). x ∷ l) (take-front n a
 pub kept_append : (a b : List ℕ) → kept (kept a ++ b) ≡ kept (a ++ b)
 kept_append a b = take-front held_most a b
 
-take_min : (k : ℕ) (p : List ℕ) → take (min (length p) k) p ≡ take k p
-take_min k p = go (dec_le (length p) k)
-  where
-    go : Dec (length p ≤ k) → take (min (length p) k) p ≡ take k p
-    go (yes h) = take_all (min (length p) k) p (omega arith) ∙ sym (take_all k p h)
-    go (no h) = let e : min (length p) k ≡ k = omega arith in ap (λ (n : ℕ). take n p) e
-
 -- as many bytes as fit
 pub kept-is : (h p : List ℕ) → length h ≤ held_most → h ++ take (min (length p) (held_most - length h)) p ≡ kept (h ++ p)
 kept-is h p l =
     let e : length h + (held_most - length h) ≡ held_most = omega arith in
-    ap (λ (k : List ℕ). h ++ k) (take_min (held_most - length h) p)
+    ap (λ (k : List ℕ). h ++ k) (ap (λ (n : ℕ). take n p) (min_comm (length p) (held_most - length h)) ∙ take_min (held_most - length h) p)
     ∙ sym (take-append-add h p (held_most - length h))
     ∙ ap (λ (n : ℕ). take n (h ++ p)) e
 
 -- no byte 10 in what is kept
-free-join : (a b : List ℕ) → Free a → Free b → Free (a ++ b)
+pub free-join : (a b : List ℕ) → Free a → Free b → Free (a ++ b)
 unfolding Free
 free-join [] b f g = g
 free-join (x ∷ a) b f g = (f.0, free-join a b f.1 g)

@@ -9,14 +9,14 @@ use lib.Dec.{leb}
 use lib.ListN.{length, take, drop, length-append}
 use lib.Seq.{take_at, drop_at, length-take-le}
 use borrow.Author.Tests.{le-leb, lt-leb, eq-eqb}
-use Rattle.std.specs.Prelude.{Err}
+use Rattle.std.specs.Prelude.{Err, Option, None, Some}
+use Rattle.std.proofs.lemmas.Option.{none-some}
 use Rattle.model.specs.declared.Refusal.{Refusal}
 use Rattle.model.specs.declared.Settings.{Settings}
 use Rattle.model.specs.Answers.{Answer}
 use Rattle.model.specs.Answers.{done_with, refused_with}
 use Rattle.model.specs.Site.{valid_settings, settings_most}
 use Rattle.model.specs.Machine.{told}
-use Rattle.model.specs.Words.{diary_length}
 use Rattle.model.specs.Reading.{settings_of}
 use Rattle.model.specs.Ledger.{Ledger, empty_ledger, book_length, ledger_of}
 use Rattle.model.specs.Calls.{Called, settings_good, fresh_book, lay}
@@ -37,7 +37,7 @@ use Rattle.lines.proofs.Turns.{put-wrote, put-past}
 
 -- a refusal lays no book
 no-book : {A : Type 0} {e : Refusal} {n : ℕ} → Err e ≡ done_with n → A
-no-book q = absurd (let z : ◌≡◌ {A = ℕ} 0 1 = cc in omega arith)
+no-book q = absurd cc
 
 -- the cases
 layable-24 : (w : List ℕ) → layable false w ≡ refused_with 24 0
@@ -52,31 +52,29 @@ layable-book : (w : List ℕ) → book_length (settings_of w) ≤ program_words 
 unfolding layable
 layable-book w h = simp (le-leb (book_length (settings_of w)) program_words h)
 
-long : (S : Settings) → 1 ≤ book_length S
-unfolding book_length diary_length
-long S = omega (arith, settings-length S)
-
 -- the length that a list of words asks for
-needed-by : (w : List ℕ) (t : Bool) → settings_good w ≡ t → needed_length w ≡ cond t (book_length (settings_of w)) 0
+needed-by : (w : List ℕ) (t : Bool) → settings_good w ≡ t → needed_length w ≡ cond t (Some (book_length (settings_of w))) None
 unfolding needed_length
 needed-by w t h = rw h
 
-module _ (w : List ℕ) {size : ℕ} (e : size ≡ needed_length w) where
-  good-by : (t : Bool) → settings_good w ≡ t → (size ≡ 0 → ⊥) → (settings_good w ≡ true) × (size ≡ book_length (settings_of w))
-  good-by true h n = (h, e ∙ needed-by w true h)
-  good-by false h n = absurd (n (e ∙ needed-by w false h))
+module _ (w : List ℕ) where
+  good-by : {size : ℕ} (t : Bool) → settings_good w ≡ t → Some size ≡ needed_length w → (settings_good w ≡ true) × (size ≡ book_length (settings_of w))
+  good-by {size} true h e =
+      let s : ◌≡◌ {A = Option ℕ} (Some size) (Some (book_length (settings_of w))) = e ∙ needed-by w true h in
+      (h, cc)
+  good-by {size} false h e = let s : ◌≡◌ {A = Option ℕ} (Some size) None = e ∙ needed-by w false h in absurd cc
 
-  none-by : (t : Bool) → settings_good w ≡ t → size ≡ 0 → settings_good w ≡ false
-  none-by true h z = absurd (omega (arith, needed-by w true h, long (settings_of w)))
-  none-by false h z = h
+  none-by : (t : Bool) → settings_good w ≡ t → None ≡ needed_length w → settings_good w ≡ false
+  none-by true h e = let s : ◌≡◌ {A = Option ℕ} None (Some (book_length (settings_of w))) = e ∙ needed-by w true h in absurd cc
+  none-by false h e = h
 
-  pub laid_none : {b : List ℕ} → size ≡ 0 → LaidOf w b (refused_with 24 0) b
-  laid_none z =
-      record { is = sym (ap (λ (t : Bool). layable t w) (none-by _ refl z) ∙ layable-24 w); fresh = λ n q. no-book q; refused = λ n q. refl }
+  pub laid_none : {b : List ℕ} → None ≡ needed_length w → LaidOf w b (refused_with 24 0) b
+  laid_none e =
+      record { is = sym (ap (λ (t : Bool). layable t w) (none-by _ refl e) ∙ layable-24 w); fresh = λ n q. no-book q; refused = λ n q. refl }
 
-  pub laid-large : {b : List ℕ} → (size ≡ 0 → ⊥) → program_words < size → LaidOf w b (refused_with 25 0) b
-  laid-large n h =
-      let g = good-by _ refl n in
+  pub laid-large : {b : List ℕ} {size : ℕ} → Some size ≡ needed_length w → program_words < size → LaidOf w b (refused_with 25 0) b
+  laid-large e h =
+      let g = good-by _ refl e in
       record {
         is =
             sym (ap (λ (t : Bool). layable t w) g.0 ∙ layable-25 w (omega (arith, g.1)));
@@ -89,10 +87,10 @@ lay-good : (w b : List ℕ) → settings_good w ≡ true → length b ≡ book_l
 unfolding lay
 lay-good w b h e = simp (h, eq-eqb (length b) (book_length (settings_of w)) e)
 
-pub laid-good : (w b : List ℕ) {last : List ℕ} {a : Answer} {size : ℕ} → size ≡ needed_length w → (size ≡ 0 → ⊥) → size ≤ program_words → program_words ≤ length b
+pub laid-good : (w b : List ℕ) {last : List ℕ} {a : Answer} {size : ℕ} → Some size ≡ needed_length w → size ≤ program_words → program_words ≤ length b
     → answered a last ≡ lay w (take size b) → length last ≡ length (take size b) → LaidOf w b (done_with size) (last ++ drop size b)
-laid-good w b {last} {a} {size} e n h r q k =
-    let g = good-by w e _ refl n in
+laid-good w b {last} {a} {size} e h r q k =
+    let g = good-by w _ refl e in
     let t = length-take-le size b (omega arith) in
     let f : last ≡ fresh_book (settings_of w) = ap (λ (c : Called). c.book) (q ∙ lay-good w (take size b) g.0 (t ∙ g.1)) in
     record {
@@ -163,7 +161,7 @@ module _ (l : List ℕ) where
   number_by false u h k q = opened-24 h ∙ ap (λ (a : Answer). record { out = answer_line a; point = over }) (sym q)
 
   pub settled-book : {b₀ b out : List ℕ} (n : ℕ) → LaidBy l b₀ (done_with n) b
-      → EndedOf (opened l) (record { more = true; size = n; wrote = 0 }) b₀ b out out
+      → EndedOf (opened l) (record { size = Some n; wrote = 0 }) b₀ b out out
   unfolding layable
   settled-book {b₀} {b} {out} n k =
       let f = k.fresh n refl in
@@ -173,7 +171,7 @@ module _ (l : List ℕ) where
         short = omega arith;
         book-past = f.2;
         out-past = refl;
-        sized = record { fits = f.0; none = λ z. both refl z; good = λ z. rw f.1 (record { read = refl; laid = g.laid; lawful = g.lawful }) };
+        sized = record { fits = f.0; good = λ m z. let e : n ≡ m = cc in rw (← e, f.1) (record { read = refl; laid = g.laid; lawful = g.lawful }) };
         same =
             ap (λ (b : List ℕ). silent (later (ledger_of b) [])) f.1
             ∙ ap (λ (x : Ledger). silent (later x [])) (fresh-shows S o.0)
@@ -181,14 +179,14 @@ module _ (l : List ℕ) where
       }
 
   pub settled-refused : {b₀ b out out' : List ℕ} (e : Refusal) → LaidBy l b₀ (Err e) b → Put out out' 0 (answer_line (Err e))
-      → EndedOf (opened l) (record { more = false; size = 0; wrote = answer_bytes }) b₀ b out out'
+      → EndedOf (opened l) (record { size = None; wrote = answer_bytes }) b₀ b out out'
   unfolding layable
   settled-refused {b₀} {b} {out} {out'} e k p =
       record {
         short = omega arith;
         book-past = k.refused e refl;
         out-past = put-past (Err e) p;
-        sized = record { fits = omega arith; none = λ z. refl; good = λ z. both z refl };
+        sized = record { fits = omega arith; good = λ m z. absurd (none-some m z) };
         same =
             ap (λ (o : List ℕ). record { out = o; point = over }) (put-wrote (Err e) p)
             ∙ sym (number_by _ _ refl refl k.is);

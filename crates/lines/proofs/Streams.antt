@@ -3,28 +3,32 @@
 use Prim.Native.Nat.{ℕ, ◌+◌, ◌-◌, ◌*◌, ◌≤◌, ◌<◌}
 use native.Mathlib.Omega.{arith}
 use mathlib.Core.Path.{◌≡◌, refl, sym, ◌∙◌, ap}
-use mathlib.Core.Bool.{Bool, true, false, cond}
+use mathlib.Core.Bool.{Bool, true, false}
 use mathlib.Core.List.{List, [], ◌∷◌, ◌++◌, append-nil}
 use lib.Dec.{eqb}
 use lib.ListN.{length, take, drop, length-append, length-drop}
 use borrow.Author.Tests.{eqb-true, eqb-false}
 use lib.Seq.{take_at, drop_at, take_all, length-take-le}
+use Rattle.std.proofs.lemmas.List.{take_rest}
 use Rattle.model.specs.declared.Settings.{Settings}
+use Rattle.model.specs.Bounded.{found}
 use Rattle.model.specs.Reading.{settings_of}
 use Rattle.model.specs.Ledger.{Ledger, ledger_of}
 use Rattle.model.specs.Lines.{answer_bytes, line_outcome}
 use Rattle.model.proofs.Search.{both}
+use Rattle.std.specs.Prelude.{Option, Some, None}
+use Rattle.std.proofs.lemmas.Option.{none-some}
 use Rattle.book.specs.Good.{GoodBook}
 use Rattle.lines.specs.Stream.{held_most, kept, Turn, opening, later, over, silent, behind, opened, told, ended, longer, byte, run, closed}
 use Rattle.framing.specs.Front.{Free, Leads}
-use Rattle.lines.specs.Post.{held_of, Holds, point_at, point_of, Going, Moved, Begun, end_point, EndedOf, is_later, Told}
+use Rattle.lines.specs.Post.{held_of, Holds, point_at, point_of, Going, Moved, Begun, size_of, point_behind, end_point, EndedOf, is_later, Told}
 use Rattle.lines.specs.declared.stream.Held.{Held}
 use Rattle.lines.specs.declared.stream.Phase.{Phase}
 use Rattle.lines.specs.declared.stream.Phase.TheVariants.{Opening, Later, Over}
 use Rattle.lines.specs.declared.stream.Stream.{Stream}
 use Rattle.lines.specs.declared.stream.Ended.{Ended}
 use Rattle.lines.proofs.Whole.{byte-end, byte-in}
-use Rattle.lines.proofs.Turns.{grown, Kept, later-kept, run-free, run-leads, run_alone, run_out, rest-none, ends-le, ends-one, tail-is}
+use Rattle.lines.proofs.Turns.{grown, Kept, later-kept, run-free, run-leads, run_alone, run_out, rest-none, ends-le, ends-one}
 use Rattle.lines.proofs.Keeping.{holds-own}
 use Rattle.text.proofs.Puts.{drop-behind}
 
@@ -42,7 +46,7 @@ front size b last h e =
 -- a later line that is held is over: it is answered as a chunk of one line
 pub responded : {last out out' : List ℕ} {used wrote : ℕ} (b l : List ℕ) (size : ℕ) → size ≤ length b → Free l
     → Told (settings_of (take size b)) (take size b) (l ++ (10 ∷ [])) out 0 last out' used wrote → length last ≡ length (take size b)
-    → EndedOf (told (line_outcome (ledger_of (take size b)) l)) (record { more = true; size = size; wrote = wrote }) b (last ++ drop size b) out out'
+    → EndedOf (told (line_outcome (ledger_of (take size b)) l)) (record { size = Some size; wrote = wrote }) b (last ++ drop size b) out out'
 responded {last} {out} {out'} {used} {wrote} b l size h f v k =
     let n = front size b last h k in
     let c = l ++ (10 ∷ []) in
@@ -51,7 +55,7 @@ responded {last} {out} {out'} {used} {wrote} b l size h f v k =
       short = omega (arith, v.short, ends-one l f);
       book-past = n.2;
       out-past = v.past;
-      sized = record { fits = n.1; none = λ z. both refl z; good = λ z. rw n.0 (own v.good) };
+      sized = record { fits = n.1; good = λ m z. let e : size ≡ m = cc in rw (← e, n.0) (own v.good) };
       same =
           ap (λ (d : List ℕ). record { out = take wrote out'; point = later (ledger_of d) [] }) n.0
           ∙ ap (λ (o : List ℕ). record { out = o; point = later y [] }) (sym (append-nil (take wrote out')))
@@ -83,13 +87,13 @@ module _ {p : Phase} (x : Ledger) (l : List ℕ) where
   pub turn-later : p ≡ Later → told (line_outcome x l) ≡ ended (point_at p x l)
   turn-later h = sym (ap (λ (q : Phase). ended (point_at q x l)) h ∙ ended-later x l)
 
-  pub turn-over : {b out : List ℕ} → p ≡ Over → EndedOf (ended (point_at p x l)) (record { more = false; size = 0; wrote = 0 }) b b out out
+  pub turn-over : {b out : List ℕ} → p ≡ Over → EndedOf (ended (point_at p x l)) (record { size = None; wrote = 0 }) b b out out
   turn-over h =
       record {
         short = omega arith;
         book-past = refl;
         out-past = refl;
-        sized = record { fits = omega arith; none = λ z. refl; good = λ z. both z refl };
+        sized = record { fits = omega arith; good = λ m z. absurd (none-some m z) };
         same = sym (ap (λ (q : Phase). ended (point_at q x l)) h ∙ ended-over);
       }
 
@@ -108,8 +112,12 @@ unfolding run
 run-over [] = refl
 run-over (b ∷ c) = over_by b c _ refl (run-over c)
 
+-- the book's length behind the end of a line
+pub size-is : (e : Ended) {o : Option ℕ} → e.size ≡ o → found o (λ n. n) ≡ size_of e
+size-is e m = sym (ap (λ (o : Option ℕ). found o (λ n. n)) m)
+
 -- the rest of a chunk
-pub rest_over : {b out : List ℕ} {h : Held} (e : Ended) (c : List ℕ) → e.more ≡ false → Holds h []
+pub rest_over : {b out : List ℕ} {h : Held} (e : Ended) (c : List ℕ) → e.size ≡ None → Holds h []
     → Moved (behind (take e.wrote out) (run (end_point e b) c)) (record { held = h; phase = Over; size = 0 })
     b b out out e.wrote e.wrote (e.wrote + answer_bytes * length c)
 rest_over {b} {out} {h} e c m k =
@@ -125,28 +133,29 @@ rest_over {b} {out} {h} e c m k =
           };
       same =
           ap (λ (o : List ℕ). record { out = o; point = over }) (sym (append-nil (take e.wrote out)))
-          ∙ ap (behind (take e.wrote out)) (sym (ap (λ (t : Bool). run (cond t (later (ledger_of (take e.size b)) []) over) c) m ∙ run-over c));
+          ∙ ap (behind (take e.wrote out)) (sym (ap (λ (t : Option ℕ). run (point_behind t b) c) m ∙ run-over c));
     }
   where
     not-later : Over ≡ Later → ⊥
-    not-later z = let q : ◌≡◌ {A = ℕ} 0 1 = cc in omega arith
+    not-later z = cc
 
 grown-later : (x : Ledger) (l : List ℕ) → grown (later x []) l ≡ later x (kept l)
 unfolding grown
 grown-later x l = refl
 
-pub rest-later : {last out out' : List ℕ} {h : Held} {used wrote : ℕ} (b : List ℕ) (e : Ended) (c : List ℕ) → e.more ≡ true → e.size ≤ length b
-    → Told (settings_of (take e.size b)) (take e.size b) c out e.wrote last out' used wrote
-    → length last ≡ length (take e.size b)
+pub rest-later : {last out out' : List ℕ} {h : Held} {used wrote : ℕ} (b : List ℕ) (e : Ended) (c : List ℕ) (size : ℕ) → e.size ≡ Some size
+    → size ≤ length b
+    → Told (settings_of (take size b)) (take size b) c out e.wrote last out' used wrote
+    → length last ≡ length (take size b)
     → Holds h (kept (take (length c - used) (drop used c)))
-    → Moved (behind (take e.wrote out) (run (end_point e b) c)) (record { held = h; phase = Later; size = e.size })
-    b (last ++ drop e.size b) out out' e.wrote wrote (e.wrote + answer_bytes * length c)
-rest-later {last} {out} {out'} {h} {used} {wrote} b e c m f v k q =
+    → Moved (behind (take e.wrote out) (run (end_point e b) c)) (record { held = h; phase = Later; size = size })
+    b (last ++ drop size b) out out' e.wrote wrote (e.wrote + answer_bytes * length c)
+rest-later {last} {out} {out'} {h} {used} {wrote} b e c size m f v k q =
     let x = ledger_of last in
     let r = drop used c in
-    let n = front e.size b last f k in
+    let n = front size b last f k in
     let w = v.short in
-    let held : held_of h ≡ kept r = q.same ∙ ap kept (tail-is c used) in
+    let held : held_of h ≡ kept r = q.same ∙ ap kept (take_rest c used) in
     record {
       more = v.more;
       short = omega (arith, ends-le c);
@@ -163,7 +172,7 @@ rest-later {last} {out} {out'} {h} {used} {wrote} b e c m f v k q =
           ∙ ap (λ (o : List ℕ). record { out = o; point = later x (kept r) }) (sym (append-nil (take wrote out')))
           ∙ ap (behind (take wrote out')) (sym (run-free r (later x []) (later-kept x) v.free ∙ ap silent (grown-later x r)))
           ∙ v.same
-          ∙ ap (λ (t : Bool). behind (take e.wrote out) (run (cond t (later (ledger_of (take e.size b)) []) over) c)) (sym m);
+          ∙ ap (λ (t : Option ℕ). behind (take e.wrote out) (run (point_behind t b) c)) (sym m);
     }
 
 -- a chunk
@@ -210,10 +219,10 @@ module _ (s : Stream) (b : List ℕ) where
       → Holds h (kept (held_of s.held ++ take n c)) → Leads c n → EndedOf (ended (point_at s.phase x (held_of h))) d b b₁ out out₁
       → Moved (behind (take d.wrote out₁) (run (end_point d b₁) (take (length c - (n + 1)) (drop (n + 1) c))))
       t b₁ b₂ out₁ out₂ d.wrote wrote (d.wrote + answer_bytes * length (take (length c - (n + 1)) (drop (n + 1) c)))
-      → t.size ≡ d.size → Moved (run (point_of s b) c) t b b₂ out out₂ 0 wrote (answer_bytes * length c)
+      → t.size ≡ size_of d → Moved (run (point_of s b) c) t b b₂ out out₂ 0 wrote (answer_bytes * length c)
   line-held {b₁} {b₂} {out} {out₁} {out₂} {t} {h} {wrote} c n d g k y v m q =
       let r = drop (n + 1) c in
-      let z = ap length (tail-is c (n + 1)) in
+      let z = ap length (take_rest c (n + 1)) in
       record {
         more = omega arith;
         short = omega (arith, m.short, v.short, length-drop (n + 1) c, y.inside);
@@ -222,7 +231,7 @@ module _ (s : Stream) (b : List ℕ) where
         going = m.going;
         same =
             m.same
-            ∙ ap (λ (u : List ℕ). behind (take d.wrote out₁) (run (end_point d b₁) u)) (tail-is c (n + 1))
+            ∙ ap (λ (u : List ℕ). behind (take d.wrote out₁) (run (end_point d b₁) u)) (take_rest c (n + 1))
             ∙ ap (λ (u : Turn). behind u.out (run u.point r)) (v.same ∙ ap ended (held-point (take n c) k))
             ∙ sym (run-leads (point_of s b) c n (point-kept g) y);
       }
@@ -257,7 +266,7 @@ later-is Over h = both h refl
 
 -- no later line has begun
 pub closed-silent : {out : List ℕ} (s : Stream) (b : List ℕ) → Going s b → is_later s.phase ≡ true → s.held.len ≡ 0
-    → EndedOf (closed (point_of s b)) (record { more = true; size = s.size; wrote = 0 }) b b out out
+    → EndedOf (closed (point_of s b)) (record { size = Some s.size; wrote = 0 }) b b out out
 closed-silent s b g h z =
     let l = later-is s.phase h in
     let x = ledger_of (take s.size b) in
@@ -266,7 +275,7 @@ closed-silent s b g h z =
       short = omega arith;
       book-past = refl;
       out-past = refl;
-      sized = record { fits = g.sized.fits; none = λ z. both refl z; good = λ q. g.sized.good l };
+      sized = record { fits = g.sized.fits; good = λ m q. let e : s.size ≡ m = cc in rw (← e) (g.sized.good l) };
       same = closed_none x ∙ sym (ap (λ (p : Phase). closed (point_at p x (held_of s.held))) l ∙ ap (λ (k : List ℕ). closed (later x k)) n);
     }
 
@@ -285,4 +294,4 @@ begun {s} b g =
     )
   where
     not-later : Opening ≡ Later → ⊥
-    not-later z = let q : ◌≡◌ {A = ℕ} 0 1 = cc in omega arith
+    not-later z = cc

@@ -1,6 +1,6 @@
 -- Runs over the lines of a chunk.
 -- Assumes nothing.
-use Prim.Native.Nat.{ℕ, suc, ◌+◌, ◌-◌, ◌*◌, ◌≤◌, ◌<◌}
+use Prim.Native.Nat.{ℕ, suc, ◌+◌, ◌-◌, ◌*◌, ◌≤◌}
 use native.Mathlib.Decide.{dec_le}
 use mathlib.Core.Bool.{Bool, true, false, cond}
 use lib.Dec.{eqb}
@@ -10,7 +10,8 @@ use native.Mathlib.Omega.{arith}
 use mathlib.Core.Path.{◌≡◌, refl, sym, ◌∙◌, ap}
 use mathlib.Core.List.{List, [], ◌∷◌, ◌++◌, append_assoc, append-nil}
 use lib.ListN.{length, take, drop, length-append, length-drop, drop_of_length-le}
-use lib.Seq.{split_at, take_all, drop-drop, drop-append-le}
+use lib.Seq.{split_at, drop-drop, drop-append-le}
+use Rattle.std.proofs.lemmas.List.{take_rest}
 use Rattle.model.specs.declared.Settings.{Settings}
 use Rattle.model.specs.Answers.{Answer}
 use Rattle.std.specs.Prelude.{Ok, Err}
@@ -22,7 +23,7 @@ use Rattle.book.specs.Good.{GoodBook, answered}
 use Rattle.lines.specs.Stream.{kept, Point, opening, later, over, Turn, silent, behind, told, ended, longer, byte, run}
 use Rattle.text.specs.Put.{Put}
 use Rattle.framing.specs.Front.{Free, Leads}
-use Rattle.lines.specs.Post.{ends, TakenOf, Told}
+use Rattle.lines.specs.Post.{ends, TakenBy, Told}
 use Rattle.lines.specs.declared.stream.Taken.{Taken}
 use Rattle.text.proofs.Puts.{drop-further}
 use Rattle.lines.proofs.Keeping.{kept_append}
@@ -187,29 +188,25 @@ put-past {out} {out'} {at} a p =
     let e = answer-length a in
     ap (λ (m : ℕ). drop (at + m) out') (sym e) ∙ p.past ∙ ap (λ (m : ℕ). drop (at + m) out) e
 
--- the part `&c[i..]`
-pub tail-is : (c : List ℕ) (i : ℕ) → take (length c - i) (drop i c) ≡ drop i c
-tail-is c i = take_all (length c - i) (drop i c) (omega (arith, length-drop i c))
-
 -- one line more of the chunk c is answered
 module _ {S : Settings} {b b' : List ℕ} (c : List ℕ) (i : ℕ) (t : Taken) (h : i ≤ length c) (g : GoodBook S b)
-    (k : TakenOf (take (length c - i) (drop i c)) b t b') (s : 0 < t.used) where
+    (k : TakenBy (take (length c - i) (drop i c)) b t b') where
   leads : Leads (drop i c) (t.used - 1)
-  leads = rw (tail-is c i) at (k.some s).0
+  leads = rw (take_rest c i) at k.leads
 
   gives : answered t.answer b' ≡ called (line_outcome (ledger_of b) (take (t.used - 1) (drop i c)))
-  gives = rw (tail-is c i) at (k.some s).1
+  gives = rw (take_rest c i) at k.gives
 
   rest-is : drop (i + t.used) c ≡ drop (t.used - 1 + 1) (drop i c)
   rest-is =
-      let n : t.used - 1 + 1 ≡ t.used = omega arith in
+      let n : t.used - 1 + 1 ≡ t.used = omega (arith, k.some) in
       ap (λ (m : ℕ). drop (i + m) c) (sym n) ∙ sym (drop-drop (t.used - 1 + 1) i c)
 
   pub more-ends : suc (ends (drop (i + t.used) c)) ≤ ends (drop i c)
   more-ends = rw rest-is (leads-ends (drop i c) (t.used - 1) leads)
 
   pub in_reach : i + t.used ≤ length c
-  in_reach = omega (arith, leads.inside, length-drop i c)
+  in_reach = omega (arith, k.some, leads.inside, length-drop i c)
 
   pub more-good : GoodBook S b'
   more-good = (after_line (take (t.used - 1) (drop i c)) g gives).good
@@ -244,18 +241,18 @@ start b c out from g =
     record { within = omega arith; more = omega arith; room = omega arith; good = g; past = refl; book-kept = refl; out-kept = refl; same = refl }
 
 module _ {S : Settings} {b₀ c out₀ b out : List ℕ} {from at i : ℕ} where
-  pub more-so : {b' out' : List ℕ} (t : Taken) (v : So S b₀ c out₀ from b out at i) → TakenOf (take (length c - i) (drop i c)) b t b' → 0 < t.used
+  pub more-so : {b' out' : List ℕ} (t : Taken) (v : So S b₀ c out₀ from b out at i) → TakenBy (take (length c - i) (drop i c)) b t b'
       → length b' ≡ length b → Put out out' at (answer_line t.answer) → So S b₀ c out₀ from b' out' (at + answer_bytes) (i + t.used)
-  more-so t v k s e p =
+  more-so t v k e p =
       record {
-        within = in_reach c i t v.within v.good k s;
+        within = in_reach c i t v.within v.good k;
         more = let h = v.more in omega arith;
-        room = let h = v.room in omega (arith, more-ends c i t v.within v.good k s);
+        room = let h = v.room in omega (arith, more-ends c i t v.within v.good k);
         past = put-past t.answer p ∙ drop-further out out₀ at answer_bytes v.past;
-        good = more-good c i t v.within v.good k s;
+        good = more-good c i t v.within v.good k;
         book-kept = e ∙ v.book-kept;
         out-kept = p.kept ∙ v.out-kept;
-        same = more-told c i t v.within v.good k s p ∙ v.same;
+        same = more-told c i t v.within v.good k p ∙ v.same;
       }
 
   -- no line ends in the rest
@@ -268,22 +265,6 @@ module _ {S : Settings} {b₀ c out₀ b out : List ℕ} {from at i : ℕ} where
         short = let h = v.room in omega arith;
         good = v.good;
         past = v.past;
-        free = rw (tail-is c i) at f.0;
+        free = rw (take_rest c i) at f.0;
         same = v.same;
       })
-
-  -- there is no rest
-  pub end-told : So S b₀ c out₀ from b out at i → length c ≤ i → Told S b₀ c out₀ from b out i at
-  unfolding Free
-  end-told v h =
-      record {
-        within =
-            v.within;
-        more = v.more;
-        short = let h = v.room in omega arith;
-        good = v.good;
-        past = v.past;
-        free = rw
-            (drop_of_length-le c {i = i} h) tt;
-        same = v.same;
-      }

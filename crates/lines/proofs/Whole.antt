@@ -24,15 +24,14 @@ use Rattle.model.specs.Answers.{refused_with}
 use Rattle.model.specs.Text.{digit_value}
 use Rattle.model.specs.Lines.{whole_words, line_words, lines_of, answer_line, reply_line, line_outcome, answer_lines, program_words, output, frames}
 use Rattle.framing.proofs.Framing.{words-length, not_so, frame-between, no-frame}
-use Rattle.lines.proofs.Keeping.{kept_append}
+use Rattle.lines.proofs.Keeping.{kept_append, free-join}
 use Rattle.framing.specs.Front.{Free}
 use Rattle.lines.specs.Stream.{held_most, kept, Point, opening, later, over, Turn, silent, behind, opened, told}
 use Rattle.lines.specs.Stream.{ended, longer, byte, run, closed}
 
 free_snoc : (l : List ℕ) (b : ℕ) → Free l → (b ≡ 10 → ⊥) → Free (l ++ (b ∷ []))
 unfolding Free
-free_snoc [] b f h = (h, tt)
-free_snoc (a ∷ l) b f h = (f.0, free_snoc l b f.1 h)
+free_snoc l b f h = free-join l (b ∷ []) f (h, tt)
 
 -- the lines of an input whose first line is l
 lines_cons : (l bs : List ℕ) → Free l → lines_of (l ++ (10 ∷ bs)) ≡ l ∷ lines_of bs

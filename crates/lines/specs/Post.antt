@@ -1,7 +1,8 @@
 -- What the functions of the stream promise, by name.
 -- Assumes nothing.
-use Rattle.std.specs.Prelude.{ℕ, suc, ◌+◌, ◌-◌, ◌*◌, ◌≤◌, ◌<◌, Bool, true, false, cond, ◌≡◌, List, [], ◌∷◌, eqb, length, take, drop}
+use Rattle.std.specs.Prelude.{ℕ, suc, ◌+◌, ◌-◌, ◌*◌, ◌≤◌, ◌<◌, Bool, true, false, cond, ◌≡◌, List, [], ◌∷◌, Option, Some, None, eqb, length, take, drop}
 use Rattle.model.specs.declared.Settings.{Settings}
+use Rattle.model.specs.Bounded.{found}
 use Rattle.model.specs.Reading.{settings_of}
 use Rattle.model.specs.Ledger.{Ledger, ledger_of}
 use Rattle.model.specs.Calls.{called}
@@ -73,27 +74,38 @@ pub record Begun (s : Stream) : Type 0 where
   pub phase : s.phase ≡ Opening
   pub size : s.size ≡ 0
 
--- where the end of a line leads
+-- where the end of a line leads, and the words of the book behind it
+abbrev pub point_behind : Option ℕ → List ℕ → Point
+point_behind (Some n) b = later (ledger_of (take n b)) []
+point_behind None b = over
+
 abbrev pub end_point : Ended → List ℕ → Point
-end_point e b = cond e.more (later (ledger_of (take e.size b)) []) over
+end_point e b = point_behind e.size b
+
+abbrev pub size_of : Ended → ℕ
+size_of e = found e.size (λ n. n)
 
 pub record EndSized (e : Ended) (b : List ℕ) : Type 0 where
-  pub fits : e.size ≤ length b
-  pub none : e.more ≡ false → e.size ≡ 0
-  pub good : e.more ≡ true → GoodBook (settings_of (take e.size b)) (take e.size b)
+  pub fits : size_of e ≤ length b
+  pub good : (n : ℕ) → e.size ≡ Some n → GoodBook (settings_of (take n b)) (take n b)
 
 -- the same of the end of a line, which writes one answer line at most
 pub record EndedOf (t : Turn) (e : Ended) (b₀ b out₀ out : List ℕ) : Type 0 where
   pub short : e.wrote ≤ answer_bytes
   pub sized : EndSized e b
   pub same : record { out = take e.wrote out; point = end_point e b } ≡ t
-  pub book-past : drop e.size b ≡ drop e.size b₀
+  pub book-past : drop (size_of e) b ≡ drop (size_of e) b₀
   pub out-past : drop e.wrote out ≡ drop e.wrote out₀
 
 -- the first line of l was answered, the book with it; or there is no whole line
-pub record TakenOf (l b₀ : List ℕ) (t : Taken) (b : List ℕ) : Type 0 where
-  pub none : t.used ≡ 0 → Free l × (b ≡ b₀)
-  pub some : 0 < t.used → Leads l (t.used - 1) × (answered t.answer b ≡ called (line_outcome (ledger_of b₀) (take (t.used - 1) l)))
+pub record TakenBy (l b₀ : List ℕ) (t : Taken) (b : List ℕ) : Type 0 where
+  pub some : 0 < t.used
+  pub leads : Leads l (t.used - 1)
+  pub gives : answered t.answer b ≡ called (line_outcome (ledger_of b₀) (take (t.used - 1) l))
+
+abbrev pub TakenOf : List ℕ → List ℕ → Option Taken → List ℕ → Type 0
+TakenOf l b₀ (Some t) b = TakenBy l b₀ t b
+TakenOf l b₀ None b = Free l × (b ≡ b₀)
 
 -- of the chunk c, `used` bytes were lines that are answered now, and no line ends in the rest
 pub record Told (s : Settings) (b₀ c out₀ : List ℕ) (at : ℕ) (b out : List ℕ) (used wrote : ℕ) : Type 0 where

@@ -1,4 +1,6 @@
 // The stream: a chunk of input in, answer lines out, and what is held of a line that the chunk's end cuts.
+//
+// That the words which are lent for the book are enough is a clause and no array in the type, which would ask for so many words and no more.
 ghost use Rattle.std.specs.Prelude.{◌≡◌, [], ◌++◌, ◌+◌, ◌*◌, ◌≤◌, min, length, take};
 ghost use Rattle.model.specs.Words.{diary_length};
 ghost use Rattle.model.specs.Reading.{settings_of};
@@ -8,12 +10,12 @@ ghost use Rattle.book.specs.Good.{GoodBook};
 ghost use Rattle.lines.specs.Stream.{kept, behind, opened, told, ended, run, closed};
 ghost use Rattle.framing.specs.Front.{Free};
 ghost use Rattle.lines.specs.Post.{ends, held_of, Holds, point_at, point_of, Sized, Going, Begun, is_later};
-ghost use Rattle.lines.specs.Post.{EndSized, end_point, EndedOf, Moved, TakenOf, Told};
+ghost use Rattle.lines.specs.Post.{EndSized, size_of, end_point, EndedOf, Moved, TakenOf, Told};
 
 use crate::lay::{SETTINGS_WORDS, lay_line};
 use framing::line::{ANSWER_BYTES, Next, line_end, look, put_answer};
 use header::settings::{diary_len, settings};
-use model::{Answer, Refusal, Settings};
+use model::{Answer, Settings, refused};
 use step::book_step;
 use text::store::put;
 
@@ -22,13 +24,16 @@ const HELD_MOST: usize = 8 * SETTINGS_WORDS + 1;
 
 const HELD_ROOM: usize = HELD_MOST + 1;
 
-// The bytes of a line that is not over, and how many they are: an array has the room, since nothing is allocated.
+// The bytes of a line that is not over, and how many they are: an array has the room, since nothing is allocated. The kit's `arrayvec` has
+// both in one, but is not Copy, and a stream is handed on by value.
 #[derive(Clone, Copy)]
 pub struct Held {
     pub bytes: [u8; HELD_ROOM],
     pub len: usize,
 }
 
+// Which line the bytes that come are of. An enum of its own, since three places in the input, none of them a failure, are neither an Option
+// nor a Result.
 #[derive(Clone, Copy)]
 pub enum Phase {
     Opening,
@@ -37,7 +42,8 @@ pub enum Phase {
 }
 
 // Where the program is: in the settings line, in a later line, or past a refused settings line; behind a good settings line the
-// book is the first `size` words that are lent.
+// book is the first `size` words that are lent. Before it and past a refused one they are none, so that the book is these words in each phase:
+// the size stands beside the phase and not inside one of its cases.
 #[derive(Clone, Copy)]
 pub struct Stream {
     pub held: Held,
@@ -52,15 +58,14 @@ pub struct Fed {
     pub wrote: usize,
 }
 
-// A line is over: whether more lines are read, the book's length, and how many bytes are written.
+// A line is over: the book's length, where more lines are read, and how many bytes are written.
 #[derive(Clone, Copy)]
 pub struct Ended {
-    pub more: bool,
-    pub size: usize,
+    pub size: Option<usize>,
     pub wrote: usize,
 }
 
-// The answer of a line, and how many bytes of the input it took; none if the line is not over.
+// The answer of a line, and how many bytes of the input it took.
 #[derive(Clone, Copy)]
 pub struct Taken {
     pub used: usize,
@@ -88,8 +93,8 @@ fn hold(held: Held, piece: &[u8]) -> Held
     next
 }
 
-// The answer of the first line of a chunk, and the book after it.
-fn take_line(book: &mut [u32], s: Settings, diary: usize, chunk: &[u8]) -> Taken
+// The answer of the first line of a chunk, if it is over, and the book after it.
+fn take_line(book: &mut [u32], s: Settings, diary: usize, chunk: &[u8]) -> Option<Taken>
     requires good_book { GoodBook s book.old }
     requires diary_value { diary ≡ diary_length s }
     ensures { TakenOf chunk.now book.old result book.new }
@@ -99,21 +104,15 @@ fn take_line(book: &mut [u32], s: Settings, diary: usize, chunk: &[u8]) -> Taken
             len,
             order,
             request,
-        } => Taken {
+        } => Some(Taken {
             used: len + 1,
             answer: book_step(book, s, diary, order, request),
-        },
-        Next::Other(n) => Taken {
+        }),
+        Next::Other(n) => Some(Taken {
             used: n + 1,
-            answer: Err(Refusal {
-                number: 23,
-                place: 0,
-            }),
-        },
-        Next::Partial => Taken {
-            used: 0,
-            answer: Ok(0),
-        },
+            answer: refused(23, 0),
+        }),
+        Next::Partial => None,
     }
 }
 
@@ -129,18 +128,10 @@ fn answer_lines(book: &mut [u32], chunk: &[u8], out: &mut [u8], from: usize) -> 
     let diary = diary_len(s);
     let mut at = from;
     let mut i = 0;
-    // By hand: each turn goes on by what its line took.
-    while i < chunk.len() {
-        let rest = &chunk[i..];
-        let t = take_line(book, s, diary, rest);
-        let used = t.used;
-        if used == 0 {
-            return Progress { used: i, wrote: at };
-        }
-        let a = t.answer;
-        put_answer(out, at, a);
+    while let Some(t) = take_line(book, s, diary, &chunk[i..]) {
+        put_answer(out, at, t.answer);
         at += ANSWER_BYTES;
-        i += used;
+        i += t.used;
     }
     Progress { used: i, wrote: at }
 }
@@ -160,8 +151,7 @@ fn end_later(book: &mut [u32], size: usize, held: Held, out: &mut [u8]) -> Ended
     let end = len + 1;
     let p = answer_lines(&mut book[..size], &bytes[..end], out, 0);
     Ended {
-        more: true,
-        size,
+        size: Some(size),
         wrote: p.wrote,
     }
 }
@@ -174,22 +164,21 @@ fn settle(book: &mut [u32], line: &[u8], out: &mut [u8]) -> Ended
 {
     match lay_line(book, line) {
         Ok(size) => Ended {
-            more: true,
-            size,
+            size: Some(size),
             wrote: 0,
         },
         Err(refusal) => {
             put_answer(out, 0, Err(refusal));
             // nothing more is read
             Ended {
-                more: false,
-                size: 0,
+                size: None,
                 wrote: ANSWER_BYTES,
             }
         }
     }
 }
 
+// No bytes. A function of its own, since a `Default` would not say that nothing is held.
 fn nothing() -> Held
     ensures { Holds result [] }
 {
@@ -205,10 +194,10 @@ fn go_on(book: &mut [u32], e: Ended, chunk: &[u8], out: &mut [u8]) -> Fed
     requires chunk_in_bounds { e.wrote + answer_bytes * length chunk.now ≤ length out.old }
     ensures { Moved (behind (take e.wrote out.old) (run (end_point e book.old) chunk.now))
         result.stream book.old book.new out.old out.new
-        e.wrote result.wrote (e.wrote + answer_bytes * length chunk.now) × (result.stream.size ≡ e.size) }
+        e.wrote result.wrote (e.wrote + answer_bytes * length chunk.now) × (result.stream.size ≡ size_of e) }
 {
     let wrote = e.wrote;
-    if !e.more {
+    let Some(size) = e.size else {
         return Fed {
             stream: Stream {
                 held: nothing(),
@@ -217,8 +206,7 @@ fn go_on(book: &mut [u32], e: Ended, chunk: &[u8], out: &mut [u8]) -> Fed
             },
             wrote,
         };
-    }
-    let size = e.size;
+    };
     let p = answer_lines(&mut book[..size], chunk, out, wrote);
     let used = p.used;
     Fed {
@@ -275,8 +263,7 @@ fn end_held(book: &mut [u32], phase: Phase, size: usize, held: Held, out: &mut [
         }
         Phase::Later => end_later(book, size, held, out),
         Phase::Over => Ended {
-            more: false,
-            size: 0,
+            size: None,
             wrote: 0,
         },
     }
@@ -296,11 +283,7 @@ pub fn begin() -> Stream
 fn is_later(phase: Phase) -> bool
     ensures { result ≡ is_later phase }
 {
-    match phase {
-        Phase::Opening => false,
-        Phase::Later => true,
-        Phase::Over => false,
-    }
+    matches!(phase, Phase::Later)
 }
 
 // The end of the input: the settings line ends in any case, a later one if it has begun.
@@ -317,8 +300,7 @@ pub fn close(book: &mut [u32], stream: Stream, out: &mut [u8]) -> Ended
     if is_later(phase) {
         if held.len == 0 {
             return Ended {
-                more: true,
-                size,
+                size: Some(size),
                 wrote: 0,
             };
         }

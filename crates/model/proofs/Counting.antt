@@ -15,7 +15,7 @@ use Rattle.model.specs.Answers.{done_with, refused_with}
 use Rattle.model.specs.State.{State}
 use Rattle.model.specs.Ledger.{Ledger}
 use Rattle.model.specs.Machine.{Outcome, step, admit, Counted, most_changes, raise, is_change, counted_step, counted_party}
-use Rattle.model.proofs.Told.{Tellable, done-tellable, refused-tellable, step-tellable}
+use Rattle.model.proofs.Tells.{Tellable, done-tellable, refused-tellable, step-tellable}
 
 -- the answer of a ledger to a request without an order
 abbrev pub answer_to : Ledger → Request → Answer

@@ -28,7 +28,7 @@ use Rattle.model.specs.Machine.{answer_commit, perform, Run, run}
 use Rattle.model.specs.Calls.{Calls, calls, fresh_book, settings_good, calls_of, replies_words, answerable, Listed, listed, call_list, shown_by, serve_list}
 use Rattle.model.specs.Resent.{IsKept, Kept, KeptThrough, is_new, new_orders, Sending, once, again, all_sent, once_sent, WhileKept, once_replied, once_answered}
 use Rattle.model.proofs.Search.{and-true}
-use Rattle.model.proofs.Told.{answer-long}
+use Rattle.model.proofs.Tells.{answer-long}
 use Rattle.model.proofs.Counting.{answer_to}
 use Rattle.model.proofs.Tail.{empty-at, kept_there, kept-else, here-or-not, none_kept, kept-first, kept-place, kept-order, kept_by, not-kept}
 use Rattle.model.proofs.Ledger.{LedgerSound}

@@ -29,7 +29,7 @@ use Rattle.model.specs.Machine.{Call, ordered, request, party, ask, commit, told
 use Rattle.model.specs.Calls.{Called, called, refusing, call_on, call, call_ask, call_commit, Calls, calls, fresh_book}
 use Rattle.model.specs.Page.{page}
 use Rattle.model.specs.Seen.{last_word, nth, ledger_at, is_done, says_done, counts, changes_in}
-use Rattle.model.proofs.Told.{same-told, refused-most}
+use Rattle.model.proofs.Tells.{same-told, refused-most}
 use Rattle.model.proofs.Counting.{answer_to, counted-refused}
 use Rattle.model.proofs.Effect.{Effect, only_asks, is_refused, is_full, raises, effect, only-asked, full, raised_by, counted-by-one, risen}
 use Rattle.model.proofs.Effect.{refused-raised}

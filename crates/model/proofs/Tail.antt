@@ -21,7 +21,7 @@ use Rattle.model.specs.Tail.{Tail, Entry, empty_entry, ring_places, entry_at, ke
 use Rattle.model.specs.Tail.{ring_words, ring_length, tail_length, tail_words, entry_of, ring_of, tail_of, word_of, entry_kept, tail_kept, empty_tail}
 use Rattle.model.specs.Tail.{number_differs, empty_unless_numbered, answer_told, next_within}
 use Rattle.model.proofs.Places.{length-list, get_d-list}
-use Rattle.model.proofs.Told.{Tellable, done-tellable, told-tellable, told-words}
+use Rattle.model.proofs.Tells.{Tellable, done-tellable, told-tellable, told-words}
 use Rattle.model.proofs.Search.{and_left, and_right, and-true, true-any, false-any, all_true, true-all, both, never, At, Lowest, lowest-is, lowest_by}
 
 -- an entry that a ring can have: an answer that words tell, and nothing without a number

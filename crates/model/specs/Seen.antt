@@ -42,7 +42,7 @@ ledger_at l (c ∷ cs) (suc i) = ledger_at (perform l c).ledger cs i
 -- a reply that says that something was done
 abbrev pub is_done : Answer → Bool
 is_done (Ok v) = true
-is_done (Err e) = let n = e.number in let p = e.place in false
+is_done (Err e) = false
 
 abbrev pub says_done : Reply → Bool
 says_done (told a) = is_done a

@@ -27,6 +27,7 @@ use Rattle.text.specs.Put.{Put}
 use Rattle.book.specs.Good.{Good, GoodBook}
 use Rattle.units.specs.Units.{OnDates}
 use Rattle.book.proofs.Goods.{good-state, good-part}
+use Rattle.queries.proofs.Runs.{run-order}
 use Rattle.pages.specs.Pages.{paged, fitted, between}
 use Rattle.pages.proofs.Joins.{join-part, bytes-length, put_front}
 
@@ -41,9 +42,9 @@ unfolding between page_lines
 lines-on x d lo hi l on =
     sym
     (join-part f (session_lines x) lo hi n l on.ends.most
-    (λ s k. pick s (omega (arith, k, on.begins.most, l)) ∙ ap (λ (t : Bool). cond (t && ltb s hi) (session_lines x s) []) (lt-leb lo s k))
-    (λ s k i. pick s i ∙ ap₂ (λ (t u : Bool). cond (t && u) (session_lines x s) []) (le-leb lo s (omega arith)) (le-ltb s hi k))
-    (λ s k i. pick s (omega (arith, i, on.ends.most)) ∙ ap₂ (λ (t u : Bool). cond (t && u) (session_lines x s) []) (le-leb lo s k) (lt-ltb s hi i)))
+    (λ s k. rw (pick s (omega (arith, k, on.begins.most, l)), lt-leb lo s k))
+    (λ s k i. rw (pick s i, le-leb lo s (omega arith), le-ltb s hi k))
+    (λ s k i. rw (pick s (omega (arith, i, on.ends.most)), le-leb lo s k, lt-ltb s hi i)))
   where
     n : ℕ
     n = all_sessions x.settings
@@ -52,13 +53,17 @@ lines-on x d lo hi l on =
     f s = cond (eqb (date_of_session x.settings s) d) (session_lines x s) []
 
     pick : (s : ℕ) → s < n → f s ≡ cond (leb lo s && ltb s hi) (session_lines x s) []
-    pick s i = ap (λ (t : Bool). cond t (session_lines x s) []) (one-date (date_of_session x.settings s) d ∙ on.exactly s i)
+    pick s i = rw (one-date (date_of_session x.settings s) d, on.exactly s i)
 
-module _ {S : Settings} {b : List ℕ} (good : Good S b) (d lo hi : ℕ) (l : lo ≤ hi) (on : OnDates S sessions d d lo hi) where
-  pub date-lines : between (state_of b) lo hi ≡ page_lines (state_of b) d
+-- the sessions of one date, by its cuts
+pub ordered : {S : Settings} (d : ℕ) {lo hi : ℕ} → OnDates S sessions d d lo hi → (lo ≤ hi) × (hi ≤ all_sessions S)
+ordered d on = (run-order _ sessions d d _ _ on (omega arith), on.ends.most)
+
+module _ {S : Settings} {b : List ℕ} (good : Good S b) (d : ℕ) {lo hi : ℕ} (on : OnDates S sessions d d lo hi) where
+  date-lines : between (state_of b) lo hi ≡ page_lines (state_of b) d
   unfolding read_state
   date-lines =
-      lines-on (state_of b) d lo hi l
+      lines-on (state_of b) d lo hi (ordered d on).0
       (subst (λ (S : Settings). OnDates S sessions d d lo hi) (sym (ap (λ (x : State). x.settings) (good-state good))) on)
 
   -- question 26 says no, and yes
@@ -82,7 +87,7 @@ unfolding check page
 page-refused b d p {n} {i} e = go (well_laid b) refl (lawful b) refl e
   where
     go : (o : Bool) → well_laid b ≡ o → (t : Bool) → lawful b ≡ t → check b ≡ refused_with n i → paged (refused_with n i) p ≡ page b d p
-    go true q true s e = absurd (let f : done_with 0 ≡ refused_with n i = rw (q, s) at e in let z : ◌≡◌ {A = ℕ} 0 1 = cc in omega arith)
+    go true q true s e = absurd (let f : done_with 0 ≡ refused_with n i = rw (q, s) at e in cc)
     go true q false s e = rw (q, s) (ap (λ (a : Answer). paged a p) (sym (rw (q, s) at e)))
     go false q t s e = rw q (ap (λ (a : Answer). paged a p) (sym (rw q at e)))
 

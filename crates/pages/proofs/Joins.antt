@@ -1,10 +1,12 @@
 -- Lists one behind another, the bytes of lines, and lines written behind lines.
 -- Assumes nothing.
 use Prim.Native.Nat.{ℕ, zero, suc, ◌+◌, ◌*◌, ◌-◌, ◌≤◌, ◌<◌}
+use native.Mathlib.Nat.{zero-add, add-zero, add-suc, suc-add}
 use native.Mathlib.Omega.{arith}
 use mathlib.Core.Path.{◌≡◌, refl, sym, ◌∙◌, ap, ap₂}
 use mathlib.Core.List.{List, [], ◌∷◌, ◌++◌, append_assoc, append-nil}
 use lib.ListN.{length, take, drop, length-append, take-append-drop}
+use Rattle.model.specs.Bounded.{sum_from}
 use Rattle.model.specs.Text.{decimal_field}
 use Rattle.model.specs.Page.{PageLine, join_from, line_bytes, page_bytes}
 use Rattle.model.proofs.Page.{join-same}
@@ -17,65 +19,49 @@ use Rattle.pages.specs.Pages.{Written, line_of}
 module _ {A : Type 0} (f : ℕ → List A) where
   -- two runs, and one list more
   join-split : (i m n : ℕ) → join_from f i (m + n) ≡ join_from f i m ++ join_from f (i + m) n
-  join-split i zero n =
-      let z : zero + n ≡ n = omega arith in
-      let e : i ≡ i + zero = omega arith in
-      ap (join_from f i) z ∙ ap (λ (k : ℕ). join_from f k n) e
-  join-split i (suc m) n =
-      let z : suc m + n ≡ suc (m + n) = omega arith in
-      let e : suc i + m ≡ i + suc m = omega arith in
-      ap (join_from f i) z
-      ∙ ap (λ (l : List A). f i ++ l) (join-split (suc i) m n ∙ ap (λ (k : ℕ). join_from f (suc i) m ++ join_from f k n) e)
-      ∙ sym (append_assoc (f i) (join_from f (suc i) m) (join_from f (i + suc m) n))
+  join-split i zero n = simp (zero-add, add-zero)
+  join-split i (suc m) n = simp (suc-add, add-suc, append_assoc, join-split (suc i) m n)
 
   pub join-next : (lo i : ℕ) → lo ≤ i → join_from f lo (i + 1 - lo) ≡ join_from f lo (i - lo) ++ f i
   join-next lo i h =
       let e : i + 1 - lo ≡ i - lo + 1 = omega arith in
       let k : lo + (i - lo) ≡ i = omega arith in
-      ap (join_from f lo) e ∙ join-split lo (i - lo) 1 ∙ ap (λ (j : ℕ). join_from f lo (i - lo) ++ (f j ++ [])) k
-      ∙ ap (λ (l : List A). join_from f lo (i - lo) ++ l) (append-nil (f i))
+      rw (e, join-split lo (i - lo) 1) (simp (k, append-nil))
 
   pub join-start : (lo : ℕ) → [] ≡ join_from f lo (lo - lo)
-  join-start lo = let e : lo - lo ≡ 0 = omega arith in sym (ap (join_from f lo) e)
-
-  pub join-upto : (n : ℕ) → join_from f 0 (n + 1) ≡ join_from f 0 n ++ f n
-  join-upto n =
-      let e : n + 1 - 0 ≡ n + 1 = omega arith in
-      let k : n - 0 ≡ n = omega arith in
-      rw (e, k) at (join-next 0 n (omega arith))
+  join-start lo = let e : lo - lo ≡ 0 = omega arith in rw e
 
   -- lists that are all empty
   join-empty : (i n : ℕ) → ((j : ℕ) → i ≤ j → j < i + n → f j ≡ []) → join_from f i n ≡ []
   join-empty i zero h = refl
-  join-empty i (suc n) h =
-      ap (λ (l : List A). l ++ join_from f (suc i) n) (h i (omega arith) (omega arith))
-      ∙ join-empty (suc i) n (λ j l k. h j (omega arith) (omega arith))
+  join-empty i (suc n) h = rw (h i (omega arith) (omega arith)) (join-empty (suc i) n (λ j l k. h j (omega arith) (omega arith)))
 
   -- what is empty outside a run is the lists of the run
   pub join-part : (g : ℕ → List A) (lo hi n : ℕ) → lo ≤ hi → hi ≤ n → ((j : ℕ) → j < lo → f j ≡ []) → ((j : ℕ) → hi ≤ j → j < n → f j ≡ [])
       → ((j : ℕ) → lo ≤ j → j < hi → f j ≡ g j) → join_from f 0 n ≡ join_from g lo (hi - lo)
   join-part g lo hi n l h below above same =
       let m : n ≡ lo + ((hi - lo) + (n - hi)) = omega arith in
-      let z : 0 + lo ≡ lo = omega arith in
-      ap (join_from f 0) m
-      ∙ join-split 0 lo ((hi - lo) + (n - hi))
-      ∙ ap₂ (λ (x y : List A). x ++ y) (join-empty 0 lo (λ j _ k. below j (omega arith)))
-      (ap (λ (k : ℕ). join_from f k ((hi - lo) + (n - hi))) z ∙ join-split lo (hi - lo) (n - hi))
-      ∙ ap₂ (λ (x y : List A). x ++ y) (join-same f g lo (hi - lo) (λ j k i. same j k (omega arith)))
-      (join-empty (lo + (hi - lo)) (n - hi) (λ j k i. above j (omega arith) (omega arith)))
-      ∙ append-nil (join_from g lo (hi - lo))
+      rw (
+        m,
+        join-split 0 lo ((hi - lo) + (n - hi)),
+        join-empty 0 lo (λ j _ k. below j (omega arith)),
+        zero-add lo,
+        join-split lo (hi - lo) (n - hi),
+        join-same f g lo (hi - lo) (λ j k i. same j k (omega arith)),
+        join-empty (lo + (hi - lo)) (n - hi) (λ j k i. above j (omega arith) (omega arith)),
+        append-nil,
+      )
+
+  -- how many all of them have
+  pub join-length : (i n : ℕ) → sum_from (λ j. length (f j)) i n ≡ length (join_from f i n)
+  join-length i zero = refl
+  join-length i (suc n) = omega (arith, length-append (f i) (join_from f (suc i) n), join-length (suc i) n)
 
   -- some of the lists are no longer than all of them
   join-le : (i n m : ℕ) → n ≤ m → length (join_from f i n) ≤ length (join_from f i m)
-  join-le i zero m h = omega arith
-  join-le i (suc n) zero h = absurd (omega arith)
-  join-le i (suc n) (suc m) h =
-      omega (
-        arith,
-        length-append (f i) (join_from f (suc i) n),
-        length-append (f i) (join_from f (suc i) m),
-        join-le (suc i) n m (omega arith),
-      )
+  join-le i n m h =
+      let e : n + (m - n) ≡ m = omega arith in
+      omega (arith, length-append (join_from f i n) (join_from f (i + n) (m - n)), rw e at (ap length (join-split i n (m - n))))
 
   join-room : (lo i hi : ℕ) → lo ≤ i → i < hi → length (join_from f lo (i - lo)) + length (f i) ≤ length (join_from f lo (hi - lo))
   join-room lo i hi h k =
@@ -88,22 +74,7 @@ module _ {A : Type 0} (f : ℕ → List A) where
 
 -- the bytes of a line and of lines
 pub line-length : (l : PageLine) → length (line_bytes l) ≡ 31
-line-length l =
-    omega (
-      arith,
-      length-append (decimal_field 5 l.session)
-          (decimal_field 4 l.room ++ (decimal_field 4 l.meeting ++ (decimal_field 6 l.attending ++ (decimal_field 11 l.info ++ (10 ∷ []))))),
-      length-append (decimal_field 4 l.room)
-          (decimal_field 4 l.meeting ++ (decimal_field 6 l.attending ++ (decimal_field 11 l.info ++ (10 ∷ [])))),
-      length-append (decimal_field 4 l.meeting) (decimal_field 6 l.attending ++ (decimal_field 11 l.info ++ (10 ∷ []))),
-      length-append (decimal_field 6 l.attending) (decimal_field 11 l.info ++ (10 ∷ [])),
-      length-append (decimal_field 11 l.info) (10 ∷ []),
-      field-length 5 l.session,
-      field-length 4 l.room,
-      field-length 4 l.meeting,
-      field-length 6 l.attending,
-      field-length 11 l.info,
-    )
+line-length l = simp (length-append, field-length)
 
 pub bytes-length : (ls : List PageLine) → length (page_bytes ls) ≡ 31 * length ls
 unfolding page_bytes
@@ -113,8 +84,7 @@ bytes-length (l ∷ ls) = omega (arith, length-append (line_bytes l) (page_bytes
 bytes-append : (ls ms : List PageLine) → page_bytes (ls ++ ms) ≡ page_bytes ls ++ page_bytes ms
 unfolding page_bytes
 bytes-append [] ms = refl
-bytes-append (l ∷ ls) ms =
-    ap (λ (b : List ℕ). line_bytes l ++ b) (bytes-append ls ms) ∙ sym (append_assoc (line_bytes l) (page_bytes ls) (page_bytes ms))
+bytes-append (l ∷ ls) ms = simp (append_assoc, bytes-append ls ms)
 
 pub bytes_one : (l : PageLine) → line_bytes l ≡ page_bytes (l ∷ [])
 unfolding page_bytes
@@ -146,21 +116,10 @@ pub line-by : (s c m n i : ℕ) {p q r u v : List ℕ} {at : ℕ} → Put p q at
 line-by s c m n i {at = at} a b d e =
     let front = decimal_field 5 s ++ (decimal_field 4 c ++ decimal_field 4 m) in
     let rest = decimal_field 6 n ++ (decimal_field 11 i ++ (10 ∷ [])) in
-    let long : length front ≡ 13
-    = omega (
-      arith,
-      length-append (decimal_field 5 s) (decimal_field 4 c ++ decimal_field 4 m),
-      length-append (decimal_field 4 c) (decimal_field 4 m),
-      field-length 5 s,
-      field-length 4 c,
-      field-length 4 m,
-    ) in
+    let long : length front ≡ 13 = simp (length-append, field-length) in
     let f : at + 19 ≡ at + 13 + 6 = omega arith in
     let g : at + 30 ≡ at + 13 + (6 + 11) = omega arith in
-    put_as
-    (append_assoc (decimal_field 5 s) (decimal_field 4 c ++ decimal_field 4 m) rest
-    ∙ ap (λ (l : List ℕ). decimal_field 5 s ++ l) (append_assoc (decimal_field 4 c) (decimal_field 4 m) rest))
-    (join-at long a (join-two (field-length 6 n) (field-length 11 i) b (rw f at d) (rw g at e)))
+    put_as (simp append_assoc) (join-at long a (join-two (field-length 6 n) (field-length 11 i) b (rw f at d) (rw g at e)))
 
 -- no line, one line, and lines behind lines
 pub written_none : (p : List ℕ) (at : ℕ) {ls : List PageLine} → [] ≡ ls → Written p p at ls at
@@ -185,10 +144,3 @@ written-more {p} {q} {r} {at} {n} {m} {ls} {ms} {both} e v w =
 pub still-room : (f : ℕ → List PageLine) (lo i hi : ℕ) {p q : List ℕ} {at next : ℕ} → lo ≤ i → i < hi
     → at + 31 * length (join_from f lo (hi - lo)) ≤ length p → Written p q at (join_from f lo (i - lo)) next → next + 31 * length (f i) ≤ length q
 still-room f lo i hi h k r w = omega (arith, r, w.next, w.put.kept, join-room f lo i hi h k)
-
-pub room-upto : (f : ℕ → List PageLine) (n m : ℕ) {p q : List ℕ} {at next : ℕ} → n < m → at + 31 * length (join_from f 0 m) ≤ length p
-    → Written p q at (join_from f 0 n) next → next + 31 * length (f n) ≤ length q
-room-upto f n m {p} {q} {at} {next} h r w =
-    let e : n - 0 ≡ n = omega arith in
-    let k : m - 0 ≡ m = omega arith in
-    still-room f 0 n m {p = p} {q = q} {at = at} {next = next} (omega arith) h (rw k r) (rw e w)

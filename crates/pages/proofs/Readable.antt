@@ -6,6 +6,7 @@ use mathlib.Core.Path.{◌≡◌, refl, sym, ◌∙◌, ap}
 use mathlib.Core.Bool.{Bool, true, false, cond}
 use Rattle.std.specs.Prelude.{Option, None, Some}
 use mathlib.Core.List.{List, [], ◌∷◌, ◌++◌}
+use Rattle.std.specs.List.{AllByRecursion}
 use lib.Dec.{leb, ltb, eqb}
 use lib.ListN.{length, take, drop, length-append, length-drop}
 use lib.Seq.{take_at, drop_at, drop-drop}
@@ -54,12 +55,12 @@ page-filled b d p {n} e = go (well_laid b) (lawful b) (ltb d (ledger_of b).diary
 
     go : (o t s r : Bool) → leb (31 * length ls) (length p) ≡ r → (page_by o t s r ls p).answer ≡ done_with n → Filled ls p n (page_by o t s r ls p).page
     go true true true true f e =
-        let m : length ls ≡ n = let z : done_with (length ls) ≡ done_with n = e in cc in
+        let m : length ls ≡ n = cc in
         rw (← m) (filled-by ls p (leb-true _ _ f))
-    go true true true false f e = absurd (let z : ◌≡◌ {A = ℕ} 0 1 = cc in omega arith)
-    go true true false r f e = absurd (let z : ◌≡◌ {A = ℕ} 0 1 = cc in omega arith)
-    go true false s r f e = absurd (let z : ◌≡◌ {A = ℕ} 0 1 = cc in omega arith)
-    go false t s r f e = absurd (let z : ◌≡◌ {A = ℕ} 0 1 = cc in omega arith)
+    go true true true false f e = absurd cc
+    go true true false r f e = absurd cc
+    go true false s r f e = absurd cc
+    go false t s r f e = absurd cc
 
 -- n columns of a line, from one on
 abbrev pub columns : ℕ → ℕ → List ℕ → List ℕ
@@ -126,22 +127,18 @@ line_reads l h =
     four : List ℕ
     four = decimal_field 4 l.room ++ three
 
--- every line of a list
-abbrev pub EachLine : (PageLine → Type 0) → List PageLine → Type 0
-EachLine P [] = Unit {0}
-EachLine P (l ∷ ls) = P l × EachLine P ls
-
-each_append : (P : PageLine → Type 0) (ls ms : List PageLine) → EachLine P ls → EachLine P ms → EachLine P (ls ++ ms)
+-- what holds of each line of two lists, and of lists of a run, holds of each line of all of them
+each_append : (P : PageLine → Type 0) (ls ms : List PageLine) → AllByRecursion P ls → AllByRecursion P ms → AllByRecursion P (ls ++ ms)
 each_append P [] ms h k = k
 each_append P (l ∷ ls) ms h k = (h.0, each_append P ls ms h.1 k)
 
-each-join : (P : PageLine → Type 0) (f : ℕ → List PageLine) (i n : ℕ) → ((j : ℕ) → j < i + n → EachLine P (f j)) → EachLine P (join_from f i n)
+each-join : (P : PageLine → Type 0) (f : ℕ → List PageLine) (i n : ℕ) → ((j : ℕ) → j < i + n → AllByRecursion P (f j)) → AllByRecursion P (join_from f i n)
 each-join P f i zero h = tt
 each-join P f i (suc n) h = each_append P (f i) (join_from f (suc i) n) (h i (omega arith)) (each-join P f (suc i) n (λ j k. h j (omega arith)))
 
 -- "I can read each number of a page back": a state of a valid site, whose information is that of words
 pub lines-read : (x : State) (d : ℕ) → valid_settings x.settings ≡ true → ((s c m : ℕ) → info_of (x.conf s c m) < 100000000000)
-    → EachLine Reads (page_lines x d)
+    → AllByRecursion Reads (page_lines x d)
 unfolding page_lines session_lines attending holder
 lines-read x d v w =
     each-join Reads (λ s. cond (eqb (date_of_session x.settings s) d) (session_lines x s) []) 0 (all_sessions x.settings)
@@ -151,7 +148,7 @@ lines-read x d v w =
     few s m = count-le (λ u. x.attend s m u) 0 x.settings.visitors
 
     held : (s c : ℕ) → s < all_sessions x.settings → c < x.settings.rooms → (o : Option ℕ)
-        → Lowest (λ m. is_some (x.conf s c m)) 0 x.settings.meetings o → EachLine Reads (line_of x s c o)
+        → Lowest (λ m. is_some (x.conf s c m)) 0 x.settings.meetings o → AllByRecursion Reads (line_of x s c o)
     held s c i j None h = tt
     held s c i j (Some m) h =
         let g = ranges-by x.settings v in (
@@ -166,9 +163,9 @@ lines-read x d v w =
           tt,
         )
 
-    room : (s c : ℕ) → s < all_sessions x.settings → c < x.settings.rooms → EachLine Reads (room_line x s c)
+    room : (s c : ℕ) → s < all_sessions x.settings → c < x.settings.rooms → AllByRecursion Reads (room_line x s c)
     room s c i j = held s c i j (holder x s c) (lowest-is (λ m. is_some (x.conf s c m)) 0 x.settings.meetings)
 
-    on : (s : ℕ) → s < all_sessions x.settings → (t : Bool) → EachLine Reads (cond t (session_lines x s) [])
+    on : (s : ℕ) → s < all_sessions x.settings → (t : Bool) → AllByRecursion Reads (cond t (session_lines x s) [])
     on s i true = each-join Reads (room_line x s) 0 x.settings.rooms (λ c j. room s c i (omega (arith, j)))
     on s i false = tt

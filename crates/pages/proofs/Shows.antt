@@ -13,22 +13,24 @@ use lib.ListN.{length, get_or, set, length-set}
 use lib.Seq.{get_or-set_same, get_or-set_other}
 use borrow.Author.Tests.{eq-eqb, ne_eqb}
 use Rattle.model.specs.declared.Settings.{Settings}
-use Rattle.model.specs.Bounded.{lowest, is_some, one, count}
+use Rattle.model.specs.Bounded.{lowest, is_some, one, count, sum_from}
 use Rattle.model.specs.Site.{all_sessions}
 use Rattle.model.specs.State.{State, attends, confs, booked}
 use Rattle.model.specs.Words.{attend_cells, conf_pairs, info_of}
 use Rattle.model.specs.Reading.{state_of, read_state, holds, at}
 use Rattle.model.specs.Page.{attending, holder, room_line, join_from, session_lines}
 use Rattle.model.proofs.Search.{lowest-same}
+use Rattle.model.proofs.Sums.{sum-agree, sum-most}
 use Rattle.book.specs.Good.{Good}
-use Rattle.book.specs.Grids.{cell_at, word_at, grid_of, grids_of}
+use Rattle.book.specs.Grids.{cell_at, word_at, grid_of}
 use Rattle.book.specs.declared.grid.Grid.{Grid}
-use Rattle.book.specs.declared.grid.Grids.{Grids}
 use Rattle.book.proofs.Counts.{count_same, count-more, count-le}
 use Rattle.book.proofs.Entries.{booked-eqb, holds-is, word-is}
 use Rattle.book.proofs.Goods.{good-state, good-cell, good-laid}
 use Rattle.queries.proofs.Shows.{held, held-full, lowest-cell}
-use Rattle.pages.specs.Pages.{Tally, line_of}
+use Rattle.units.proofs.Slots.{all-sessions}
+use Rattle.pages.specs.Pages.{Tally, line_of, between}
+use Rattle.pages.proofs.Joins.{join-length}
 
 -- entry w says how many of the first n cells of row i hold w
 pub record Tallied (g : Grid) (b : List ℕ) (i n : ℕ) (t : List ℕ) : Type 0 where
@@ -59,7 +61,7 @@ module _ (g : Grid) (b : List ℕ) (i : ℕ) where
   pub tallied-few : {n w : ℕ} {t : List ℕ} → w ≤ 128 → Tallied g b i n t → get_or t w 0 ≤ n
   tallied-few {n} {w} {t} h a = omega (arith, a.each w h, count-le (λ j. eqb (cell_at g b i j) w) 0 n)
 
-module _ (S : Settings) (b : List ℕ) (good : Good S b) (s : ℕ) (hs : s < all_sessions S) where
+module _ {S : Settings} {b : List ℕ} (good : Good S b) (s : ℕ) (hs : s < all_sessions S) where
   -- how many attend a meeting
   attending-is : (m : ℕ) → m < S.meetings → attending (state_of b) s m ≡ count (λ v. eqb (cell_at (grid_of S attend_cells) b s v) (suc m)) S.visitors
   unfolding attending read_state
@@ -134,14 +136,48 @@ module _ (S : Settings) (b : List ℕ) (good : Good S b) (s : ℕ) (hs : s < all
             ∙ ap length (the-line {w = suc m} (sym e) (λ z. omega (arith, z)) refl refl)
 
 -- a cell of a session's visitors holds no more than the meetings
-pub cell-few : (S : Settings) (b : List ℕ) (good : Good S b) {G : Grids} → G ≡ grids_of S → (s : ℕ) → s < all_sessions S → (v : ℕ) → v < S.visitors
-    → {w : ℕ} → w ≡ cell_at G.attend b s v → w ≤ 128
-cell-few S b good e s h v k f =
-    omega (arith, rw e at f, good-cell good attends s v h k, (good-laid good).ranges.meetings)
+pub cell-few : {S : Settings} {b : List ℕ} → Good S b → (s : ℕ) → s < all_sessions S → (v : ℕ) → v < S.visitors
+    → {w : ℕ} → w ≡ cell_at (grid_of S attend_cells) b s v → w ≤ 128
+cell-few good s h v k e = omega (arith, e, good-cell good attends s v h k, (good-laid good).ranges.meetings)
 
--- the rooms of the site are all of a session
-pub session-rooms : (S : Settings) (b : List ℕ) → Good S b → (s : ℕ) {n : ℕ} → n ≡ S.rooms → join_from (room_line (state_of b) s) 0 n ≡ session_lines
-    (state_of b) s
-unfolding session_lines read_state
-session-rooms S b good s e =
-    ap (join_from (room_line (state_of b) s) 0) (e ∙ sym (ap (λ (x : State). x.settings.rooms) (good-state good)))
+-- the lines of sessions by their rooms
+module _ {S : Settings} {b : List ℕ} (good : Good S b) where
+  -- the rooms of the site are all of a session
+  pub session-rooms : (s : ℕ) {n : ℕ} → n ≡ S.rooms → join_from (room_line (state_of b) s) 0 n ≡ session_lines (state_of b) s
+  unfolding session_lines read_state
+  session-rooms s e = ap (join_from (room_line (state_of b) s) 0) (e ∙ sym (ap (λ (x : State). x.settings.rooms) (good-state good)))
+
+  -- as many as the cells that are full
+  pub session-count : (s : ℕ) → s < all_sessions S → sum_from (λ c. one (not (eqb (cell_at (grid_of S conf_pairs) b s c) 0))) 0 (S.rooms - 0)
+      ≡ length (session_lines (state_of b) s)
+  session-count s h =
+      let z : S.rooms - 0 ≡ S.rooms = omega arith in
+      sum-agree (λ c. one (not (eqb (cell_at (grid_of S conf_pairs) b s c) 0))) (λ c. length (room_line (state_of b) s c)) 0 (S.rooms - 0)
+      (λ c _ k. line-count good s h c (omega (arith, k)))
+      ∙ join-length (room_line (state_of b) s) 0 (S.rooms - 0)
+      ∙ ap length (session-rooms s z)
+
+  -- and no more than all rooms
+  pub session-few : (s : ℕ) → length (session_lines (state_of b) s) ≤ 64
+  session-few s =
+      omega (
+        arith,
+        sum-most (λ c. length (room_line (state_of b) s c)) 1 0 S.rooms (λ c. line-few c (holder (state_of b) s c)),
+        join-length (room_line (state_of b) s) 0 S.rooms,
+        ap length (session-rooms s refl),
+        (good-laid good).ranges.rooms,
+      )
+    where
+      line-few : (c : ℕ) (o : Option ℕ) → length (Rattle.model.specs.Page.line_of (state_of b) s c o) ≤ 1
+      line-few c None = omega arith
+      line-few c (Some m) = omega arith
+
+  pub between-few : (lo hi : ℕ) → hi ≤ all_sessions S → length (between (state_of b) lo hi) ≤ 409600
+  unfolding between
+  between-few lo hi h =
+      omega (
+        arith,
+        sum-most (λ s. length (session_lines (state_of b) s)) 64 lo (hi - lo) session-few,
+        join-length (session_lines (state_of b)) lo (hi - lo),
+        all-sessions S (good-laid good).ranges,
+      )

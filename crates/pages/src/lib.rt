@@ -8,31 +8,26 @@ mod tally;
 ghost use Rattle.std.specs.Prelude.{◌≡◌, ◌<◌};
 ghost use Rattle.model.specs.Page;
 ghost use Rattle.model.specs.Reading.{state_of};
-ghost use Rattle.book.specs.Good.{Good};
 ghost use Rattle.book.specs.Lent.{reading};
 ghost use Rattle.pages.specs.Pages.{paged, fitted};
 
-use book::grid::site_of;
+use book::diary::Diary;
+use book::site::site_of;
 use header::settings::{diary_len, settings};
-use model::{Answer, Date, Refusal, Session, Settings};
+use model::{Answer, Date, Session, refused};
 use units::on_dates;
 
 // The lines of a date of a good diary, if the page is long enough for them: this is known before the first byte is written.
-fn fill(diary: &[u32], s: Settings, date: Date, page: &mut [u8]) -> Answer
-    requires good { Good s (reading diary.now) }
-    requires date_lt_dates { date.0 < s.dates }
-    ensures { paged result page.new ≡ fitted (state_of (reading diary.now)) date.0 page.old }
+fn fill(diary: Diary<'_>, date: Date, page: &mut [u8]) -> Answer
+    requires { date.0 < diary.site.settings.dates }
+    ensures { paged result page.new ≡ fitted (state_of (reading diary.entry.words.now)) date.0 page.old }
 {
-    let site = site_of(s);
-    let run = on_dates::<Session>(s, date, date);
-    let n = counts::lines_between(diary, site, run.from, run.to);
+    let run = on_dates::<Session>(diary.site.settings, date, date);
+    let n = counts::lines_between(diary, run.from, run.to);
     if page.len() < n as usize * lines::LINE_BYTES {
-        return Err(Refusal {
-            number: 26,
-            place: 0,
-        });
+        return refused(26, 0);
     }
-    lines::put_sessions(diary, site, run.from, run.to, page);
+    lines::put_sessions(diary, run.from, run.to, page);
     Ok(n)
 }
 
@@ -43,11 +38,12 @@ pub fn page(book: &[u32], date: u32, page: &mut [u8]) -> Answer
     checking::check(book)?;
     let s = settings(book);
     if date >= s.dates {
-        return Err(Refusal {
-            number: 7,
-            place: 0,
-        });
+        return refused(7, 0);
     }
     let n = diary_len(s);
-    fill(&book[..n], s, Date(date), page)
+    let diary = Diary {
+        words: &book[..n],
+        site: site_of(s),
+    };
+    fill(diary, Date(date), page)
 }

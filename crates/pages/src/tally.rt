@@ -2,26 +2,24 @@
 ghost use Rattle.std.specs.Prelude.{◌≡◌, ◌<◌};
 ghost use Rattle.model.specs.Site.{all_sessions};
 ghost use Rattle.model.specs.Reading.{state_of};
-ghost use Rattle.book.specs.Good.{Good};
 ghost use Rattle.book.specs.Lent.{reading};
 ghost use Rattle.pages.specs.Pages.{Tally};
 
-use book::grid::{Site, cell};
+use book::diary::Diary;
 use model::Session;
 
 // The most meetings of a site, and an entry for visitors who attend none.
 const ENTRIES: usize = 128 + 1;
 
 // How many visitors attend each meeting in the session: entry m + 1 is of meeting m, so that a cell is the index of its entry.
-pub fn tally(diary: &[u32], site: Site, session: Session) -> [u32; ENTRIES]
-    requires good { Good site.settings (reading diary.now) }
-    requires session_bound { session.0 < all_sessions site.settings }
-    ensures { Tally (state_of (reading diary.now)) session.0 result }
+pub fn tally(diary: Diary<'_>, session: Session) -> [u32; ENTRIES]
+    requires { session.0 < all_sessions diary.site.settings }
+    ensures { Tally (state_of (reading diary.entry.words.now)) session.0 result }
 {
-    let visitors = site.settings.visitors;
+    let attend = diary.attend();
     let mut table = [0u32; ENTRIES];
-    for v in 0..visitors {
-        let w = cell(diary, site.grids.attend, session.0, v) as usize;
+    for v in 0..diary.site.settings.visitors {
+        let w = attend.cell(session.0, v) as usize;
         table[w] += 1;
     }
     table

@@ -1,3 +1,1 @@
-pub mod Guests
 pub mod Joining
-pub mod Apart

@@ -1,5 +1,5 @@
 // One guest, added and taken out as kinds 10 and 11 do it. An adding is judged by `eager`'s function: the one of `meetings` is left to the
-// loop over requests, into which a function with one caller is compiled.
+// loop over requests, into which a function with one caller is compiled. Each is a kind's own two functions handed to `carry_out`, and no more.
 ghost use Rattle.std.specs.Prelude.{◌≡◌};
 ghost use Rattle.model.specs.Machine.{step};
 ghost use Rattle.model.specs.Reading.{state_of};

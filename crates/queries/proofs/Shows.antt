@@ -142,12 +142,12 @@ module _ (S : Settings) (b : List ℕ) (good : Good S b) where
       go None e = omega arith
       go (Some l) e = ((good-sound good).seats d g m l e).1
 
+  pub seats-most : (d g m : ℕ) → g < S.dining → seats_of ((state_of b).lunch d g m) ≤ 1000
+  unfolding read_state
+  seats-most d g m l = omega (arith, seats-few d g m, (valid-is S (good-sound good).valid).seats g l)
+
 -- the meeting's seats in a dining room, by its cell
 module _ (S : Settings) (b : List ℕ) (good : Good S b) (d g m : ℕ) (h : d < S.dates) (l : g < S.dining) (k : m < S.meetings) where
-  few : seats_of ((state_of b).lunch d g m) ≤ 1000
-  unfolding read_state
-  few = omega (arith, seats-few S b good d g m, (valid-is S (good-sound good).valid).seats g l)
-
   pub seats-other : (cell_at (grid_of S lunch_triples) b d m ≡ g + 1 → ⊥) → Seats (state_of b) d g m 0
   seats-other n =
       let e : seats_of ((state_of b).lunch d g m) ≡ 0 = seats-is S b good d g m h l k
@@ -158,4 +158,4 @@ module _ (S : Settings) (b : List ℕ) (good : Good S b) (d g m : ℕ) (h : d < 
   seats-own w n q =
       let e : seats_of ((state_of b).lunch d g m) ≡ at S b lunch_triples d m 1 = seats-is S b good d g m h l k
       ∙ ap (λ (t : Bool). cond t (at S b lunch_triples d m 1) 0) (eq-eqb _ (g + 1) n) in
-      record { is = q ∙ sym e; few = omega (arith, few, e, q) }
+      record { is = q ∙ sym e; few = omega (arith, seats-most S b good d g m l, e, q) }

@@ -5,7 +5,7 @@ use mathlib.Core.Path.{◌≡◌, refl, sym, ◌∙◌, ap, subst}
 use mathlib.Core.List.{List}
 use native.Mathlib.Decide.{ℕ_discrete}
 use native.Mathlib.Omega.{arith}
-use lib.ListN.{length, get_or, set, replicate}
+use lib.ListN.{length, get_or, replicate}
 use lib.Seq.{get_or-set_same, get_or-set_other}
 use Rattle.model.specs.declared.Settings.{Settings}
 use Rattle.model.specs.Words.{lunch_triples}
@@ -15,12 +15,8 @@ use Rattle.book.specs.Grids.{cell_at, word_at, grid_of}
 use Rattle.book.specs.Good.{Good}
 use Rattle.book.proofs.Entries.{word-is}
 use Rattle.book.proofs.Goods.{good-laid, good-cell}
-use Rattle.queries.specs.Shown.{Seats}
+use Rattle.queries.specs.Shown.{Seats, weights_of}
 use Rattle.queries.proofs.Shows.{seats-own, seats-other}
-
--- zeros with a 1 in the place of the room
-abbrev pub weights_of : ℕ → List ℕ
-weights_of room = set (replicate 17 0) (room + 1) 1
 
 zeros : (n k : ℕ) → ◌≡◌ {A = ℕ} (get_or (replicate n 0) k 0) 0
 zeros zero k = refl

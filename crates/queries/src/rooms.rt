@@ -5,23 +5,22 @@ ghost use Rattle.model.specs.Site.{all_sessions};
 ghost use Rattle.model.specs.State.{reserved as reserved_in};
 ghost use Rattle.model.specs.Questions.{lowest_free};
 ghost use Rattle.model.specs.Reading.{state_of};
-ghost use Rattle.book.specs.Good.{Good};
-ghost use Rattle.book.specs.Lent.{reading, Lies};
-ghost use Rattle.queries.specs.Shown.{Seats, empty_in};
+ghost use Rattle.book.specs.Lent.{reading};
+ghost use Rattle.queries.specs.Shown.{Seats, empty_in, weights_of};
 
 use crate::search::middle_of;
-use book::grid::{Grid, Site, cell, word};
+use book::diary::Diary;
+use book::region::Cells;
 use model::{Date, Session};
 
 // The lowest conference room free in every session of first..last: a room is left at the first session in which it is taken. Two loops and
-// a label, which docs/PROOFS.md names as the form of this search.
-fn lowest_in(book: &[u32], site: Site, first: Session, last: Session) -> Option<u32>
-    requires good { Good site.settings (reading book.now) }
+// a label: the form of this search is a rule of the project (docs/PROOFS.md, "Forms of the language").
+fn lowest_in(diary: Diary<'_>, first: Session, last: Session) -> Option<u32>
     requires first_le_last { first.0 ≤ last.0 }
-    requires last_bound { last.0 < all_sessions site.settings }
-    ensures { result ≡ lowest_free (state_of (reading book.now)) first.0 last.0 }
+    requires last_bound { last.0 < all_sessions diary.site.settings }
+    ensures { result ≡ lowest_free (state_of (reading diary.entry.words.now)) first.0 last.0 }
 {
-    let rooms = site.settings.rooms;
+    let rooms = diary.site.settings.rooms;
     let from = first.0;
     let to = last.0;
     let mut next: u32 = 0;
@@ -32,7 +31,7 @@ fn lowest_in(book: &[u32], site: Site, first: Session, last: Session) -> Option<
         let room = next;
         next += 1;
         for slot in from..=to {
-            if cell(book, site.grids.conf, slot, room) != 0 {
+            if diary.conf().cell(slot, room) != 0 {
                 continue 'rooms;
             }
         }
@@ -41,74 +40,62 @@ fn lowest_in(book: &[u32], site: Site, first: Session, last: Session) -> Option<
 }
 
 // The cells of an item in three slots are empty. All three are read, with no branch between them that the processor would not foresee.
-fn empty_in(book: &[u32], g: Grid, first: u32, middle: u32, last: u32, item: u32) -> bool
-    requires lies { Lies g (reading book.now) }
-    requires first_lt_slots { (first < g.slots) × (middle < g.slots) × (last < g.slots) × (item < g.items) }
-    ensures { result ≡ empty_in g (reading book.now) first middle last item }
+fn empty_in(g: Cells<'_>, first: u32, middle: u32, last: u32, item: u32) -> bool
+    requires first_lt_slots { (first < g.grid.slots) × (middle < g.grid.slots) × (last < g.grid.slots) × (item < g.grid.items) }
+    ensures { result ≡ empty_in g.entry.grid (reading g.entry.words.now) first middle last item }
 {
-    (cell(book, g, first, item) == 0)
-        & (cell(book, g, middle, item) == 0)
-        & (cell(book, g, last, item) == 0)
+    (g.cell(first, item) == 0) & (g.cell(middle, item) == 0) & (g.cell(last, item) == 0)
 }
 
 // The lowest item whose cells in three slots are empty.
-fn lowest_soon(book: &[u32], g: Grid, items: u32, first: u32, middle: u32, last: u32) -> Option<u32>
-    requires lies { Lies g (reading book.now) }
-    requires first_lt_slots { (first < g.slots) × (middle < g.slots) × (last < g.slots) × (items ≤ g.items) }
-    ensures { result ≡ lowest (empty_in g (reading book.now) first middle last) 0 items }
+fn lowest_soon(g: Cells<'_>, items: u32, first: u32, middle: u32, last: u32) -> Option<u32>
+    requires first_lt_slots { (first < g.grid.slots) × (middle < g.grid.slots) × (last < g.grid.slots) × (items ≤ g.grid.items) }
+    ensures { result ≡ lowest (empty_in g.entry.grid (reading g.entry.words.now) first middle last) 0 items }
 {
-    (0..items).find(|item| empty_in(book, g, first, middle, last, *item))
+    (0..items).find(|item| empty_in(g, first, middle, last, *item))
 }
 
 // The lowest conference room free in every session of first..last. A run of at most three sessions is asked as three, its first, its
 // middle and its last, of which some are the same if it is shorter: the processor does not foresee where a loop over so few ends.
-pub fn lowest_free(book: &[u32], site: Site, first: Session, last: Session) -> Option<u32>
-    requires good { Good site.settings (reading book.now) }
+pub fn lowest_free(diary: Diary<'_>, first: Session, last: Session) -> Option<u32>
     requires first_le_last { first.0 ≤ last.0 }
-    requires last_bound { last.0 < all_sessions site.settings }
-    ensures { result ≡ lowest_free (state_of (reading book.now)) first.0 last.0 }
+    requires last_bound { last.0 < all_sessions diary.site.settings }
+    ensures { result ≡ lowest_free (state_of (reading diary.entry.words.now)) first.0 last.0 }
 {
     let from = first.0;
     let to = last.0;
     if to - from <= 2 {
-        let conf = site.grids.conf;
+        let conf = diary.conf();
         let middle = middle_of(from, to);
-        return lowest_soon(book, conf, site.settings.rooms, from, middle, to);
+        return lowest_soon(conf, diary.site.settings.rooms, from, middle, to);
     }
-    lowest_in(book, site, first, last)
+    lowest_in(diary, first, last)
 }
 
-// The seats of the meeting's lunch, if it is in the dining room: what `reserved` adds up, asked of one meeting.
-fn seats_at(book: &[u32], site: Site, date: Date, room: u32, meeting: u32) -> u32
-    requires good { Good site.settings (reading book.now) }
-    requires date_lt_dates { date.0 < site.settings.dates }
-    requires room_lt_dining { room < site.settings.dining }
-    requires meeting_lt_meetings { meeting < site.settings.meetings }
-    ensures { Seats (state_of (reading book.now)) date.0 room meeting result }
+// The seats of the meeting's lunch, if it is in the dining room. A lunch cell holds its room plus 1, or 0 for no lunch, and each of these 17
+// has a weight: 1 for this room, 0 for all others. The word of the seats is taken times the weight, for the processor does not foresee a
+// branch on the cell.
+fn seats_at(diary: Diary<'_>, date: Date, room: u32, weights: &[u32; 17], meeting: u32) -> u32
+    requires date_lt_dates { date.0 < diary.site.settings.dates }
+    requires room_lt_dining { room < diary.site.settings.dining }
+    requires weighed { weights.now ≡ weights_of room }
+    requires meeting_lt_meetings { meeting < diary.site.settings.meetings }
+    ensures { Seats (state_of (reading diary.entry.words.now)) date.0 room meeting result }
 {
-    if cell(book, site.grids.lunch, date.0, meeting) != room + 1 {
-        return 0;
-    }
-    word(book, site.grids.lunch, date.0, meeting, 1)
+    let lunch = diary.lunch();
+    let at = lunch.cell(date.0, meeting) as usize;
+    lunch.word(date.0, meeting, 1) * weights[at]
 }
 
-// The seats reserved in a dining room on a date. A lunch cell holds its room plus 1, or 0 for no lunch, and each of these 17 has a weight:
-// 1 for this room, 0 for all others. Seats times weight are added, for the processor does not foresee a branch on the cell.
-// A loop and not a chain: that a cell has a weight is a fact of the book, which a closure would have to state in clauses of its own.
-pub fn reserved(book: &[u32], site: Site, date: Date, room: u32) -> u32
-    requires good { Good site.settings (reading book.now) }
-    requires date_lt_dates { date.0 < site.settings.dates }
-    requires room_lt_dining { room < site.settings.dining }
-    ensures { result ≡ reserved_in (state_of (reading book.now)) date.0 room }
+// The seats reserved in a dining room on a date.
+pub fn reserved(diary: Diary<'_>, date: Date, room: u32) -> u32
+    requires date_lt_dates { date.0 < diary.site.settings.dates }
+    requires room_lt_dining { room < diary.site.settings.dining }
+    ensures { result ≡ reserved_in (state_of (reading diary.entry.words.now)) date.0 room }
 {
-    let lunch = site.grids.lunch;
-    let meetings = site.settings.meetings;
     let mut weights = [0u32; 17];
     weights[(room + 1) as usize] = 1;
-    let mut seats: u32 = 0;
-    for m in 0..meetings {
-        let at = cell(book, lunch, date.0, m) as usize;
-        seats += word(book, lunch, date.0, m, 1) * weights[at];
-    }
-    seats
+    (0..diary.site.settings.meetings)
+        .map(|m| seats_at(diary, date, room, &weights, m))
+        .sum()
 }

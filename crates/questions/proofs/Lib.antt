@@ -1,4 +1,3 @@
-pub mod Passed
 pub mod Seats
 pub mod Grounds
 pub mod Shown

@@ -1,42 +1,25 @@
 -- Searches over the cells of one grid find what the state shows: questions 9, 10, 16, 17 and 20.
 -- Assumes nothing.
-use Prim.Native.Nat.{ℕ, ◌+◌, ◌/◌, ◌%◌, ◌≤◌, ◌<◌}
-use mathlib.Core.Path.{◌≡◌, sym, ◌∙◌, ap, ap₂}
-use mathlib.Core.Bool.{Bool, not}
+use Prim.Native.Nat.{ℕ, ◌+◌, ◌/◌, ◌%◌, ◌<◌}
+use mathlib.Core.Path.{◌≡◌, sym, ◌∙◌, ap}
+use mathlib.Core.Bool.{not}
 use mathlib.Core.List.{List}
 use native.Mathlib.Omega.{arith}
 use lib.Dec.{eqb}
 use Rattle.model.proofs.Search.{failing-same}
-use Rattle.book.specs.declared.grid.Grid.{Grid}
 use Rattle.book.specs.declared.grid.Grids.{Grids}
-use Rattle.book.specs.Grids.{cell_at, grid_of, grids_of}
+use Rattle.book.specs.Grids.{cell_at, grids_of}
 use Rattle.book.specs.Rows.{row_has}
 use Rattle.book.specs.Good.{Good}
-use Rattle.book.proofs.Goods.{good-laid}
-use Rattle.units.proofs.Slots.{date-lt}
 use Rattle.questions.specs.Asked.{first_with, first_row_without, first_not_member, slots_fail, holds_in}
 use Rattle.questions.specs.Asked.{OnLeave, Stands, HasConf, HasLunch}
 use Rattle.model.specs.declared.Settings.{Settings}
 use Rattle.model.specs.Bounded.{bit}
-use Rattle.model.specs.Kinds.{Unit as SlotUnit, dates, slots_of, date_of}
-use Rattle.model.specs.Reading.{state_of}
+use Rattle.model.specs.Kinds.{dates}
 use Rattle.model.specs.Site.{all_sessions}
-use Rattle.model.specs.Words.{leaves}
 use Rattle.queries.proofs.Shows.{leave-is, standing-is, conf-held-is, lunch-held-is}
 
 module _ {S : Settings} {b : List ℕ} (good : Good S b) where
-  -- the date of a slot of first..last, and the bit of a visitor on it
-  pub slot-date : (u : SlotUnit) {i last : ℕ} → i ≤ last → last < slots_of S u → date_of S u i < S.dates
-  slot-date u {i} {last} l h = date-lt S (good-laid good).ranges u i (omega (arith, l, h))
-
-  pub leave-at : {g : Grid} (u : SlotUnit) (i : ℕ) {last d v : ℕ} {r : Bool} → g ≡ grid_of S leaves → i ≤ last → last < slots_of S u → v < S.visitors
-      → d ≡ date_of S u i → r ≡ bit (cell_at g b d (v / 32)) (v % 32) → r ≡ holds_in S (state_of b) (OnLeave u) v 0 i
-  unfolding holds_in
-  leave-at {g} u i {last} {d} {v} e l h k f is =
-      is
-      ∙ ap₂ (λ (g : Grid) (d : ℕ). bit (cell_at g b d (v / 32)) (v % 32)) e f
-      ∙ sym (leave-is S b good (date_of S u i) v (slot-date u l h) k)
-
   module _ {g : Grids} (e : g ≡ grids_of S) (first last : ℕ) where
     pub leave-fail : (v : ℕ) → v < S.visitors → last < S.dates
         → first_not_member g.leave b v first last ≡ slots_fail S b (OnLeave dates) v 0 first last

@@ -1,15 +1,19 @@
 -- What the ring's functions need of the words of a tail: the words of an entry, and an entry stored word by word.
 -- Assumes nothing.
-use Prim.Native.Nat.{ℕ, zero, suc, ◌+◌, ◌*◌, ◌<◌}
+use Prim.Native.Nat.{ℕ, zero, suc, ◌+◌, ◌-◌, ◌*◌, ◌≤◌, ◌<◌}
 use mathlib.Core.Path.{◌≡◌, refl, sym, ◌∙◌, ap, ap₂}
 use mathlib.Core.Bool.{Bool, true, false, not, ◌&&◌, ◌||◌, cond}
 use Rattle.std.specs.Prelude.{Option, None, Some}
 use mathlib.Core.List.{List, [], ◌∷◌}
 use native.Mathlib.Omega.{arith}
 use lib.Dec.{eqb}
-use lib.ListN.{length, get_or, drop, set}
-use lib.Seq.{get_or-drop, drop-drop, sets, length-sets}
+use lib.ListN.{length, get_or, take, drop, set, length-take}
+use lib.Seq.{get_or-take, get_or-drop, drop-drop, sets, length-sets}
 use borrow.Author.Tests.{eq-eqb, ne_eqb, eqb-true}
+use Rattle.std.specs.List.{list_all}
+use Rattle.std.proofs.lemmas.List.{length-drop}
+use Rattle.std.proofs.lemmas.List.Elements.{All-get_or, All-from_get_or}
+use Rattle.std.proofs.lemmas.List.Sums.{AllPass-from_list_all, list_all-from_AllPass}
 use Rattle.model.specs.declared.Request.{Request}
 use Rattle.model.specs.Answers.{Answer}
 use Rattle.model.specs.Answers.{done_with, refused_with}
@@ -93,7 +97,7 @@ stored-sets w at j (v ∷ vs) =
     let n : at + suc j ≡ suc (at + j) = omega arith in
     stored-sets (set w (at + j) v) at (suc j) vs ∙ ap (λ (k : ℕ). sets (set w (at + j) v) k vs) n
 
-put-sets : (w : List ℕ) (at n : ℕ) (r : Request) (number place value : ℕ)
+pub put-sets : (w : List ℕ) (at n : ℕ) (r : Request) (number place value : ℕ)
     → entry_put w at n r number place value
     ≡ sets w at (n ∷ r.kind ∷ r.a ∷ r.b ∷ r.first ∷ r.last ∷ r.n ∷ r.info ∷ number ∷ place ∷ value ∷ [])
 unfolding entry_put
@@ -210,3 +214,24 @@ module _ (w : List ℕ) (i : ℕ) where
     kept-once q =
         and-true-is (answer_told w i)
         ∙ sym (by-twice false (found_nothing (lowest (λ j. eqb (word_of w j 0) (word_of w i 0)) 0 i) (sym before ∙ q)))
+
+-- a test of each word of a list, by its place
+by-places : (p : ℕ → Bool) (l : List ℕ) (q : ℕ → Bool) → ((j : ℕ) → j < length l → p (get_or l j 0) ≡ q j) → list_all p l ≡ all q (length l)
+by-places p l q same = go (list_all p l) refl
+  where
+    go : (b : Bool) → list_all p l ≡ b → list_all p l ≡ all q (length l)
+    go true e = e ∙ sym (true-all q (length l) (λ j h. sym (same j h) ∙ All-get_or (λ x. p x ≡ true) l j 0 h (AllPass-from_list_all p l e)))
+    go false e =
+        e ∙ sym (never (all q (length l))
+        (λ t. both (list_all-from_AllPass p l (All-from_get_or (λ x. p x ≡ true) l 0 (λ j h. same j h ∙ all_true q (length l) t j h))) e))
+
+-- the words of an entry are zeros
+pub zeros-at : (w : List ℕ) (i : ℕ) → i * 11 + 11 ≤ length w
+    → list_all (λ word. eqb word 0) (take (i * 11 + 11 - i * 11) (drop (i * 11) w)) ≡ all (λ j. eqb (word_of w i j) 0) entry_length
+zeros-at w i h =
+    let n : i * 11 + 11 - i * 11 ≡ 11 = omega arith in
+    let long : length (take 11 (drop (i * 11) w)) ≡ 11 = omega (arith, h, length-take 11 (drop (i * 11) w), length-drop (i * 11) w) in
+    rw n
+    (by-places (λ word. eqb word 0) (take 11 (drop (i * 11) w)) (λ j. eqb (word_of w i j) 0)
+    (λ j l. ap (λ (x : ℕ). eqb x 0) (get_or-take 11 (drop (i * 11) w) j 0 (omega (arith, long, l)) ∙ get_or-drop (i * 11) w j 0))
+    ∙ ap (all (λ j. eqb (word_of w i j) 0)) long)

@@ -10,9 +10,9 @@ use Rattle.model.specs.Answers.{Answer}
 use Rattle.std.specs.Prelude.{Ok, Err}
 use Rattle.model.specs.Answers.{done_with, refused_with}
 use Rattle.model.specs.Messages.{answer_words, told_by}
-use Rattle.model.proofs.Told.{Tellable}
-use Rattle.ring.specs.declared.Told.{Told}
-use Rattle.ring.specs.Telling.{told_of, answer_by, is_answer}
+use Rattle.model.proofs.Tells.{Tellable}
+use Rattle.model.specs.declared.Told.{Told}
+use Rattle.model.specs.Told.{told_of, answer_by, is_answer}
 
 words-told : (a : Answer) → (told_of a).number ∷ (told_of a).place ∷ (told_of a).value ∷ [] ≡ answer_words a
 words-told (Ok v) = refl

@@ -1,21 +1,15 @@
 // The law of the ring: question 2 of what stands behind the diary. The numbers are compared in pairs, each with those before it.
-ghost use Rattle.std.specs.Prelude.{◌≡◌, ◌+◌, ◌≤◌, ◌<◌, eqb, length, get_or};
-ghost use Rattle.model.specs.Bounded.{all};
-ghost use Rattle.model.specs.Tail.{tail_length, tail_kept, entry_kept, entry_length, ring_places};
+ghost use Rattle.std.specs.Prelude.{◌≡◌, ◌<◌, ◌==◌, length};
+ghost use Rattle.std.specs.List.{list_all};
+ghost use Rattle.model.specs.Tail.{tail_length, tail_kept, entry_kept, ring_places};
 
 use crate::{ENTRY_WORDS, NEXT, PLACES, numbered};
 
-// Whether the eleven words from a place on are zeros.
-fn all_zero(tail: &[u32], at: usize) -> bool
-    requires { at + 11 ≤ length tail.now }
-    ensures { result ≡ all (λ j. eqb (get_or tail.now (at + j) 0) 0) entry_length }
+// Whether the words are zeros.
+fn all_zero(words: &[u32]) -> bool
+    ensures { result ≡ list_all (λ word. word == 0) words.now }
 {
-    for j in 0..ENTRY_WORDS {
-        if tail[at + j] != 0 {
-            return false;
-        }
-    }
-    true
+    words.iter().all(|word| *word == 0)
 }
 
 // The law of one entry: all zeros without a number; with one, a number that no entry before has, and an answer that is done or refused.
@@ -27,7 +21,7 @@ fn entry_kept(tail: &[u32], i: u32) -> bool
     let at = i as usize * ENTRY_WORDS;
     let order = tail[at];
     if order == 0 {
-        return all_zero(tail, at);
+        return all_zero(&tail[at..at + ENTRY_WORDS]);
     }
     if let Some(_) = numbered(tail, order, i) {
         return false;

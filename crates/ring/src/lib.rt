@@ -1,6 +1,7 @@
 // The ring of kept orders, which stands behind the diary: where an order is kept, the answer to one that is, and keeping one. Every
-// function here is lent the tail of a book: the entries, eleven words each, and behind them the next place. Behind the tail stands the
-// change count (`changes`).
+// function here is lent the tail of a book: the entries, eleven words each, and behind them the next place. That it is as long as a tail is a
+// clause of each: a reference to an array of that length would be made of the slice that is lent by a test when it runs. Behind the tail
+// stands the change count (`changes`).
 #![tactic(auto)]
 
 pub mod changes;
@@ -8,13 +9,13 @@ pub mod law;
 
 ghost use Rattle.std.specs.Prelude.{◌≡◌, true, ◌+◌, ◌≤◌, ◌<◌, eqb, length, get_or, drop};
 ghost use Rattle.model.specs.Bounded.{lowest};
-ghost use Rattle.model.specs.Messages.{told_by, request_of, same_request};
+ghost use Rattle.model.specs.Messages.{request_of, same_request};
 ghost use Rattle.model.specs.Tail.{tail_length, tail_of, tail_kept, tail_words, word_of, ring_length, ring_places, entry_at, kept_at, place_after, noted};
 ghost use Rattle.model.specs.Machine.{kept_answer};
-ghost use Rattle.ring.specs.Telling.{told_of, answer_by, is_answer};
+ghost use Rattle.model.specs.Told.{answer_by, is_answer};
 ghost use Rattle.ring.specs.Stores.{entry_put, entry_kept_at};
 
-use model::{Answer, Refusal, Request};
+use model::{Answer, Request, Told, refused};
 
 // The words of an entry: the number of the order, seven words of its request, three of its answer.
 pub const ENTRY_WORDS: usize = 11;
@@ -24,15 +25,6 @@ pub const PLACES: u32 = 64;
 
 // Where the next place stands: behind the entries.
 pub const NEXT: usize = 704;
-
-// An answer as the three words in which it is kept and written: a number, 0 where it is done, a place and a value. From a step on answers
-// are handed on like this: words are merged in registers where the kinds come together, an enum is not.
-#[derive(Clone, Copy)]
-pub struct Told {
-    pub number: u32,
-    pub place: u32,
-    pub value: u32,
-}
 
 // The lowest of the first entries that has the number.
 pub fn numbered(tail: &[u32], order: u32, entries: u32) -> Option<u32>
@@ -57,34 +49,6 @@ pub fn find(tail: &[u32], order: u32) -> Option<u32>
         return None;
     }
     numbered(tail, order, PLACES)
-}
-
-// The answer that three words tell.
-pub fn answer_of(number: u32, place: u32, value: u32) -> Answer
-    ensures { result ≡ told_by number place value }
-{
-    if number == 0 {
-        return Ok(value);
-    }
-    Err(Refusal { number, place })
-}
-
-// The three words of an answer.
-pub fn words_of(a: Answer) -> Told
-    ensures { result ≡ told_of a }
-{
-    match a {
-        Ok(value) => Told {
-            number: 0,
-            place: 0,
-            value,
-        },
-        Err(Refusal { number, place }) => Told {
-            number,
-            place,
-            value: 0,
-        },
-    }
 }
 
 // Whether the seven words from a place on are those of the request. They are compared one by one: compared together, they would be loaded
@@ -122,38 +86,25 @@ pub fn answer_to(tail: &[u32], place: u32, r: Request) -> Answer
 {
     let at = place as usize * ENTRY_WORDS;
     if !is_request(tail, at + 1, r) {
-        return Err(Refusal {
-            number: 28,
-            place: 0,
-        });
+        return refused(28, 0);
     }
-    answer_of(tail[at + 8], tail[at + 9], tail[at + 10])
+    let told = Told {
+        number: tail[at + 8],
+        place: tail[at + 9],
+        value: tail[at + 10],
+    };
+    told.into()
 }
 
 // The eleven words of an entry, from a place on.
-fn put_entry(
-    tail: &mut [u32],
-    at: usize,
-    order: u32,
-    r: Request,
-    number: u32,
-    place: u32,
-    value: u32,
-)
+fn put_entry(tail: &mut [u32], at: usize, order: u32, r: Request, t: Told)
     requires { at + 11 ≤ length tail.old }
-    ensures { tail.new ≡ entry_put tail.old at order r number place value }
+    ensures { tail.new ≡ entry_put tail.old at order r t.number t.place t.value }
 {
-    tail[at] = order;
-    tail[at + 1] = r.kind;
-    tail[at + 2] = r.a;
-    tail[at + 3] = r.b;
-    tail[at + 4] = r.first;
-    tail[at + 5] = r.last;
-    tail[at + 6] = r.n;
-    tail[at + 7] = r.info;
-    tail[at + 8] = number;
-    tail[at + 9] = place;
-    tail[at + 10] = value;
+    let words = [
+        order, r.kind, r.a, r.b, r.first, r.last, r.n, r.info, t.number, t.place, t.value,
+    ];
+    tail[at..at + ENTRY_WORDS].copy_from_slice(&words);
 }
 
 // The place after a place: behind the last comes the first.
@@ -168,21 +119,13 @@ fn place_after(i: u32) -> u32
 }
 
 // An entry at the next place, and the place after it.
-fn keep(tail: &mut [u32], order: u32, r: Request, number: u32, place: u32, value: u32)
+fn keep(tail: &mut [u32], order: u32, r: Request, t: Told)
     requires tail_len { length tail.old ≡ tail_length }
     requires ring_length_bound { get_or tail.old ring_length 0 < ring_places }
-    ensures { tail.new ≡ entry_kept_at tail.old order r number place value }
+    ensures { tail.new ≡ entry_kept_at tail.old order r t.number t.place t.value }
 {
     let next = tail[NEXT];
-    put_entry(
-        tail,
-        next as usize * ENTRY_WORDS,
-        order,
-        r,
-        number,
-        place,
-        value,
-    );
+    put_entry(tail, next as usize * ENTRY_WORDS, order, r, t);
     tail[NEXT] = place_after(next);
 }
 
@@ -196,5 +139,5 @@ pub fn note(tail: &mut [u32], order: u32, r: Request, t: Told)
     if order == 0 {
         return;
     }
-    keep(tail, order, r, t.number, t.place, t.value);
+    keep(tail, order, r, t);
 }

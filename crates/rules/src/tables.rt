@@ -21,6 +21,7 @@ const WORDS: usize = 4;
 
 // A table of a row of bits: entry 0 is false, entry v + 1 says that bit v is clear. A cell holds its member plus 1, or 0 for
 // none, so that a cell is the index of its entry.
+// By index: a word has thirty-two entries, and of parts that are lent by `chunks_mut` the library does not say what they end as.
 pub fn bar(table: &mut [bool], row: &[u32])
     requires { length row.now * 32 < length table.old }
     ensures { Barred row.now (length row.now * 32) table.new }
@@ -49,12 +50,12 @@ pub fn bound(bounds: &mut [u32], table: &[bool], n: usize, limit: u32)
     requires { (n ≤ length bounds.old) × (n < length table.now) }
     ensures { Most table.now n limit bounds.new }
 {
-    for v in 0..n {
-        bounds[v] = if table[v + 1] { 0 } else { limit };
+    for (v, most) in bounds[..n].iter_mut().enumerate() {
+        *most = if table[v + 1] { 0 } else { limit };
     }
 }
 
-// Word k of n rows, or-ed together.
+// Word k of n rows, or-ed together. By index: of each row one word is read, which has an index in the row as well.
 fn column(rows: &[u32], n: usize, width: usize, k: usize) -> u32
     requires { (k < width) × (n * width ≤ length rows.now) }
     ensures { result ≡ ors (λ p. get_or rows.now (p * width + k) 0) n }
@@ -72,8 +73,8 @@ fn columns(rows: &[u32], n: usize, width: usize) -> [u32; WORDS]
     ensures { Columns rows.now n width width result }
 {
     let mut words = [0; WORDS];
-    for k in 0..width {
-        words[k] = column(rows, n, width, k);
+    for (k, word) in words[..width].iter_mut().enumerate() {
+        *word = column(rows, n, width, k);
     }
     words
 }

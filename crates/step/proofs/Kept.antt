@@ -25,7 +25,7 @@ use Rattle.model.specs.Calls.{Called, called, call_on, calls, fresh_book}
 use Rattle.model.specs.Site.{valid_settings}
 use Rattle.model.specs.Messages.{same_request}
 use Rattle.model.proofs.Shown.{words-state_of}
-use Rattle.model.proofs.Told.{Tellable, refused-tellable, step-tellable}
+use Rattle.model.proofs.Tells.{Tellable, refused-tellable, step-tellable}
 use Rattle.model.proofs.Tail.{tail-long as tail-words-long, tail-kept, tail-back, kept-place}
 use Rattle.model.proofs.Ledger.{LedgerSound, first_part, part-behind, behind-long, behind-shown, tail-in-long, lent-tail, lawful-tail, words-ledger_of}
 use Rattle.model.proofs.Ledger.{ledger-sound, count-lent, diary-words, recounted}
@@ -38,8 +38,9 @@ use Rattle.model.proofs.Frame.{step-settings}
 use Rattle.model.proofs.Calls.{step-sound, perform-sound, empty-ledger, fresh-words}
 use Rattle.book.specs.Good.{Good, GoodBook, answered, in_words}
 use Rattle.book.proofs.Goods.{good-state, good-part, book-words}
-use Rattle.ring.specs.declared.Told.{Told}
-use Rattle.ring.specs.Telling.{answer_by, Telling}
+use Rattle.model.specs.declared.Told.{Told}
+use Rattle.model.specs.Told.{answer_by}
+use Rattle.ring.specs.Telling.{Telling}
 use Rattle.ring.proofs.Telling.{told-answer}
 
 -- a good diary is the words of the state that it shows
@@ -88,10 +89,6 @@ module _ {S : Settings} {b : List ℕ} (good : GoodBook S b) where
   settings-are : (ledger_of b).diary.settings ≡ S
   unfolding ledger_of read_state
   settings-are = ap (λ (x : State). x.settings) (good-state (good-part good))
-
-  -- the first n words are a good diary, where the diary has n
-  pub part-good : (n : ℕ) → n ≡ diary_length S → Good S (take n b)
-  part-good n e = subst (Good S) (first_part b good.read e) (good-part good)
 
   -- what is lent of the book between them and the last word is the tail's words
   module _ {n : ℕ} (e : n ≡ diary_length S) where

@@ -11,14 +11,15 @@ ghost use Rattle.book.specs.Lent.{reading};
 ghost use Rattle.step.specs.Carried.{Judges, Writes};
 
 use apply::removal;
+use book::diary::Diary;
 use book::grid::{Site, site_of};
-use judge::answers::fields;
+use kinds::fields::fields;
 use kinds::table::visitor_row;
 use model::{Answer, Date, Request, Settings};
 
 // A request of any kind but 3, by the two functions of its kind. Each arm of a choice by kind gives its own two, which are then called at one
 // place only, and so are compiled into it.
-pub fn carry_out<J: FnOnce(&[u32], Site, Request) -> Answer, W: FnOnce(&mut [u32], Site, Request)>(
+pub fn carry_out<J: FnOnce(Diary<'_>, Request) -> Answer, W: FnOnce(&mut [u32], Site, Request)>(
     book: &mut [u32],
     s: Settings,
     r: Request,
@@ -31,7 +32,7 @@ pub fn carry_out<J: FnOnce(&[u32], Site, Request) -> Answer, W: FnOnce(&mut [u32
     ensures { answered result (reading book.new) ≡ in_words (step (state_of (reading book.old)) r) }
 {
     let site = site_of(s);
-    let value = judge(book, site, r)?;
+    let value = judge(Diary { words: book, site }, r)?;
     write(book, site, r);
     Ok(value)
 }

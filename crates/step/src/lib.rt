@@ -21,46 +21,50 @@ use apply::meetings::{
     erase_conf_and_lunch, erase_lunch,
 };
 use apply::visitors::{add_hotel, add_leave, add_ride, end_leave, erase_hotel, erase_ride};
+use book::diary::Diary;
+use book::grid::site_of;
 use carry::{carry_out, nothing, remove_visitor};
 use header::settings::{diary_len, settings};
 use judge::{asking, judge, meetings, visitors};
-use model::{Answer, Refusal, Request, Settings};
+use model::{Answer, Request, Settings, Told, refused};
 use ring::changes::{MOST_CHANGES, count, raise};
-use ring::{Told, answer_of, answer_to, find, note, words_of};
+use ring::{answer_to, find, note};
 
 // Question 3, and the one choice by kind: each arm judges with the kind's own row and questions, by the function of `judge`, and makes the
-// kind's own writes, by the function of `apply`. The answer is put into words in each arm, so that words are what the arms have in common.
+// kind's own writes, by the function of `apply`. The answer is put into words in each arm, so that words are what the arms have in common. By
+// number, as in `judge::judge`.
 pub fn step(book: &mut [u32], s: Settings, r: Request) -> Told
     requires { Good s (reading book.old) }
     ensures { Telling result (reading book.new) (in_words (Machine.step (state_of (reading book.old)) r)) }
 {
     match r.kind {
-        1 => words_of(carry_out(book, s, r, visitors::add_leave, add_leave)),
-        2 => words_of(carry_out(book, s, r, visitors::end_leave, end_leave)),
-        3 => words_of(remove_visitor(book, s, r)),
-        4 => words_of(carry_out(book, s, r, visitors::add_hotel, add_hotel)),
-        5 => words_of(carry_out(book, s, r, visitors::erase_hotel, erase_hotel)),
-        6 => words_of(carry_out(book, s, r, visitors::add_ride, add_ride)),
-        7 => words_of(carry_out(book, s, r, visitors::erase_ride, erase_ride)),
-        8 => words_of(carry_out(book, s, r, meetings::add_standing, add_standing)),
-        9 => words_of(carry_out(book, s, r, meetings::end_standing, end_standing)),
-        10 => words_of(carry_out(book, s, r, meetings::add_attend, add_attend)),
-        11 => words_of(carry_out(book, s, r, meetings::erase_attend, erase_attend)),
-        12 => words_of(carry_out(book, s, r, meetings::add_conf, add_conf)),
-        13 => words_of(carry_out(book, s, r, meetings::erase_conf, erase_conf)),
-        14 => words_of(carry_out(book, s, r, meetings::add_lunch, add_lunch)),
-        15 => words_of(carry_out(book, s, r, meetings::erase_lunch, erase_lunch)),
-        16 => words_of(carry_out(
+        1 => carry_out(book, s, r, visitors::add_leave, add_leave).into(),
+        2 => carry_out(book, s, r, visitors::end_leave, end_leave).into(),
+        3 => remove_visitor(book, s, r).into(),
+        4 => carry_out(book, s, r, visitors::add_hotel, add_hotel).into(),
+        5 => carry_out(book, s, r, visitors::erase_hotel, erase_hotel).into(),
+        6 => carry_out(book, s, r, visitors::add_ride, add_ride).into(),
+        7 => carry_out(book, s, r, visitors::erase_ride, erase_ride).into(),
+        8 => carry_out(book, s, r, meetings::add_standing, add_standing).into(),
+        9 => carry_out(book, s, r, meetings::end_standing, end_standing).into(),
+        10 => carry_out(book, s, r, meetings::add_attend, add_attend).into(),
+        11 => carry_out(book, s, r, meetings::erase_attend, erase_attend).into(),
+        12 => carry_out(book, s, r, meetings::add_conf, add_conf).into(),
+        13 => carry_out(book, s, r, meetings::erase_conf, erase_conf).into(),
+        14 => carry_out(book, s, r, meetings::add_lunch, add_lunch).into(),
+        15 => carry_out(book, s, r, meetings::erase_lunch, erase_lunch).into(),
+        16 => carry_out(
             book,
             s,
             r,
             meetings::erase_conf_and_lunch,
             erase_conf_and_lunch,
-        )),
-        17 => words_of(carry_out(book, s, r, asking::which_meeting, nothing)),
-        18 => words_of(carry_out(book, s, r, asking::count_leave, nothing)),
-        19 => words_of(carry_out(book, s, r, asking::seats_left, nothing)),
-        20 => words_of(carry_out(book, s, r, asking::free_room, nothing)),
+        )
+        .into(),
+        17 => carry_out(book, s, r, asking::which_meeting, nothing).into(),
+        18 => carry_out(book, s, r, asking::count_leave, nothing).into(),
+        19 => carry_out(book, s, r, asking::seats_left, nothing).into(),
+        20 => carry_out(book, s, r, asking::free_room, nothing).into(),
         _ => Told {
             number: 3,
             place: 0,
@@ -90,12 +94,11 @@ pub fn foresee(book: &[u32], s: Settings, diary: usize, r: Request) -> Answer
     requires diary_value { diary ≡ diary_length s }
     ensures { result ≡ (counted_step (ledger_of book.now).diary (ledger_of book.now).changes r).answer }
 {
-    let value = judge(&book[..diary], s, r)?;
+    let site = site_of(s);
+    let words = &book[..diary];
+    let value = judge(Diary { words, site }, r)?;
     if is_full(count(book), r.kind) {
-        return Err(Refusal {
-            number: 30,
-            place: 0,
-        });
+        return refused(30, 0);
     }
     Ok(value)
 }
@@ -138,7 +141,7 @@ fn counted_step(book: &mut [u32], s: Settings, diary: usize, r: Request) -> Told
 {
     let changes = count(book);
     if changes == MOST_CHANGES {
-        return words_of(foretell(book, r.kind, r.a, r.b, r.first, r.last, r.n, r.info));
+        return foretell(book, r.kind, r.a, r.b, r.first, r.last, r.n, r.info).into();
     }
     let told = step(&mut book[..diary], s, r);
     if told.number != 0 {
@@ -152,7 +155,9 @@ fn counted_step(book: &mut [u32], s: Settings, diary: usize, r: Request) -> Told
 
 // A request on a whole book, with the number of its order, 0 for none, and the words of its answer. The first `diary` words are the diary;
 // the ring stands behind them, and the change count is the last word. An order that is kept is answered from the ring; else the request is
-// carried out, and an order is kept with its answer. There is one call of `step`, so that the compiler puts it into the loops above.
+// carried out, and an order is kept with its answer. There is one call of `step`, so that the compiler puts it into the loops above. The book,
+// its settings and the length of its diary are three parameters, here and in `engine::list`: a struct of them would be laid out in memory for
+// each request.
 pub fn told_step(book: &mut [u32], s: Settings, diary: usize, order: u32, r: Request) -> Told
     requires good_book { GoodBook s book.old }
     requires diary_value { diary ≡ diary_length s }
@@ -160,7 +165,7 @@ pub fn told_step(book: &mut [u32], s: Settings, diary: usize, order: u32, r: Req
 {
     let last = book.len() - 1;
     if let Some(place) = find(&book[diary..last], order) {
-        return words_of(answer_to(&book[diary..last], place, r));
+        return answer_to(&book[diary..last], place, r).into();
     }
     let told = counted_step(book, s, diary, r);
     note(&mut book[diary..last], order, r, told);
@@ -173,6 +178,5 @@ pub fn book_step(book: &mut [u32], s: Settings, diary: usize, order: u32, r: Req
     requires diary_value { diary ≡ diary_length s }
     ensures { answered result book.new ≡ called (Machine.perform (ledger_of book.old) (ordered order r)) }
 {
-    let told = told_step(book, s, diary, order, r);
-    answer_of(told.number, told.place, told.value)
+    told_step(book, s, diary, order, r).into()
 }

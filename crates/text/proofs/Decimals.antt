@@ -1,6 +1,6 @@
 -- Numbers in fields of base ten: what is written reads back.
 -- Assumes nothing.
-use Prim.Native.Nat.{ℕ, zero, suc, ◌+◌, ◌-◌, ◌*◌, ◌/◌, ◌%◌, ◌^◌, ◌≤◌, ◌<◌}
+use Prim.Native.Nat.{ℕ, zero, suc, ◌+◌, ◌-◌, ◌*◌, ◌/◌, ◌%◌, ◌^◌, ◌<◌}
 use native.Mathlib.Nat.{mod-one, mod-eq_of_lt, one-le-pow, pow-le-pow_right, div-lt_iff_lt-mul, le-div_iff_mul-le}
 use native.Mathlib.Decide.{dec_lt}
 use native.Mathlib.Numerals.{add-one}
@@ -110,16 +110,11 @@ decimal-shown (suc p) n = by (dec_lt 0 (n / 10 ^ suc p)) (decimal-shown p n)
 pub put-nothing : (out : List ℕ) (at n : ℕ) → Put out out at (decimal_field 0 n)
 put-nothing out at n = rw (field-none n) (put-none out at)
 
-pub put-place : {out₀ out : List ℕ} (at width n p : ℕ) {left b : ℕ} → p < width → at + width ≤ length out₀ → left ≡ n / 10 ^ p → b ≡ place_byte left p
-    → Put out₀ out (at + (width - p)) (decimal_field p n)
-    → Put out₀ (set out (at + (width - 1 - p)) b) (at + (width - (p + 1))) (decimal_field (p + 1) n)
-put-place {out₀} {out} at width n p {left} {b} h room e f v =
-    let i = at + (width - 1 - p) in
-    let before : at + (width - p) ≡ i + 1 = omega arith in
-    let behind : at + (width - (p + 1)) ≡ i = omega arith in
+pub put-place : {out₀ out : List ℕ} (n p i : ℕ) {left b : ℕ} → i < length out₀ → left ≡ n / 10 ^ p → b ≡ place_byte left p
+    → Put out₀ out (i + 1) (decimal_field p n) → Put out₀ (set out i b) i (decimal_field (p + 1) n)
+put-place n p i {left} {b} h e f v =
     let byte : b ≡ decimal_place n p = f ∙ ap (λ (x : ℕ). place_byte x p) e in
-    let w : Put out₀ (set out i b) i (b ∷ decimal_field p n) = put-before b (omega arith) (rw before at v) in
-    rw (behind, add-one, field-more p n, ← byte) w
+    rw (add-one, field-more p n, ← byte) (put-before b h v)
 
 -- every number that the field is wide enough for
 pub decimal-trip : (width n : ℕ) → 0 < width → n < 10 ^ width → decimal_shown (decimal_field width n) ≡ Some n

@@ -3,7 +3,7 @@
 use Prim.Native.Nat.{ℕ, zero, suc, ◌+◌, ◌-◌, ◌*◌, ◌/◌, ◌%◌, ◌≤◌, ◌<◌}
 use native.Mathlib.Omega.{arith}
 use mathlib.Core.Path.{◌≡◌, refl, sym, ◌∙◌, ap}
-use mathlib.Core.Bool.{Bool, true, false, ◌&&◌, cond}
+use mathlib.Core.Bool.{Bool, true, false, ◌&&◌, cond, and_assoc}
 use Rattle.std.specs.Prelude.{None, Some}
 use mathlib.Core.List.{List, [], ◌∷◌, ◌++◌}
 use lib.Dec.{leb}
@@ -33,11 +33,7 @@ value-is b h = value-by b _ _ refl refl h
 -- every byte of two lists, and of a part of one
 pub digits_append : (l m : List ℕ) → digits_only (l ++ m) ≡ digits_only l && digits_only m
 digits_append [] m = refl
-digits_append (a ∷ l) m = ap (λ (t : Bool). is_digit a && t) (digits_append l m) ∙ and-regroup (is_digit a) (digits_only l) (digits_only m)
-  where
-    and-regroup : (r s t : Bool) → r && (s && t) ≡ r && s && t
-    and-regroup true s t = refl
-    and-regroup false s t = refl
+digits_append (a ∷ l) m = ap (λ (t : Bool). is_digit a && t) (digits_append l m) ∙ sym (and_assoc (is_digit a) (digits_only l) (digits_only m))
 
 pub digits_more : (l : List ℕ) (m n : ℕ) → digits_only (take (m + n) l) ≡ digits_only (take m l) && digits_only (take n (drop m l))
 digits_more l m n = ap digits_only (take-add m n l) ∙ digits_append (take m l) (take n (drop m l))

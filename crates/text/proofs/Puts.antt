@@ -6,8 +6,8 @@ use native.Mathlib.Numerals.{add-one}
 use native.Mathlib.Omega.{arith}
 use mathlib.Core.Path.{◌≡◌, refl, sym, ◌∙◌, ap}
 use mathlib.Core.List.{List, [], ◌∷◌, ◌++◌, append_assoc, append-nil}
-use lib.ListN.{length, take, drop, get_or, set, length-append, length-set}
-use lib.Seq.{take-suc, take-suc-set, take-set-lt, length-take-le, drop-drop, drop-set-lt, set-append_left}
+use lib.ListN.{length, take, drop, set, length-append, length-set}
+use lib.Seq.{take-suc-set, take-set-lt, length-take-le, drop-drop, drop-set-lt, set-append_left}
 use Rattle.text.specs.Put.{Put}
 
 -- what is the same behind some bytes is the same behind more of them
@@ -37,10 +37,6 @@ join {a} {b} {c} {at} {xs} {ys} p q =
 pub put-none : (out : List ℕ) (at : ℕ) → Put out out at []
 put-none out at = record { kept = refl; wrote = ap (λ (n : ℕ). take n out) (add-zero at) ∙ sym (append-nil (take at out)); past = refl }
 
-pub put_one : (out : List ℕ) (at b : ℕ) → at < length out → Put out (set out at b) at (b ∷ [])
-put_one out at b h =
-    record { kept = length-set out at b; wrote = rw (add-one, take-suc-set out at b h); past = drop-set-lt (at + 1) out at b (omega arith) }
-
 -- one more byte before those that were written
 pub put-before : {out₀ out : List ℕ} {at : ℕ} {bytes : List ℕ} (b : ℕ) → at < length out₀ → Put out₀ out (at + 1) bytes
     → Put out₀ (set out at b) at (b ∷ bytes)
@@ -60,16 +56,6 @@ put-before {out₀} {out} {at} {bytes} b h p =
           ∙ append_assoc (take at out₀) (b ∷ []) bytes;
       past = drop-set-lt (at + suc k) out at b (omega arith) ∙ rw e p.past;
     }
-
--- one more of the bytes
-pub put-more : {out₀ out : List ℕ} {at : ℕ} (bytes : List ℕ) (i : ℕ) → i < length bytes → at + i < length out₀
-    → Put out₀ out at (take i bytes) → Put out₀ (set out (at + i) (get_or bytes i 0)) at (take (i + 1) bytes)
-put-more {out₀} {out} {at} bytes i h room p =
-    let e = length-take-le i bytes (omega arith) in
-    let q : Put out (set out (at + i) (get_or bytes i 0)) (at + length (take i bytes)) (get_or bytes i 0 ∷ []) =
-    rw e (put_one out (at + i) (get_or bytes i 0) (omega (arith, p.kept))) in
-    let r : take (i + 1) bytes ≡ take i bytes ++ (get_or bytes i 0 ∷ []) = ap (λ (k : ℕ). take k bytes) (add-one i) ∙ take-suc bytes i 0 h in
-    rw r (join p q)
 
 -- the bytes by another name
 pub put_as : {a b : List ℕ} {at : ℕ} {xs ys : List ℕ} → xs ≡ ys → Put a b at xs → Put a b at ys

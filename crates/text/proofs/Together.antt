@@ -174,8 +174,8 @@ spread-is w h =
     ∙ ap nibbles_apart (bytes-apart (nibble w) l)
     ∙ nibbles-apart (nibble w) l
 
-pub packed-is : (v : ℕ) → v < 2 ^ 64 → ((k : ℕ) → k < 8 → byte_at v k < 16)
-    → word_together (halves_together (bytes_together v)) ≡ numeral 16 (byte_at v) 8
+pub packed-is : (v : ℕ) → v < 2 ^ 64 → Values v → word_together (halves_together (bytes_together v)) ≡ numeral 16 (byte_at v) 8
+unfolding Values
 packed-is v h l =
     ap (λ (x : ℕ). word_together (halves_together (bytes_together x))) (sym (bytes_of v h))
     ∙ ap (λ (x : ℕ). word_together (halves_together x)) (bytes-together (byte_at v) l)
@@ -203,8 +203,9 @@ digit-by : (d : ℕ) (t : Bool) → leb d 9 ≡ t → d < 16 → digit_of d ≡ 
 digit-by d true h i = let g = leb-true d 9 h in omega arith
 digit-by d false h i = let g = leb-false d 9 h in omega arith
 
-pub digits_are : (v : ℕ) → v < 2 ^ 64 → ((k : ℕ) → k < 8 → byte_at v k < 16)
+pub digits_are : (v : ℕ) → v < 2 ^ 64 → Values v
     → v + 0x3030_3030_3030_3030 + bit_and (v + 0x0606_0606_0606_0606) 0x1010_1010_1010_1010 / 16 * 39 ≡ numeral 256 (λ k. digit (byte_at v k)) 8
+unfolding Values
 digits_are v h l =
     ap (λ (x : ℕ). x + 0x3030_3030_3030_3030 + bit_and (x + 0x0606_0606_0606_0606) 0x1010_1010_1010_1010 / 16 * 39) (sym (bytes_of v h))
     ∙ ap₂ (λ (a b : ℕ). a + bit_and b 0x1010_1010_1010_1010 / 16 * 39) (sum-places 256 f (λ k. 48) 8) (sum-places 256 f (λ k. 6) 8)
@@ -230,8 +231,9 @@ values-are x h =
     ∙ low_bits 8 8 (λ k. byte_at x k % 16 + byte_at x k / 64 % 2 * 9) (λ k i. omega arith) 4 (omega arith)
 
 -- eight values are at most fifteens
-pub values-le : (v : ℕ) → v < 2 ^ 64 → ((k : ℕ) → k < 8 → byte_at v k < 16) → v < 0x1010_1010_1010_1010
-values-le v h l =
+pub values_small : {v : ℕ} → v < 2 ^ 64 → Values v → v < 0x1010_1010_1010_1010
+unfolding Values
+values_small {v} h l =
     rw (← bytes_of v h) (omega (arith, l 0 (omega arith), l 1 (omega arith)))
 
 -- bytes that the code takes for values are values

@@ -16,15 +16,14 @@ fn place_byte(left: u32, p: usize) -> u8
 }
 
 // A number behind what was written, right-aligned in a field of `width` bytes. It is written from its last place on, so that nothing is
-// kept but what is left of the number.
+// kept but what is left of the number. By index, since no proof is to be had of what a reversed `iter_mut` wrote.
 pub fn put_decimal(out: &mut [u8], at: usize, width: usize, n: u32)
     requires { at + width ≤ length out.old }
     ensures { Put out.old out.new at (decimal_field width n) }
 {
     let mut left = n;
-    for p in 0..width {
-        let column = width - 1 - p;
-        out[at + column] = place_byte(left, p);
+    for (p, i) in (at..at + width).rev().enumerate() {
+        out[i] = place_byte(left, p);
         left /= 10;
     }
 }

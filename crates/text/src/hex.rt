@@ -1,5 +1,5 @@
 // Lower-case hexadecimal by the word: the eight digits of a word are made and read together, as one number of 64 bits in which each digit
-// has its byte, the first one the highest.
+// has its byte, the first one the highest. The kit's crate `hex` goes byte by byte, and takes capital letters for digits.
 ghost use Rattle.std.specs.Prelude.{◌≡◌, ◌+◌, ◌≤◌, length, take, drop};
 ghost use Rattle.model.specs.Text.{digit, word_digits};
 ghost use Rattle.text.specs.Digits.{numeral, byte_at, eight_bytes, nibble, value_in, Values, word_in};
@@ -28,6 +28,7 @@ fn packed(v: u64) -> u32
 }
 
 // The digit of each of eight values: '0' and the value, and 39 more from 10 on, where the letters begin.
+#[tactic(auto, using(crate::proofs::Together::values_small))]
 fn digits(v: u64) -> u64
     requires { Values v }
     ensures { result ≡ numeral 256 (λ k. digit (byte_at v k)) 8 }
@@ -66,8 +67,7 @@ pub fn word_at(s: &[u8], at: usize) -> Option<u32>
     requires { at + 8 ≤ length s.now }
     ensures { result ≡ word_in (take 8 (drop at s.now)) }
 {
-    let mut bytes = [0; 8];
-    bytes.copy_from_slice(&s[at..at + 8]);
+    let bytes = s[at..at + 8].try_into().unwrap();
     word_of(u64::from_be_bytes(bytes))
 }
 

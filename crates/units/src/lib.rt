@@ -1,4 +1,7 @@
 // The three units: sessions and times have a date. Nothing else turns one unit into another.
+//
+// That settings are in range is a clause here and wherever slots are counted (`Ranges`), and no type: settings are read from any words, and a
+// struct round those in range would stand before each limit that is read from them.
 #![tactic(auto)]
 
 ghost use Rattle.std.specs.Prelude.{◌≡◌, ℕ, true, ◌+◌, ◌*◌, ◌-◌, ◌≤◌, ◌<◌, leb};
@@ -101,8 +104,8 @@ pub fn after(d: Date) -> Date
 }
 
 // Where date d begins: in n slots, `each` to a date, but that every date but the first begins `late` slots later (`day_of`). The question is
-// one for all units, and knows numbers alone. It is compiled into its callers, all but the search, which no date of today comes to: a call
-// that is handed a struct has it laid out in memory.
+// one for all units, and knows numbers alone. It is compiled into its callers, all but the search, which is for dates that differ by more than
+// late slots, and there are none: a call that is handed a struct has it laid out in memory.
 #[derive(Clone, Copy)]
 struct Beginning {
     n: u32,

@@ -2,10 +2,9 @@
 -- Assumes nothing.
 use mathlib.Core.Path.{◌∙◌, ap}
 use Rattle.model.specs.Machine.{reply_words}
-use Rattle.model.specs.Calls.{call_ask}
 use Rattle.capi.proofs.caviar_ask.Goals as goal
 
 pub returns : goal.returns
 returns c =
-    let e = c.ask.ensures ∙ ap (call_ask _) c.request_by.ensures in
-    record { answer = c.told_beside.ensures ∙ ap (λ x. reply_words x.reply) e; book = ap (λ x. x.book) e }
+    let e = c.ask.ensures in
+    record { answer = c.into.ensures ∙ ap (λ x. reply_words x.reply) e; book = ap (λ x. x.book) e }

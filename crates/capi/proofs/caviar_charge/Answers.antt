@@ -5,4 +5,4 @@ use Rattle.model.specs.Charge.{charged_words}
 use Rattle.capi.proofs.caviar_charge.Goals as goal
 
 pub returns : goal.returns
-returns c = c.told_cents.ensures ∙ ap charged_words c.charge.ensures
+returns c = c.into.ensures ∙ ap charged_words c.charge.ensures

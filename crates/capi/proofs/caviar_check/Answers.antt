@@ -2,7 +2,8 @@
 -- Assumes nothing.
 use mathlib.Core.Path.{◌∙◌, ap}
 use Rattle.model.specs.Messages.{answer_words}
+use Rattle.ring.proofs.Telling.{told-list}
 use Rattle.capi.proofs.caviar_check.Goals as goal
 
 pub returns : goal.returns
-returns c = c.told.ensures ∙ ap answer_words c.check.ensures
+returns c = told-list _ c.into.ensures ∙ ap answer_words c.check.ensures

@@ -2,10 +2,10 @@
 -- Assumes nothing.
 use mathlib.Core.Path.{◌∙◌, ap}
 use Rattle.model.specs.Machine.{reply_words}
-use Rattle.model.specs.Calls.{call}
+use Rattle.ring.proofs.Telling.{told-list}
 use Rattle.capi.proofs.caviar_request.Goals as goal
 
 pub returns : goal.returns
 returns c =
-    let e = c.request.ensures.call ∙ ap (call _) c.request_by.ensures in
-    record { answer = c.told.ensures ∙ ap (λ x. reply_words x.reply) e; book = ap (λ x. x.book) e }
+    let e = c.request.ensures.call in
+    record { answer = told-list _ c.into.ensures ∙ ap (λ x. reply_words x.reply) e; book = ap (λ x. x.book) e }

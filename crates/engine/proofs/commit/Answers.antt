@@ -1,7 +1,7 @@
 -- `commit`: checked, question 29, and then one step.
 -- Assumes nothing.
 use mathlib.Core.Path.{sym, ◌∙◌}
-use Rattle.std.proofs.lemmas.Result.{err_from_is_err_and}
+use Rattle.model.proofs.Answers.{err-is}
 use Rattle.model.specs.Machine.{commit}
 use Rattle.model.proofs.Ledger.{last_word}
 use Rattle.step.proofs.Kept.{count-is}
@@ -12,10 +12,10 @@ use Rattle.engine.proofs.commit.Goals as goal
 pub returns-in_err-check : goal.returns-in_err-check
 returns-in_err-check c =
     let a = c.args in
-    let p = err_from_is_err_and c.from_residual.result c.from_residual.ensures.1 in
+    let e = err-is _ c.from_residual.ensures.1 in
     let both = with-commit a.book.now a.count a.r _ _
     (call-refused a.book.now (commit a.count a.r) (sym c.check.ensures ∙ c.in_err-check.was)) in
-    record { call = rw (p.1, p.2) both.0; removal = rw (p.1, p.2) both.1 }
+    record { call = rw e both.0; removal = rw e both.1 }
 
 pub count-requires : goal.count-requires
 count-requires c =
@@ -28,7 +28,7 @@ returns-then-count c =
     let g = done-good a.book.now _ (sym c.check.ensures ∙ c.in_ok-check.was) in
     let both = with-commit a.book.now a.count a.r _ _
     (other-count g a.count a.r (c.count.ensures ∙ count-is g) c.if-count.true) in
-    record { call = both.0; removal = both.1 }
+    record { call = rw c.refused.ensures both.0; removal = rw c.refused.ensures both.1 }
 
 pub answer_one-requires : goal.answer_one-requires
 answer_one-requires c =

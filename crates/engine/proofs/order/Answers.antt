@@ -1,7 +1,7 @@
 -- `order`: checked, then one step.
 -- Assumes nothing.
 use mathlib.Core.Path.{sym, ◌∙◌}
-use Rattle.std.proofs.lemmas.Result.{err_from_is_err_and}
+use Rattle.model.proofs.Answers.{err-is}
 use Rattle.model.specs.Machine.{ordered}
 use Rattle.step.proofs.Kept.{good-call}
 use Rattle.checking.proofs.Verdicts.{call-refused, done-good}
@@ -11,10 +11,10 @@ use Rattle.engine.proofs.order.Goals as goal
 pub returns-in_err-check : goal.returns-in_err-check
 returns-in_err-check c =
     let a = c.args in
-    let p = err_from_is_err_and c.from_residual.result c.from_residual.ensures.1 in
+    let e = err-is _ c.from_residual.ensures.1 in
     let both = with-removal a.book.now a.order a.r _ _
     (call-refused a.book.now (ordered a.order a.r) (sym c.check.ensures ∙ c.in_err-check.was)) in
-    record { call = rw (p.1, p.2) both.0; removal = rw (p.1, p.2) both.1 }
+    record { call = rw e both.0; removal = rw e both.1 }
 
 pub answer_one-requires : goal.answer_one-requires
 answer_one-requires c =

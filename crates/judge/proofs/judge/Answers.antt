@@ -2,14 +2,10 @@
 -- Assumes nothing.
 use mathlib.Core.Path.{◌∙◌}
 use Rattle.book.specs.Lent.{reading}
-use Rattle.book.proofs.Goods.{good-laid}
 use Rattle.kinds.proofs.Numbers.{no_kind}
 use Rattle.judge.proofs.Whole.{step-none}
 use Rattle.judge.proofs.judge.Goals as goal
 
-pub site_of-site-requires : goal.site_of-site-requires
-site_of-site-requires c = (good-laid c.requires).ranges
-
 pub returns-in_default : goal.returns-in_default
 returns-in_default c =
-    c.refused.ensures ∙ step-none (reading c.args.book.now) c.args.r (no_kind c.args.r.kind c.before.before.in_default.in_default-own.rest)
+    c.refused.ensures ∙ step-none (reading c.args.diary.words.now) c.args.r (no_kind c.args.r.kind c.before.in_default.in_default-own.rest)

@@ -1,7 +1,7 @@
 -- Nothing without an order; with one, the entry of its answer.
 -- Assumes nothing.
 use mathlib.Core.Path.{◌∙◌}
-use Rattle.ring.specs.Telling.{answer_by}
+use Rattle.model.specs.Told.{answer_by}
 use Rattle.ring.proofs.Entries.{none-noted, next-below, told-kept}
 use Rattle.ring.proofs.note.Goals as goal
 

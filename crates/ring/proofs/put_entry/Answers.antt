@@ -1,44 +1,26 @@
--- Eleven writes in a row.
+-- Eleven words in one write.
 -- Assumes nothing.
-use mathlib.Core.Path.{refl}
+use Prim.Native.Nat.{ℕ, ◌+◌, ◌-◌}
+use mathlib.Core.Path.{◌≡◌, sym, ◌∙◌, ap}
+use mathlib.Core.List.{List, [], ◌∷◌, ◌++◌, append_assoc}
 use native.Mathlib.Omega.{arith}
-use lib.ListN.{length-set}
-use Rattle.ring.specs.Stores.{entry_put}
+use lib.ListN.{take, drop}
+use lib.Seq.{drop-drop}
+use borrow.Rule.Slice.PartMut.{put_mid}
+use Rattle.std.proofs.lemmas.List.Edits.{sets-eq}
+use Rattle.ring.proofs.Entries.{put-sets}
 use Rattle.ring.proofs.put_entry.Goals as goal
 
-pub bounds-tail-at-2 : goal.bounds-tail-at-2
-bounds-tail-at-2 c = simp length-set (omega arith)
-
-pub bounds-tail-at-3 : goal.bounds-tail-at-3
-bounds-tail-at-3 c = simp length-set (omega arith)
-
-pub bounds-tail-at-4 : goal.bounds-tail-at-4
-bounds-tail-at-4 c = simp length-set (omega arith)
-
-pub bounds-tail-at-5 : goal.bounds-tail-at-5
-bounds-tail-at-5 c = simp length-set (omega arith)
-
-pub bounds-tail-at-6 : goal.bounds-tail-at-6
-bounds-tail-at-6 c = simp length-set (omega arith)
-
-pub bounds-tail-at-7 : goal.bounds-tail-at-7
-bounds-tail-at-7 c = simp length-set (omega arith)
-
-pub bounds-tail-at-8 : goal.bounds-tail-at-8
-bounds-tail-at-8 c = simp length-set (omega arith)
-
-pub bounds-tail-at-9 : goal.bounds-tail-at-9
-bounds-tail-at-9 c = simp length-set (omega arith)
-
-pub bounds-tail-at-10 : goal.bounds-tail-at-10
-bounds-tail-at-10 c = simp length-set (omega arith)
-
-pub bounds-tail-at-11 : goal.bounds-tail-at-11
-bounds-tail-at-11 c = simp length-set (omega arith)
-
-pub shape_of-tail : goal.shape_of-tail
-shape_of-tail c = simp length-set refl
-
 pub returns : goal.returns
-unfolding entry_put
-returns c = refl
+returns c =
+    let r = c.args.r in
+    let t = c.args.t in
+    let tail = c.args.tail.now in
+    let at = c.args.at in
+    let words : List ℕ = c.args.order ∷ r.kind ∷ r.a ∷ r.b ∷ r.first ∷ r.last ∷ r.n ∷ r.info ∷ t.number ∷ t.place ∷ t.value ∷ [] in
+    let n : at + 11 - at ≡ 11 = omega arith in
+    ap (put_mid at (at + 11 - at) tail) c.copy_from_slice.ensures.after
+    ∙ rw n
+    (ap (λ (l : List ℕ). take at tail ++ (words ++ l)) (drop-drop 11 at tail)
+    ∙ sym (append_assoc (take at tail) words (drop (at + 11) tail))
+    ∙ sym (put-sets tail at c.args.order r t.number t.place t.value ∙ sets-eq words tail at c.requires))

@@ -8,4 +8,4 @@ use Rattle.step.proofs.book_step.Goals as goal
 
 pub returns : goal.returns
 returns c =
-    ap (λ (a : Answer). answered a c.told_step-told.new.book) c.answer_of.ensures ∙ answer-told c.requires.good_book c.args.order c.args.r c.told_step-told.ensures
+    ap (λ (a : Answer). answered a c.told_step.new.book) c.into.ensures ∙ answer-told c.requires.good_book c.args.order c.args.r c.told_step.ensures

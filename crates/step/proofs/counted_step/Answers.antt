@@ -8,7 +8,8 @@ use Rattle.model.proofs.Ledger.{diary-fits, last_word}
 use Rattle.book.specs.Lent.{reading}
 use Rattle.book.specs.Good.{GoodBook, answered}
 use Rattle.ring.proofs.Telling.{told-no, told-yes}
-use Rattle.step.proofs.Kept.{part-good, count-is, foreseen-full, part-tellable, part_same, part-refused, part-raised, whole_long}
+use Rattle.book.proofs.Goods.{part-good}
+use Rattle.step.proofs.Kept.{count-is, foreseen-full, part-tellable, part_same, part-refused, part-raised, whole_long}
 use borrow.Author.Tests.{ne_eqb}
 use Rattle.step.proofs.counted_step.Goals as goal
 
@@ -23,7 +24,7 @@ pub returns-then-changes : goal.returns-then-changes
 returns-then-changes c =
     record {
       answer = c.foretell.result;
-      told = c.words_of.ensures;
+      told = c.into.ensures;
       is = foreseen-full c.requires.good_book c.args.r (sym (c.count-changes.ensures ∙ count-is c.requires.good_book) ∙ c.if-changes.true)
           c.foretell.ensures;
     }

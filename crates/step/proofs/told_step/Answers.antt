@@ -47,7 +47,7 @@ pub returns-in-Some : goal.returns-in-Some
 returns-in-Some c =
     record {
       answer = c.answer_to.result;
-      told = c.words_of.ensures;
+      told = c.into.ensures;
       is = kept-answered c.requires.good_book c.args.order c.args.r
           (found-kept c.requires.good_book c.requires.diary_value c.args.order c.find.ensures c.in-Some.is)
           (c.answer_to.ensures ∙ ap (λ (t : Tail). kept_answer (entry_at t c.in-Some.place) c.args.r) (tail-is c.requires.good_book c.requires.diary_value));

@@ -5,7 +5,8 @@ use Rattle.std.proofs.Common.{◌∙◌, ap}
 use Rattle.book.specs.Lent.{reading}
 use Rattle.book.proofs.Turns.{over-end, wrote_none}
 use Rattle.apply.specs.Stores.{marked_all, marked_three}
-use Rattle.apply.proofs.Marks.{three-are-all}
+use native.Mathlib.Omega.{arith}
+use Rattle.apply.proofs.Marks.{three-are-all, middle-min}
 use Rattle.apply.proofs.bits.mark_all.Goals as goal
 
 pub returns-then-to-from : goal.returns-then-to-from
@@ -19,8 +20,14 @@ returns-then-last-from-le2 g c =
     let w = c.mark_three.ensures in
     record {
       is = w.is
-          ∙ ap (λ (n : ℕ). marked_three a.g on a.v a.from n (a.to - 1) (reading a.book.now)) c.between-middle.ensures
+          ∙ ap (λ (n : ℕ). marked_three a.g on a.v a.from n (a.to - 1) (reading a.book.now)) (c.middle_of-middle.ensures ∙ middle-min a.from (a.to - 1) (omega arith))
           ∙ three-are-all a.g on a.v c.requires.v_bound a.from a.to (reading a.book.now) c.requires.lies c.requires.to_le_slots
           c.if-to-from.false c.if-last-from-le2.true;
       stays = w.stays;
     }
+
+pub mark_three-requires-clause-first_lt_slots : goal.mark_three-requires-clause-first_lt_slots
+mark_three-requires-clause-first_lt_slots g c =
+    let a = c.args in
+    let m = c.middle_of-middle.ensures ∙ middle-min a.from (a.to - 1) (omega arith) in
+    (omega arith, omega (arith, m), omega arith)

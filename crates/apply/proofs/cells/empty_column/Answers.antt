@@ -10,13 +10,13 @@ use Rattle.apply.proofs.cells.empty_column.Goals as goal
 pub overflow_add-n : goal.overflow_add-n
 overflow_add-n c =
     let a = c.args in
-    let k = column-next a.g c.requires.width_value a.item c.requires.item_lt_g c.loop-i.i a.to _ c.loop-i-test.true c.from-n.ensures c.cell.ensures in
+    let k = column-next a.g c.requires.width_value a.item c.requires.item_lt_g c.loop-i.i a.to _ c.loop-i-test.true c.from-n.ensures c.cell-held.ensures in
     omega (arith, k, column-few a.g (reading a.book.now) a.item a.from a.to)
 
 pub loop-i-preserved : goal.loop-i-preserved
 loop-i-preserved c =
     let a = c.args in
-    let k = column-next a.g c.requires.width_value a.item c.requires.item_lt_g c.loop-i.i a.to _ c.loop-i-test.true c.from-n.ensures c.cell.ensures in
+    let k = column-next a.g c.requires.width_value a.item c.requires.item_lt_g c.loop-i.i a.to _ c.loop-i-test.true c.from-n.ensures c.cell-held.ensures in
     (turning-next c.loop-i.invariant.0 c.loop-i-test.true c.put.ensures, rw c.put.ensures.is (omega (arith, k)))
 
 pub returns : goal.returns

@@ -13,44 +13,44 @@ use Rattle.checking.proofs.Facts.{day-kept, kept-day}
 use Rattle.checking.proofs.Runs.{run-order}
 use Rattle.checking.proofs.dates.date_at.Goals as goal
 
-pub block-leave-requires : goal.block-leave-requires
-block-leave-requires c =
+pub rows-leave-requires : goal.rows-leave-requires
+rows-leave-requires c =
     let p = c.requires.at in
     let both = block-fits c.args.site.settings p.starts _ leaves _ _ p.laid (omega arith) (omega (arith, p.date)) in
     record { lies = both.0; from_le_to = both.1 }
 
-pub block-hotel-requires : goal.block-hotel-requires
-block-hotel-requires c =
+pub rows-hotel-requires : goal.rows-hotel-requires
+rows-hotel-requires c =
     let p = c.requires.at in
     let both = block-fits c.args.site.settings p.starts _ hotel_cells _ _ p.laid (omega arith) (omega (arith, p.date)) in
     record { lies = both.0; from_le_to = both.1 }
 
-pub block-stand-requires : goal.block-stand-requires
-block-stand-requires c =
+pub rows-stand-requires : goal.rows-stand-requires
+rows-stand-requires c =
     let p = c.requires.at in
     let both = block-fits c.args.site.settings p.starts _ standings _ _ p.laid (run-order p.sessions) p.sessions.ends.most in
     record { lies = both.0; from_le_to = both.1 }
 
-pub block-attend-requires : goal.block-attend-requires
-block-attend-requires c =
+pub rows-attend-requires : goal.rows-attend-requires
+rows-attend-requires c =
     let p = c.requires.at in
     let both = block-fits c.args.site.settings p.starts _ attend_cells _ _ p.laid (run-order p.sessions) p.sessions.ends.most in
     record { lies = both.0; from_le_to = both.1 }
 
-pub block-conf-requires : goal.block-conf-requires
-block-conf-requires c =
+pub rows-conf-requires : goal.rows-conf-requires
+rows-conf-requires c =
     let p = c.requires.at in
     let both = block-fits c.args.site.settings p.starts _ conf_pairs _ _ p.laid (run-order p.sessions) p.sessions.ends.most in
     record { lies = both.0; from_le_to = both.1 }
 
-pub block-lunch-requires : goal.block-lunch-requires
-block-lunch-requires c =
+pub rows-lunch-requires : goal.rows-lunch-requires
+rows-lunch-requires c =
     let p = c.requires.at in
     let both = block-fits c.args.site.settings p.starts _ lunch_triples _ _ p.laid (omega arith) (omega (arith, p.date)) in
     record { lies = both.0; from_le_to = both.1 }
 
-pub block-ride-requires : goal.block-ride-requires
-block-ride-requires c =
+pub rows-ride-requires : goal.rows-ride-requires
+rows-ride-requires c =
     let p = c.requires.at in
     let both = block-fits c.args.site.settings p.starts _ ride_cells _ _ p.laid (run-order p.times) p.times.ends.most in
     record { lies = both.0; from_le_to = both.1 }
@@ -78,13 +78,13 @@ invariant_of-parts c =
     let d = c.args.d.0 in
     let s = c.args.sessions in
     let t = c.args.times in
-    let leave = block_run c.args.site.settings p.starts b leaves d (d + 1) c.block-leave.ensures in
-    let hotel = block_run c.args.site.settings p.starts b hotel_cells d (d + 1) c.block-hotel.ensures in
-    let stand = block_run c.args.site.settings p.starts b standings s.from.0 s.to.0 c.block-stand.ensures in
-    let attend = block_run c.args.site.settings p.starts b attend_cells s.from.0 s.to.0 c.block-attend.ensures in
-    let conf = block_run c.args.site.settings p.starts b conf_pairs s.from.0 s.to.0 c.block-conf.ensures in
-    let lunch = block_run c.args.site.settings p.starts b lunch_triples d (d + 1) c.block-lunch.ensures in
-    let ride = block_run c.args.site.settings p.starts b ride_cells t.from.0 t.to.0 c.block-ride.ensures in
+    let leave = block_run c.args.site.settings p.starts b leaves d (d + 1) c.rows-leave.ensures in
+    let hotel = block_run c.args.site.settings p.starts b hotel_cells d (d + 1) c.rows-hotel.ensures in
+    let stand = block_run c.args.site.settings p.starts b standings s.from.0 s.to.0 c.rows-stand.ensures in
+    let attend = block_run c.args.site.settings p.starts b attend_cells s.from.0 s.to.0 c.rows-attend.ensures in
+    let conf = block_run c.args.site.settings p.starts b conf_pairs s.from.0 s.to.0 c.rows-conf.ensures in
+    let lunch = block_run c.args.site.settings p.starts b lunch_triples d (d + 1) c.rows-lunch.ensures in
+    let ride = block_run c.args.site.settings p.starts b ride_cells t.from.0 t.to.0 c.rows-ride.ensures in
     record {
       ranges = p.laid.ranges;
       long = record {
@@ -106,13 +106,13 @@ returns c =
     let d = c.args.d.0 in
     let s = c.args.sessions in
     let t = c.args.times in
-    let leave = block_run c.args.site.settings p.starts b leaves d (d + 1) c.block-leave.ensures in
-    let hotel = block_run c.args.site.settings p.starts b hotel_cells d (d + 1) c.block-hotel.ensures in
-    let stand = block_run c.args.site.settings p.starts b standings s.from.0 s.to.0 c.block-stand.ensures in
-    let attend = block_run c.args.site.settings p.starts b attend_cells s.from.0 s.to.0 c.block-attend.ensures in
-    let conf = block_run c.args.site.settings p.starts b conf_pairs s.from.0 s.to.0 c.block-conf.ensures in
-    let lunch = block_run c.args.site.settings p.starts b lunch_triples d (d + 1) c.block-lunch.ensures in
-    let ride = block_run c.args.site.settings p.starts b ride_cells t.from.0 t.to.0 c.block-ride.ensures in
+    let leave = block_run c.args.site.settings p.starts b leaves d (d + 1) c.rows-leave.ensures in
+    let hotel = block_run c.args.site.settings p.starts b hotel_cells d (d + 1) c.rows-hotel.ensures in
+    let stand = block_run c.args.site.settings p.starts b standings s.from.0 s.to.0 c.rows-stand.ensures in
+    let attend = block_run c.args.site.settings p.starts b attend_cells s.from.0 s.to.0 c.rows-attend.ensures in
+    let conf = block_run c.args.site.settings p.starts b conf_pairs s.from.0 s.to.0 c.rows-conf.ensures in
+    let lunch = block_run c.args.site.settings p.starts b lunch_triples d (d + 1) c.rows-lunch.ensures in
+    let ride = block_run c.args.site.settings p.starts b ride_cells t.from.0 t.to.0 c.rows-ride.ensures in
     let caps = c.args.caps.now in
     relay c.is_lawful.result (day-kept c.args.site.settings caps b p.laid d p.date p.sessions p.times)
     (kept-day c.args.site.settings caps b p.laid d p.date p.sessions p.times)

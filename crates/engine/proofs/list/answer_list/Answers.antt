@@ -3,7 +3,7 @@
 use mathlib.Core.Path.{sym, ◌∙◌}
 use native.Mathlib.Omega.{arith}
 use lib.ListN.{length}
-use Rattle.std.proofs.lemmas.Result.{err_from_is_err_and}
+use Rattle.model.proofs.Answers.{err-is}
 use Rattle.checking.proofs.Verdicts.{done-good}
 use Rattle.engine.proofs.Splices.{list-fits}
 use Rattle.engine.proofs.Whole.{list-refused, list_done}
@@ -12,8 +12,7 @@ use Rattle.engine.proofs.list.answer_list.Goals as goal
 pub returns-in_err-check : goal.returns-in_err-check
 returns-in_err-check c =
     let a = c.args in
-    let p = err_from_is_err_and c.from_residual.result c.from_residual.ensures.1 in
-    rw (p.1, p.2) (list-refused a.width a.book.now a.list.now a.answers.now (sym c.check.ensures ∙ c.in_err-check.was))
+    rw (err-is _ c.from_residual.ensures.1) (list-refused a.width a.book.now a.list.now a.answers.now (sym c.check.ensures ∙ c.in_err-check.was))
 
 pub answer_all-requires : goal.answer_all-requires
 answer_all-requires c =

@@ -8,4 +8,4 @@ use Rattle.engine.proofs.list.answer_one.Goals as goal
 
 pub returns : goal.returns
 returns c =
-    ap (λ (a : Answer). answered a c.answer_all.new.book) c.answer_of.ensures ∙ one_told c.requires c.args.order c.args.r c.answer_all.ensures
+    ap (λ (a : Answer). answered a c.answer_all.new.book) c.into.ensures ∙ one_told c.requires c.args.order c.args.r c.answer_all.ensures

@@ -1,16 +1,17 @@
--- `list::put_words`: three writes in a row.
+-- `list::put_words`: three words in the place of three.
 -- Assumes nothing.
-use Prim.Native.Nat.{◌*◌}
+use Prim.Native.Nat.{ℕ, ◌+◌, ◌*◌}
+use mathlib.Core.Path.{ap₂}
+use mathlib.Core.List.{List, ◌++◌}
 use native.Mathlib.Omega.{arith}
-use lib.ListN.{length-set}
-use Rattle.engine.proofs.Splices.{write-three}
+use lib.ListN.{take}
+use borrow.Rule.Slice.PartMut.{Post-is}
+use Rattle.engine.specs.Lists.{spliced}
 use Rattle.engine.proofs.list.put_words.Goals as goal
 
-pub bounds-answers-at-2 : goal.bounds-answers-at-2
-bounds-answers-at-2 c = simp length-set (omega arith)
-
-pub bounds-answers-at-3 : goal.bounds-answers-at-3
-bounds-answers-at-3 c = simp length-set (omega arith)
-
 pub returns : goal.returns
-returns c = write-three c.args.answers.now (c.args.i * 3) c.args.number c.args.place c.args.value c.requires
+unfolding spliced
+returns c =
+    let at = c.args.i * 3 in
+    let l = c.args.answers.now in
+    ap₂ (λ (ws rest : List ℕ). take at l ++ (ws ++ rest)) c.copy_from_slice.ensures.after (Post-is at (at + 3) l (omega arith))

@@ -3,7 +3,7 @@
 use mathlib.Core.Path.{refl, sym, ◌∙◌, ap₂}
 use native.Mathlib.Omega.{arith}
 use lib.ListN.{length}
-use Rattle.std.proofs.lemmas.Result.{err_from_is_err_and}
+use Rattle.model.proofs.Answers.{err-is}
 use Rattle.book.specs.Good.{answered}
 use Rattle.engine.proofs.Splices.{list-fits}
 use Rattle.engine.proofs.Whole.{serve-refused, serve-laid, serve-done}
@@ -12,8 +12,7 @@ use Rattle.engine.proofs.list.serve_list.Goals as goal
 pub returns-in_err-lay : goal.returns-in_err-lay
 returns-in_err-lay c =
     let a = c.args in
-    let p = err_from_is_err_and c.from_residual.result c.from_residual.ensures.1 in
-    rw (p.1, p.2)
+    rw (err-is _ c.from_residual.ensures.1)
     (serve-refused a.words.now a.book.now a.width a.list.now a.answers.now
     (ap₂ answered (sym c.in_err-lay.was) refl ∙ c.lay.ensures))
 

@@ -6,4 +6,4 @@ use Rattle.model.specs.Lines.{line_words}
 use Rattle.framing.proofs.line.line_words.Given as goal
 
 abbrev pub invariant-loop-k : goal.invariant-loop-k
-invariant-loop-k l = take l.k l.words ≡ take l.k (line_words l.line)
+invariant-loop-k l = take l.k l.word-items ≡ take l.k (line_words l.line)

@@ -5,7 +5,7 @@ use mathlib.Core.Path.{sym, ◌∙◌, ap, subst}
 use Prim.Native.Nat.{ℕ}
 use native.Mathlib.Omega.{arith}
 use Rattle.model.specs.declared.Settings.{Settings}
-use Rattle.model.specs.Answers.{done_with}
+use Rattle.model.specs.Answers.{Answer, done_with}
 use Rattle.model.specs.Ledger.{book_length}
 use Rattle.book.specs.Good.{answered}
 use Rattle.units.specs.Ranges.{Ranges}
@@ -17,7 +17,8 @@ use Rattle.header.proofs.lay.lay.Goals as goal
 pub returns-then-not-settings_good : goal.returns-then-not-settings_good
 returns-then-not-settings_good c =
     let a = c.args in
-    sym (lay-bad a.words.now a.book.now (sym c.settings_good.ensures ∙ c.if-not-settings_good.true))
+    ap (λ (r : Answer). answered r a.book.now) c.refused.ensures
+    ∙ sym (lay-bad a.words.now a.book.now (sym c.settings_good.ensures ∙ c.if-not-settings_good.true))
 
 pub length_of-needed-requires : goal.length_of-needed-requires
 length_of-needed-requires c =
@@ -29,7 +30,8 @@ pub returns-then-book-needed : goal.returns-then-book-needed
 returns-then-book-needed c =
     let a = c.args in
     let n = c.length_of-needed.ensures ∙ ap book_length c.settings.ensures in
-    sym (lay-misfit a.words.now a.book.now (sym c.settings_good.ensures ∙ c.if-not-settings_good.false)
+    ap (λ (r : Answer). answered r a.book.now) c.refused-then-book-needed.ensures
+    ∙ sym (lay-misfit a.words.now a.book.now (sym c.settings_good.ensures ∙ c.if-not-settings_good.false)
     (λ e. omega (arith, e, n)))
 
 pub fill-requires : goal.fill-requires

@@ -1,6 +1,7 @@
 -- By question 24.
 -- Assumes nothing.
 use mathlib.Core.Path.{sym, ◌∙◌, ap, subst}
+use Rattle.std.specs.Prelude.{Some}
 use Rattle.model.specs.declared.Settings.{Settings}
 use Rattle.model.specs.Ledger.{book_length}
 use Rattle.units.specs.Ranges.{Ranges}
@@ -21,5 +22,5 @@ length_of-requires c =
 pub returns : goal.returns
 returns c =
     let w = c.args.words.now in
-    c.length_of.ensures ∙ ap book_length c.settings.ensures
+    ap Some (c.length_of.ensures ∙ ap book_length c.settings.ensures)
     ∙ sym (needed-some w (sym c.settings_good.ensures ∙ c.if-not-settings_good.false))

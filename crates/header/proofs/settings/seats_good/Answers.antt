@@ -1,15 +1,16 @@
--- The capacities passed are good.
+-- Each capacity beside its number.
 -- Assumes nothing.
-use mathlib.Core.Path.{sym, ◌∙◌}
+use mathlib.Core.Path.{◌≡◌}
 use native.Mathlib.Omega.{arith}
-use Rattle.model.proofs.Search.{true-all}
-use Rattle.header.specs.Heads.{seat_good}
-use Rattle.header.proofs.Heads.{not-all}
+use mathlib.Core.Bool.{true, false}
+use Rattle.std.proofs.Common.{rules}
+use Rattle.std.proofs.lemmas.Iterator.{cases_from_all, YieldsList-from_zip, YieldsList-from_range, YieldsList-from_slice}
+use Rattle.header.proofs.Heads.{seat_said, seats-said}
 use Rattle.header.proofs.settings.seats_good.Goals as goal
 
-pub returns-then-not-seat_good : goal.returns-then-not-seat_good
-returns-then-not-seat_good c =
-    sym (not-all (seat_good c.args.s) 16 c.loop-g.g (omega arith) (sym c.seat_good.ensures ∙ c.if-not-seat_good.true))
-
 pub returns : goal.returns
-returns c = sym (true-all (seat_good c.args.s) 16 (λ k h. c.loop-g.invariant k (omega arith)))
+returns c =
+    seats-said c.args.s c.requires c.all.result
+    (cases_from_all c.all.new.self _ _ (λ y. seat_said c.args.s y ≡ true) (λ y. seat_said c.args.s y ≡ false) c.all.ensures.ran
+    (YieldsList-from_zip (YieldsList-from_range 0 16 16 (cc) (omega arith)) (YieldsList-from_slice c.args.s.capacities (cc)))
+    (λ x q k. search rules) (λ x q k. search rules))

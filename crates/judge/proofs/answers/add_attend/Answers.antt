@@ -10,75 +10,67 @@ use Rattle.questions.proofs.Shown.{stands-fail}
 use Rattle.questions.proofs.Grounds.{ground}
 use Rattle.judge.specs.Chains.{attend_adds}
 use Rattle.judge.proofs.Together.{stops, goes}
-use Rattle.judge.proofs.Whole.{err-is}
+use Rattle.model.proofs.Answers.{err-is}
 use Rattle.judge.proofs.answers.add_attend.Goals as goal
-
-pub first_session_off_leave-away-requires : goal.first_session_off_leave-away-requires
-first_session_off_leave-away-requires c = record {
-  good = c.requires.good;
-  leave_value = (ap (λ (g : Grids). g.leave) c.args.site.sited);
-  last_bound = c.requires.last_bound;
-  visitor_lt_visitors = c.requires.b_lt_visitors;
-}
 
 pub first_not_member-ended-requires : goal.first_not_member-ended-requires
 first_not_member-ended-requires c =
     let a = c.args in
-    let both = ground c.requires.good standings (ap (λ (g : Grids). g.standing) c.args.site.sited) c.requires.last_bound (group-lt a.site.settings.meetings a.a c.requires.a_lt_meetings) in
-    record { lies = both.0; last_lt_slots = both.1.0; v_bound = both.1.1 }
+    let both = ground c.args.diary.good standings (c.standing.ensures.grid ∙ ap (λ (g : Grids). g.standing) c.args.diary.site.sited) c.requires.last_bound (group-lt a.diary.site.settings.meetings a.a c.requires.a_lt_meetings) in
+    record { last_lt_slots = both.1.0; v_bound = both.1.1 }
 
 pub overflow_add-a : goal.overflow_add-a
 overflow_add-a c =
-    omega (arith, (good-laid c.requires.good).ranges.meetings, c.requires.a_lt_meetings)
+    omega (arith, (good-laid c.args.diary.good).ranges.meetings, c.requires.a_lt_meetings)
 
 pub first_with-there-requires : goal.first_with-there-requires
-first_with-there-requires c = let both = ground c.requires.good attend_cells (ap (λ (g : Grids). g.attend) c.args.site.sited) c.requires.last_bound c.requires.b_lt_visitors in
-    record { lies = both.0; last_lt_slots = both.1.0; item_lt_g = both.1.1 }
+first_with-there-requires c = let both = ground c.args.diary.good attend_cells (c.attend-cells.ensures.grid ∙ ap (λ (g : Grids). g.attend) c.args.diary.site.sited) c.requires.last_bound c.requires.b_lt_visitors in
+    record { last_lt_slots = both.1.0; item_lt_g = both.1.1 }
 
 pub first_without-requires : goal.first_without-requires
-first_without-requires c = let both = ground c.requires.good attend_cells (ap (λ (g : Grids). g.attend) c.args.site.sited) c.requires.last_bound c.requires.b_lt_visitors in
-    record { lies = both.0; last_lt_slots = both.1.0; item_lt_g = both.1.1 }
+first_without-requires c = let both = ground c.args.diary.good attend_cells (c.attend-cells.ensures.grid ∙ ap (λ (g : Grids). g.attend) c.args.diary.site.sited) c.requires.last_bound c.requires.b_lt_visitors in
+    record { last_lt_slots = both.1.0; item_lt_g = both.1.1 }
 
 pub returns-in_err-ask : goal.returns-in_err-ask
 unfolding attend_adds
 returns-in_err-ask c =
     let a = c.args in
     err-is _ c.from_residual.ensures.1
-    ∙ (stops 9 _ c.ask.ensures c.first_session_off_leave-away.ensures c.in_err-ask.was)
+    ∙ (stops 9 _ c.ask.ensures c.first_off_leave-away.ensures c.in_err-ask.was)
 
 pub returns-in_err-ask-2 : goal.returns-in_err-ask-2
 unfolding attend_adds
 returns-in_err-ask-2 c =
     let a = c.args in
     err-is _ c.from_residual-in_err-ask-2.ensures.1
-    ∙ (goes 9 c.ask.ensures c.first_session_off_leave-away.ensures c.in_ok-ask.was
-    (stops 10 _ c.ask-2.ensures (c.first_not_member-ended.ensures ∙ stands-fail c.requires.good c.args.site.sited a.first.0 a.last.0 a.a c.requires.a_lt_meetings c.requires.last_bound) c.in_err-ask-2.was))
+    ∙ (goes 9 c.ask.ensures c.first_off_leave-away.ensures c.in_ok-ask.was
+    (stops 10 _ c.ask-2.ensures ((rw (c.standing.ensures.grid, c.standing.ensures.words) at c.first_not_member-ended.ensures) ∙ stands-fail c.args.diary.good c.args.diary.site.sited a.first.0 a.last.0 a.a c.requires.a_lt_meetings c.requires.last_bound) c.in_err-ask-2.was))
 
 pub returns-in_err-ask-3 : goal.returns-in_err-ask-3
 unfolding attend_adds
 returns-in_err-ask-3 c =
     let a = c.args in
     err-is _ c.from_residual-in_err-ask-3.ensures.1
-    ∙ (goes 9 c.ask.ensures c.first_session_off_leave-away.ensures c.in_ok-ask.was
-    (goes 10 c.ask-2.ensures (c.first_not_member-ended.ensures ∙ stands-fail c.requires.good c.args.site.sited a.first.0 a.last.0 a.a c.requires.a_lt_meetings c.requires.last_bound) c.in_ok-ask-2.was
-    (stops 11 _ c.ask-3.ensures c.first_with-there.ensures c.in_err-ask-3.was)))
+    ∙ (goes 9 c.ask.ensures c.first_off_leave-away.ensures c.in_ok-ask.was
+    (goes 10 c.ask-2.ensures ((rw (c.standing.ensures.grid, c.standing.ensures.words) at c.first_not_member-ended.ensures) ∙ stands-fail c.args.diary.good c.args.diary.site.sited a.first.0 a.last.0 a.a c.requires.a_lt_meetings c.requires.last_bound) c.in_ok-ask-2.was
+    (stops 11 _ c.ask-3.ensures (rw (c.attend-cells.ensures.grid, c.attend-cells.ensures.words) at c.first_with-there.ensures) c.in_err-ask-3.was)))
 
 pub returns-in_err-ask-4 : goal.returns-in_err-ask-4
 unfolding attend_adds
 returns-in_err-ask-4 c =
     let a = c.args in
     err-is _ c.from_residual-in_err-ask-4.ensures.1
-    ∙ (goes 9 c.ask.ensures c.first_session_off_leave-away.ensures c.in_ok-ask.was
-    (goes 10 c.ask-2.ensures (c.first_not_member-ended.ensures ∙ stands-fail c.requires.good c.args.site.sited a.first.0 a.last.0 a.a c.requires.a_lt_meetings c.requires.last_bound) c.in_ok-ask-2.was
-    (goes 11 c.ask-3.ensures c.first_with-there.ensures c.in_ok-ask-3.was
-    (stops 13 _ c.ask-4.ensures c.first_without.ensures c.in_err-ask-4.was))))
+    ∙ (goes 9 c.ask.ensures c.first_off_leave-away.ensures c.in_ok-ask.was
+    (goes 10 c.ask-2.ensures ((rw (c.standing.ensures.grid, c.standing.ensures.words) at c.first_not_member-ended.ensures) ∙ stands-fail c.args.diary.good c.args.diary.site.sited a.first.0 a.last.0 a.a c.requires.a_lt_meetings c.requires.last_bound) c.in_ok-ask-2.was
+    (goes 11 c.ask-3.ensures (rw (c.attend-cells.ensures.grid, c.attend-cells.ensures.words) at c.first_with-there.ensures) c.in_ok-ask-3.was
+    (stops 13 _ c.ask-4.ensures (rw (c.attend-cells.ensures.grid, c.attend-cells.ensures.words) at c.first_without.ensures) c.in_err-ask-4.was))))
 
 pub returns : goal.returns
 unfolding attend_adds
 returns c =
     let a = c.args in
-    (goes 9 c.ask.ensures c.first_session_off_leave-away.ensures c.in_ok-ask.was
-    (goes 10 c.ask-2.ensures (c.first_not_member-ended.ensures ∙ stands-fail c.requires.good c.args.site.sited a.first.0 a.last.0 a.a c.requires.a_lt_meetings c.requires.last_bound) c.in_ok-ask-2.was
-    (goes 11 c.ask-3.ensures c.first_with-there.ensures c.in_ok-ask-3.was
-    (goes 13 c.ask-4.ensures c.first_without.ensures c.in_ok-ask-4.was
+    (goes 9 c.ask.ensures c.first_off_leave-away.ensures c.in_ok-ask.was
+    (goes 10 c.ask-2.ensures ((rw (c.standing.ensures.grid, c.standing.ensures.words) at c.first_not_member-ended.ensures) ∙ stands-fail c.args.diary.good c.args.diary.site.sited a.first.0 a.last.0 a.a c.requires.a_lt_meetings c.requires.last_bound) c.in_ok-ask-2.was
+    (goes 11 c.ask-3.ensures (rw (c.attend-cells.ensures.grid, c.attend-cells.ensures.words) at c.first_with-there.ensures) c.in_ok-ask-3.was
+    (goes 13 c.ask-4.ensures (rw (c.attend-cells.ensures.grid, c.attend-cells.ensures.words) at c.first_without.ensures) c.in_ok-ask-4.was
     refl))))

@@ -9,36 +9,20 @@ use Rattle.model.specs.Words.{lunch_triples}
 use Rattle.questions.proofs.Grounds.{ground}
 use Rattle.judge.specs.Chains.{lunch_adds}
 use Rattle.judge.proofs.Together.{stops, goes}
-use Rattle.judge.proofs.Whole.{err-is}
+use Rattle.model.proofs.Answers.{err-is}
 use Rattle.judge.proofs.answers.add_lunch.Goals as goal
-
-pub first_without_session-requires : goal.first_without_session-requires
-first_without_session-requires c = record {
-  good = c.requires.good;
-  meeting_lt_meetings = c.requires.b_lt_meetings;
-  first_le_last = c.requires.first_le_last;
-  last_lt_dates = c.requires.last_lt_dates;
-}
 
 pub overflow_add-a : goal.overflow_add-a
 overflow_add-a c =
-    omega (arith, (good-laid c.requires.good).ranges.dining, c.requires.a_lt_dining)
+    omega (arith, (good-laid c.args.diary.good).ranges.dining, c.requires.a_lt_dining)
 
 pub first_with-there-requires : goal.first_with-there-requires
-first_with-there-requires c = let both = ground c.requires.good lunch_triples (ap (λ (g : Grids). g.lunch) c.args.site.sited) c.requires.last_lt_dates c.requires.b_lt_meetings in
-    record { lies = both.0; last_lt_slots = both.1.0; item_lt_g = both.1.1 }
+first_with-there-requires c = let both = ground c.args.diary.good lunch_triples (c.lunch-triples.ensures.grid ∙ ap (λ (g : Grids). g.lunch) c.args.diary.site.sited) c.requires.last_lt_dates c.requires.b_lt_meetings in
+    record { last_lt_slots = both.1.0; item_lt_g = both.1.1 }
 
 pub first_without-elsewhere-requires : goal.first_without-elsewhere-requires
-first_without-elsewhere-requires c = let both = ground c.requires.good lunch_triples (ap (λ (g : Grids). g.lunch) c.args.site.sited) c.requires.last_lt_dates c.requires.b_lt_meetings in
-    record { lies = both.0; last_lt_slots = both.1.0; item_lt_g = both.1.1 }
-
-pub first_over-requires : goal.first_over-requires
-first_over-requires c = record {
-  good = c.requires.good;
-  last_lt_dates = c.requires.last_lt_dates;
-  room_lt_dining = c.requires.a_lt_dining;
-  n_bound = c.requires.n_bound;
-}
+first_without-elsewhere-requires c = let both = ground c.args.diary.good lunch_triples (c.lunch-triples.ensures.grid ∙ ap (λ (g : Grids). g.lunch) c.args.diary.site.sited) c.requires.last_lt_dates c.requires.b_lt_meetings in
+    record { last_lt_slots = both.1.0; item_lt_g = both.1.1 }
 
 pub returns-in_err-ask : goal.returns-in_err-ask
 unfolding lunch_adds holds_in
@@ -51,30 +35,30 @@ unfolding lunch_adds holds_in
 returns-in_err-ask-2 c =
     err-is _ c.from_residual-in_err-ask-2.ensures.1
     ∙ (goes 10 c.ask.ensures c.first_without_session.ensures c.in_ok-ask.was
-    (stops 11 _ c.ask-2.ensures c.first_with-there.ensures c.in_err-ask-2.was))
+    (stops 11 _ c.ask-2.ensures (rw (c.lunch-triples.ensures.grid, c.lunch-triples.ensures.words) at c.first_with-there.ensures) c.in_err-ask-2.was))
 
 pub returns-in_err-ask-3 : goal.returns-in_err-ask-3
 unfolding lunch_adds holds_in
 returns-in_err-ask-3 c =
     err-is _ c.from_residual-in_err-ask-3.ensures.1
     ∙ (goes 10 c.ask.ensures c.first_without_session.ensures c.in_ok-ask.was
-    (goes 11 c.ask-2.ensures c.first_with-there.ensures c.in_ok-ask-2.was
-    (stops 13 _ c.ask-3.ensures c.first_without-elsewhere.ensures c.in_err-ask-3.was)))
+    (goes 11 c.ask-2.ensures (rw (c.lunch-triples.ensures.grid, c.lunch-triples.ensures.words) at c.first_with-there.ensures) c.in_ok-ask-2.was
+    (stops 13 _ c.ask-3.ensures (rw (c.lunch-triples.ensures.grid, c.lunch-triples.ensures.words) at c.first_without-elsewhere.ensures) c.in_err-ask-3.was)))
 
 pub returns-in_err-ask-4 : goal.returns-in_err-ask-4
 unfolding lunch_adds holds_in
 returns-in_err-ask-4 c =
     err-is _ c.from_residual-in_err-ask-4.ensures.1
     ∙ (goes 10 c.ask.ensures c.first_without_session.ensures c.in_ok-ask.was
-    (goes 11 c.ask-2.ensures c.first_with-there.ensures c.in_ok-ask-2.was
-    (goes 13 c.ask-3.ensures c.first_without-elsewhere.ensures c.in_ok-ask-3.was
+    (goes 11 c.ask-2.ensures (rw (c.lunch-triples.ensures.grid, c.lunch-triples.ensures.words) at c.first_with-there.ensures) c.in_ok-ask-2.was
+    (goes 13 c.ask-3.ensures (rw (c.lunch-triples.ensures.grid, c.lunch-triples.ensures.words) at c.first_without-elsewhere.ensures) c.in_ok-ask-3.was
     (stops 14 _ c.ask-4.ensures c.first_over.ensures c.in_err-ask-4.was))))
 
 pub returns : goal.returns
 unfolding lunch_adds holds_in
 returns c =
     (goes 10 c.ask.ensures c.first_without_session.ensures c.in_ok-ask.was
-    (goes 11 c.ask-2.ensures c.first_with-there.ensures c.in_ok-ask-2.was
-    (goes 13 c.ask-3.ensures c.first_without-elsewhere.ensures c.in_ok-ask-3.was
+    (goes 11 c.ask-2.ensures (rw (c.lunch-triples.ensures.grid, c.lunch-triples.ensures.words) at c.first_with-there.ensures) c.in_ok-ask-2.was
+    (goes 13 c.ask-3.ensures (rw (c.lunch-triples.ensures.grid, c.lunch-triples.ensures.words) at c.first_without-elsewhere.ensures) c.in_ok-ask-3.was
     (goes 14 c.ask-4.ensures c.first_over.ensures c.in_ok-ask-4.was
     refl))))

@@ -8,14 +8,14 @@ use Rattle.questions.proofs.Shown.{stands-fail}
 use Rattle.questions.proofs.Grounds.{ground}
 use Rattle.judge.specs.Chains.{standing_ends}
 use Rattle.judge.proofs.Together.{stops, goes}
-use Rattle.judge.proofs.Whole.{err-is}
+use Rattle.model.proofs.Answers.{err-is}
 use Rattle.judge.proofs.answers.end_standing.Goals as goal
 
 pub first_not_member-missing-requires : goal.first_not_member-missing-requires
 first_not_member-missing-requires c =
     let a = c.args in
-    let both = ground c.requires.good standings (ap (λ (g : Grids). g.standing) c.args.site.sited) c.requires.last_bound (group-lt a.site.settings.meetings a.a c.requires.a_lt_meetings) in
-    record { lies = both.0; last_lt_slots = both.1.0; v_bound = both.1.1 }
+    let both = ground c.args.diary.good standings (c.standing.ensures.grid ∙ ap (λ (g : Grids). g.standing) c.args.diary.site.sited) c.requires.last_bound (group-lt a.diary.site.settings.meetings a.a c.requires.a_lt_meetings) in
+    record { last_lt_slots = both.1.0; v_bound = both.1.1 }
 
 pub returns-in_err-ask : goal.returns-in_err-ask
 unfolding standing_ends
@@ -30,12 +30,12 @@ returns-in_err-ask-2 c =
     let a = c.args in
     err-is _ c.from_residual-in_err-ask-2.ensures.1
     ∙ (goes 19 c.ask.ensures c.first_held.ensures c.in_ok-ask.was
-    (stops 20 _ c.ask-2.ensures (c.first_not_member-missing.ensures ∙ stands-fail c.requires.good c.args.site.sited a.first.0 a.last.0 a.a c.requires.a_lt_meetings c.requires.last_bound) c.in_err-ask-2.was))
+    (stops 20 _ c.ask-2.ensures ((rw (c.standing.ensures.grid, c.standing.ensures.words) at c.first_not_member-missing.ensures) ∙ stands-fail c.args.diary.good c.args.diary.site.sited a.first.0 a.last.0 a.a c.requires.a_lt_meetings c.requires.last_bound) c.in_err-ask-2.was))
 
 pub returns : goal.returns
 unfolding standing_ends
 returns c =
     let a = c.args in
     (goes 19 c.ask.ensures c.first_held.ensures c.in_ok-ask.was
-    (goes 20 c.ask-2.ensures (c.first_not_member-missing.ensures ∙ stands-fail c.requires.good c.args.site.sited a.first.0 a.last.0 a.a c.requires.a_lt_meetings c.requires.last_bound) c.in_ok-ask-2.was
+    (goes 20 c.ask-2.ensures ((rw (c.standing.ensures.grid, c.standing.ensures.words) at c.first_not_member-missing.ensures) ∙ stands-fail c.args.diary.good c.args.diary.site.sited a.first.0 a.last.0 a.a c.requires.a_lt_meetings c.requires.last_bound) c.in_ok-ask-2.was
     refl))

@@ -3,7 +3,7 @@
 use mathlib.Core.Path.{refl, ◌∙◌}
 use Rattle.judge.specs.Chains.{erase_pair}
 use Rattle.judge.proofs.Together.{stops, goes}
-use Rattle.judge.proofs.Whole.{err-is}
+use Rattle.model.proofs.Answers.{err-is}
 use Rattle.judge.proofs.answers.erase.Goals as goal
 
 pub returns-in_err-ask : goal.returns-in_err-ask

@@ -10,12 +10,6 @@ pub returns-then-n-lt1 : goal.returns-then-n-lt1
 unfolding lunch_fits
 returns-then-n-lt1 c = rw (lt-leb _ _ c.if-n-lt1.true) c.refused.ensures
 
-pub capacity-requires : goal.capacity-requires
-capacity-requires c = record {
-  good = c.requires.good;
-  room_lt_dining = c.requires.a_lt_dining;
-}
-
 pub returns-then-capacity-n : goal.returns-then-capacity-n
 unfolding lunch_fits
 returns-then-capacity-n c =
@@ -27,9 +21,8 @@ returns-then-capacity-n c =
 
 pub add_lunch-requires : goal.add_lunch-requires
 add_lunch-requires c =
-    let most = capacity-le c.requires.good c.args.a c.requires.a_lt_dining in
+    let most = capacity-le c.args.diary.good c.args.a c.requires.a_lt_dining in
     record {
-      good = c.requires.good;
       last_lt_dates = c.requires.last_lt_dates;
       a_lt_dining = c.requires.a_lt_dining;
       b_lt_meetings = c.requires.b_lt_meetings;

@@ -5,7 +5,8 @@ use native.Mathlib.Omega.{arith}
 use Rattle.model.specs.Answers.{done_with}
 use Rattle.model.specs.Kinds.{kind_of, Kind.seats_left}
 use Rattle.judge.specs.Chains.{in_words}
-use Rattle.judge.proofs.Whole.{err-is, none-no, refused-fields, ready}
+use Rattle.model.proofs.Answers.{err-is}
+use Rattle.judge.proofs.Whole.{none-no, refused-fields, ready}
 use Rattle.judge.proofs.Meanings.{answered-by}
 use Rattle.judge.proofs.asking.seats_left.Goals as goal
 
@@ -13,14 +14,13 @@ pub returns-in_err-fields : goal.returns-in_err-fields
 unfolding kind_of
 returns-in_err-fields c =
     err-is _ c.from_residual.ensures.1
-    ∙ refused-fields c.requires.good c.args.r seats_left (ap kind_of c.requires.kind_value) c.seats_left_row.ensures refl c.fields.ensures c.in_err-fields.was
+    ∙ refused-fields c.args.diary.good c.args.r seats_left (ap kind_of c.requires.kind_value) c.seats_left_row.ensures refl c.fields.ensures c.in_err-fields.was
 
 pub seats_left-requires : goal.seats_left-requires
 unfolding kind_of
 seats_left-requires c =
-    let h = ready c.requires.good c.args.r seats_left (ap kind_of c.requires.kind_value) c.seats_left_row.ensures refl (none-no c.fields.ensures c.in_ok-fields.was) in
+    let h = ready c.args.diary.good c.args.r seats_left (ap kind_of c.requires.kind_value) c.seats_left_row.ensures refl (none-no c.fields.ensures c.in_ok-fields.was) in
     record {
-      good = c.requires.good;
       date_lt_dates = omega (arith, h.order, h.slot);
       room_lt_dining = h.a;
     }
@@ -29,4 +29,4 @@ pub returns : goal.returns
 unfolding kind_of in_words
 returns c =
     ap done_with c.seats_left.ensures
-    ∙ answered-by c.requires.good c.args.site.sited c.args.r seats_left (ap kind_of c.requires.kind_value) c.seats_left_row.ensures refl (none-no c.fields.ensures c.in_ok-fields.was)
+    ∙ answered-by c.args.diary.good c.args.diary.site.sited c.args.r seats_left (ap kind_of c.requires.kind_value) c.seats_left_row.ensures refl (none-no c.fields.ensures c.in_ok-fields.was)

@@ -5,31 +5,31 @@ use native.Mathlib.Omega.{arith}
 use Rattle.book.proofs.Goods.{good-laid}
 use Rattle.book.specs.declared.grid.Grids.{Grids}
 use Rattle.judge.proofs.Meanings.{answered-by}
-use Rattle.judge.proofs.Whole.{err-is, none-no, refused-fields, ready}
-use Rattle.judge.specs.Chains.{in_words, add_stay}
+use Rattle.model.proofs.Answers.{err-is}
+use Rattle.judge.proofs.Whole.{none-no, refused-fields, ready}
+use Rattle.judge.specs.Chains.{in_words, add_stay, stay_adds}
 use Rattle.model.specs.Kinds.{kind_of, Kind.add_ride}
 use Rattle.model.specs.Words.{ride_cells}
-use Rattle.questions.proofs.Grounds.{ground, row-ground}
-use Rattle.judge.proofs.Together.{stops, goes}
+use Rattle.questions.proofs.Grounds.{ground}
+use Rattle.book.specs.Lent.{reading}
+use Prim.Native.Nat.{◌+◌}
 use Rattle.judge.proofs.eager.add_ride.Goals as goal
 
 pub ride_row-requires : goal.ride_row-requires
-ride_row-requires c = (good-laid c.requires.good).ranges
+ride_row-requires c = (good-laid c.args.diary.good).ranges
 
 pub returns-in_err-fields : goal.returns-in_err-fields
 unfolding kind_of
 returns-in_err-fields c =
     err-is _ c.from_residual.ensures.1
-    ∙ refused-fields c.requires.good c.args.r add_ride (ap kind_of c.requires.kind_value) c.ride_row.ensures refl c.fields.ensures c.in_err-fields.was
+    ∙ refused-fields c.args.diary.good c.args.r add_ride (ap kind_of c.requires.kind_value) c.ride_row.ensures refl c.fields.ensures c.in_err-fields.was
 
-pub first_time_off_leave-away-requires : goal.first_time_off_leave-away-requires
+pub first_off_leave-away-requires : goal.first_off_leave-away-requires
 unfolding kind_of
-first_time_off_leave-away-requires c =
-    let h = ready c.requires.good c.args.r add_ride (ap kind_of c.requires.kind_value) c.ride_row.ensures
+first_off_leave-away-requires c =
+    let h = ready c.args.diary.good c.args.r add_ride (ap kind_of c.requires.kind_value) c.ride_row.ensures
     refl (none-no c.fields.ensures c.in_ok-fields.was) in
     record {
-      good = c.requires.good;
-      leave_value = (ap (λ (g : Grids). g.leave) c.args.site.sited);
       last_bound = h.slot;
       visitor_lt_visitors = h.b;
     }
@@ -37,81 +37,21 @@ first_time_off_leave-away-requires c =
 pub overflow_add-r : goal.overflow_add-r
 unfolding kind_of
 overflow_add-r c =
-    let h = ready c.requires.good c.args.r add_ride (ap kind_of c.requires.kind_value) c.ride_row.ensures
+    let h = ready c.args.diary.good c.args.r add_ride (ap kind_of c.requires.kind_value) c.ride_row.ensures
     refl (none-no c.fields.ensures c.in_ok-fields.was) in
-    omega (arith, (good-laid c.requires.good).ranges.visitors, h.b)
+    omega (arith, (good-laid c.args.diary.good).ranges.visitors, h.b)
 
-pub first_with-there-requires : goal.first_with-there-requires
+pub stay-requires : goal.stay-requires
 unfolding kind_of
-first_with-there-requires c =
-    let h = ready c.requires.good c.args.r add_ride (ap kind_of c.requires.kind_value) c.ride_row.ensures
-    refl (none-no c.fields.ensures c.in_ok-fields.was) in
-    let both = ground c.requires.good ride_cells (ap (λ (g : Grids). g.ride) c.args.site.sited) h.slot h.a in
-    record { lies = both.0; last_lt_slots = both.1.0; item_lt_g = both.1.1 }
-
-pub first_without-taken-requires : goal.first_without-taken-requires
-unfolding kind_of
-first_without-taken-requires c =
-    let h = ready c.requires.good c.args.r add_ride (ap kind_of c.requires.kind_value) c.ride_row.ensures
-    refl (none-no c.fields.ensures c.in_ok-fields.was) in
-    let both = ground c.requires.good ride_cells (ap (λ (g : Grids). g.ride) c.args.site.sited) h.slot h.a in
-    record { lies = both.0; last_lt_slots = both.1.0; item_lt_g = both.1.1 }
-
-pub overflow_add-r-2 : goal.overflow_add-r-2
-unfolding kind_of
-overflow_add-r-2 c =
-    let h = ready c.requires.good c.args.r add_ride (ap kind_of c.requires.kind_value) c.ride_row.ensures
-    refl (none-no c.fields.ensures c.in_ok-fields.was) in
-    omega (arith, (good-laid c.requires.good).ranges.visitors, h.b)
-
-pub first_row_with-elsewhere-requires : goal.first_row_with-elsewhere-requires
-unfolding kind_of
-first_row_with-elsewhere-requires c =
-    let h = ready c.requires.good c.args.r add_ride (ap kind_of c.requires.kind_value) c.ride_row.ensures
-    refl (none-no c.fields.ensures c.in_ok-fields.was) in
-    let both = row-ground c.requires.good ride_cells (ap (λ (g : Grids). g.ride) c.args.site.sited) h.slot in
-    record { lies = both.0; last_lt_slots = both.1 }
-
-pub returns-in_err-ask : goal.returns-in_err-ask
-unfolding kind_of in_words add_stay
-returns-in_err-ask c =
-    err-is _ c.from_residual-in_err-ask.ensures.1
-    ∙ (stops 9 _ c.ask.ensures c.first_time_off_leave-away.ensures c.in_err-ask.was)
-    ∙ answered-by c.requires.good c.args.site.sited c.args.r add_ride (ap kind_of c.requires.kind_value) c.ride_row.ensures refl (none-no c.fields.ensures c.in_ok-fields.was)
-
-pub returns-in_err-ask-2 : goal.returns-in_err-ask-2
-unfolding kind_of in_words add_stay
-returns-in_err-ask-2 c =
-    err-is _ c.from_residual-in_err-ask-2.ensures.1
-    ∙ (goes 9 c.ask.ensures c.first_time_off_leave-away.ensures c.in_ok-ask.was
-    (stops 11 _ c.ask-2.ensures c.first_with-there.ensures c.in_err-ask-2.was))
-    ∙ answered-by c.requires.good c.args.site.sited c.args.r add_ride (ap kind_of c.requires.kind_value) c.ride_row.ensures refl (none-no c.fields.ensures c.in_ok-fields.was)
-
-pub returns-in_err-ask-3 : goal.returns-in_err-ask-3
-unfolding kind_of in_words add_stay
-returns-in_err-ask-3 c =
-    err-is _ c.from_residual-in_err-ask-3.ensures.1
-    ∙ (goes 9 c.ask.ensures c.first_time_off_leave-away.ensures c.in_ok-ask.was
-    (goes 11 c.ask-2.ensures c.first_with-there.ensures c.in_ok-ask-2.was
-    (stops 12 _ c.ask-3.ensures c.first_without-taken.ensures c.in_err-ask-3.was)))
-    ∙ answered-by c.requires.good c.args.site.sited c.args.r add_ride (ap kind_of c.requires.kind_value) c.ride_row.ensures refl (none-no c.fields.ensures c.in_ok-fields.was)
-
-pub returns-in_err-ask-4 : goal.returns-in_err-ask-4
-unfolding kind_of in_words add_stay
-returns-in_err-ask-4 c =
-    err-is _ c.from_residual-in_err-ask-4.ensures.1
-    ∙ (goes 9 c.ask.ensures c.first_time_off_leave-away.ensures c.in_ok-ask.was
-    (goes 11 c.ask-2.ensures c.first_with-there.ensures c.in_ok-ask-2.was
-    (goes 12 c.ask-3.ensures c.first_without-taken.ensures c.in_ok-ask-3.was
-    (stops 13 _ c.ask-4.ensures c.first_row_with-elsewhere.ensures c.in_err-ask-4.was))))
-    ∙ answered-by c.requires.good c.args.site.sited c.args.r add_ride (ap kind_of c.requires.kind_value) c.ride_row.ensures refl (none-no c.fields.ensures c.in_ok-fields.was)
+stay-requires c =
+    let h = ready c.args.diary.good c.args.r add_ride (ap kind_of c.requires.kind_value) c.ride_row.ensures refl (none-no c.fields.ensures c.in_ok-fields.was) in
+    let both = ground c.args.diary.good ride_cells (c.ride.ensures.grid ∙ ap (λ (g : Grids). g.ride) c.args.diary.site.sited) h.slot h.a in
+    record { last_lt_slots = both.1.0; a_lt_items = both.1.1 }
 
 pub returns : goal.returns
 unfolding kind_of in_words add_stay
 returns c =
-    (goes 9 c.ask.ensures c.first_time_off_leave-away.ensures c.in_ok-ask.was
-    (goes 11 c.ask-2.ensures c.first_with-there.ensures c.in_ok-ask-2.was
-    (goes 12 c.ask-3.ensures c.first_without-taken.ensures c.in_ok-ask-3.was
-    (goes 13 c.ask-4.ensures c.first_row_with-elsewhere.ensures c.in_ok-ask-4.was
-    refl))))
-    ∙ answered-by c.requires.good c.args.site.sited c.args.r add_ride (ap kind_of c.requires.kind_value) c.ride_row.ensures refl (none-no c.fields.ensures c.in_ok-fields.was)
+    let h = ready c.args.diary.good c.args.r add_ride (ap kind_of c.requires.kind_value) c.ride_row.ensures refl (none-no c.fields.ensures c.in_ok-fields.was) in
+    (rw (c.ride.ensures.grid, c.ride.ensures.words) at c.stay.ensures)
+    ∙ ap (λ away. stay_adds away (reading c.args.diary.words.now) c.args.diary.site.grids.ride c.args.r.a (c.args.r.b + 1) c.args.r.first c.args.r.last) (c.first_off_leave-away.ensures)
+    ∙ answered-by c.args.diary.good c.args.diary.site.sited c.args.r add_ride (ap kind_of c.requires.kind_value) c.ride_row.ensures refl (none-no c.fields.ensures c.in_ok-fields.was)

@@ -4,20 +4,21 @@ use mathlib.Core.Path.{refl, ◌∙◌, ap}
 use Rattle.book.proofs.Goods.{good-laid}
 use Rattle.model.specs.Kinds.{kind_of, Kind.add_standing}
 use Rattle.judge.specs.Chains.{in_words}
-use Rattle.judge.proofs.Whole.{err-is, none-no, refused-fields}
+use Rattle.model.proofs.Answers.{err-is}
+use Rattle.judge.proofs.Whole.{none-no, refused-fields}
 use Rattle.judge.proofs.Meanings.{answered-by}
 use Rattle.judge.proofs.meetings.add_standing.Goals as goal
 
 pub standing_row-requires : goal.standing_row-requires
-standing_row-requires c = (good-laid c.requires.good).ranges
+standing_row-requires c = (good-laid c.args.diary.good).ranges
 
 pub returns-in_err-fields : goal.returns-in_err-fields
 unfolding kind_of
 returns-in_err-fields c =
     err-is _ c.from_residual.ensures.1
-    ∙ refused-fields c.requires.good c.args.r add_standing (ap kind_of c.requires.kind_value) c.standing_row.ensures refl c.fields.ensures c.in_err-fields.was
+    ∙ refused-fields c.args.diary.good c.args.r add_standing (ap kind_of c.requires.kind_value) c.standing_row.ensures refl c.fields.ensures c.in_err-fields.was
 
 pub returns : goal.returns
 unfolding kind_of in_words
 returns c =
-    answered-by c.requires.good c.args.site.sited c.args.r add_standing (ap kind_of c.requires.kind_value) c.standing_row.ensures refl (none-no c.fields.ensures c.in_ok-fields.was)
+    answered-by c.args.diary.good c.args.diary.site.sited c.args.r add_standing (ap kind_of c.requires.kind_value) c.standing_row.ensures refl (none-no c.fields.ensures c.in_ok-fields.was)

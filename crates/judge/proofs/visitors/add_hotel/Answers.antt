@@ -3,7 +3,8 @@
 use mathlib.Core.Path.{refl, ◌∙◌, ap}
 use Rattle.model.specs.Kinds.{kind_of, Kind.add_hotel}
 use Rattle.judge.specs.Chains.{in_words}
-use Rattle.judge.proofs.Whole.{err-is, none-no, refused-fields, ready}
+use Rattle.model.proofs.Answers.{err-is}
+use Rattle.judge.proofs.Whole.{none-no, refused-fields, ready}
 use Rattle.judge.proofs.Meanings.{answered-by}
 use Rattle.judge.proofs.visitors.add_hotel.Goals as goal
 
@@ -11,14 +12,13 @@ pub returns-in_err-fields : goal.returns-in_err-fields
 unfolding kind_of
 returns-in_err-fields c =
     err-is _ c.from_residual.ensures.1
-    ∙ refused-fields c.requires.good c.args.r add_hotel (ap kind_of c.requires.kind_value) c.hotel_row.ensures refl c.fields.ensures c.in_err-fields.was
+    ∙ refused-fields c.args.diary.good c.args.r add_hotel (ap kind_of c.requires.kind_value) c.hotel_row.ensures refl c.fields.ensures c.in_err-fields.was
 
 pub add_hotel-requires : goal.add_hotel-requires
 unfolding kind_of
 add_hotel-requires c =
-    let h = ready c.requires.good c.args.r add_hotel (ap kind_of c.requires.kind_value) c.hotel_row.ensures refl (none-no c.fields.ensures c.in_ok-fields.was) in
+    let h = ready c.args.diary.good c.args.r add_hotel (ap kind_of c.requires.kind_value) c.hotel_row.ensures refl (none-no c.fields.ensures c.in_ok-fields.was) in
     record {
-      good = c.requires.good;
       last_lt_dates = h.slot;
       a_lt_hotels = h.a;
       b_lt_visitors = h.b;
@@ -28,4 +28,4 @@ pub returns : goal.returns
 unfolding kind_of in_words
 returns c =
     c.add_hotel.ensures
-    ∙ answered-by c.requires.good c.args.site.sited c.args.r add_hotel (ap kind_of c.requires.kind_value) c.hotel_row.ensures refl (none-no c.fields.ensures c.in_ok-fields.was)
+    ∙ answered-by c.args.diary.good c.args.diary.site.sited c.args.r add_hotel (ap kind_of c.requires.kind_value) c.hotel_row.ensures refl (none-no c.fields.ensures c.in_ok-fields.was)

@@ -8,7 +8,8 @@ use Rattle.model.specs.Kinds.{kind_of, Kind.erase_hotel}
 use Rattle.model.specs.Words.{hotel_cells}
 use Rattle.questions.proofs.Grounds.{ground}
 use Rattle.judge.specs.Chains.{in_words}
-use Rattle.judge.proofs.Whole.{err-is, none-no, refused-fields, ready}
+use Rattle.model.proofs.Answers.{err-is}
+use Rattle.judge.proofs.Whole.{none-no, refused-fields, ready}
 use Rattle.judge.proofs.Meanings.{answered-by}
 use Rattle.judge.proofs.visitors.erase_hotel.Goals as goal
 
@@ -16,23 +17,23 @@ pub returns-in_err-fields : goal.returns-in_err-fields
 unfolding kind_of
 returns-in_err-fields c =
     err-is _ c.from_residual.ensures.1
-    ∙ refused-fields c.requires.good c.args.r erase_hotel (ap kind_of c.requires.kind_value) c.hotel_row.ensures refl c.fields.ensures c.in_err-fields.was
+    ∙ refused-fields c.args.diary.good c.args.r erase_hotel (ap kind_of c.requires.kind_value) c.hotel_row.ensures refl c.fields.ensures c.in_err-fields.was
 
 pub overflow_add-r : goal.overflow_add-r
 unfolding kind_of
 overflow_add-r c =
-    let h = ready c.requires.good c.args.r erase_hotel (ap kind_of c.requires.kind_value) c.hotel_row.ensures refl (none-no c.fields.ensures c.in_ok-fields.was) in
-    omega (arith, (good-laid c.requires.good).ranges.visitors, h.b)
+    let h = ready c.args.diary.good c.args.r erase_hotel (ap kind_of c.requires.kind_value) c.hotel_row.ensures refl (none-no c.fields.ensures c.in_ok-fields.was) in
+    omega (arith, (good-laid c.args.diary.good).ranges.visitors, h.b)
 
 pub erase-requires : goal.erase-requires
 unfolding kind_of
 erase-requires c =
-    let h = ready c.requires.good c.args.r erase_hotel (ap kind_of c.requires.kind_value) c.hotel_row.ensures refl (none-no c.fields.ensures c.in_ok-fields.was) in
-    let both = ground c.requires.good hotel_cells (ap (λ (g : Grids). g.hotel) c.args.site.sited) (omega (arith, h.order, h.slot)) h.a in
-    record { lies = both.0; last_lt_slots = both.1.0; item_lt_cells = both.1.1 }
+    let h = ready c.args.diary.good c.args.r erase_hotel (ap kind_of c.requires.kind_value) c.hotel_row.ensures refl (none-no c.fields.ensures c.in_ok-fields.was) in
+    let both = ground c.args.diary.good hotel_cells (c.hotel.ensures.grid ∙ ap (λ (g : Grids). g.hotel) c.args.diary.site.sited) (omega (arith, h.order, h.slot)) h.a in
+    record { last_lt_slots = both.1.0; item_lt_cells = both.1.1 }
 
 pub returns : goal.returns
 unfolding kind_of in_words
 returns c =
-    c.erase.ensures
-    ∙ answered-by c.requires.good c.args.site.sited c.args.r erase_hotel (ap kind_of c.requires.kind_value) c.hotel_row.ensures refl (none-no c.fields.ensures c.in_ok-fields.was)
+    (rw (c.hotel.ensures.grid, c.hotel.ensures.words) at c.erase.ensures)
+    ∙ answered-by c.args.diary.good c.args.diary.site.sited c.args.r erase_hotel (ap kind_of c.requires.kind_value) c.hotel_row.ensures refl (none-no c.fields.ensures c.in_ok-fields.was)

@@ -4,7 +4,8 @@ use mathlib.Core.Path.{refl, ◌∙◌, ap}
 use Rattle.model.specs.Answers.{done_with}
 use Rattle.model.specs.Kinds.{kind_of, Kind.remove_visitor}
 use Rattle.judge.specs.Chains.{in_words}
-use Rattle.judge.proofs.Whole.{err-is, none-no, refused-fields, ready}
+use Rattle.model.proofs.Answers.{err-is}
+use Rattle.judge.proofs.Whole.{none-no, refused-fields, ready}
 use Rattle.judge.proofs.Meanings.{answered-by}
 use Rattle.judge.proofs.visitors.remove_visitor.Goals as goal
 
@@ -12,14 +13,13 @@ pub returns-in_err-fields : goal.returns-in_err-fields
 unfolding kind_of
 returns-in_err-fields c =
     err-is _ c.from_residual.ensures.1
-    ∙ refused-fields c.requires.good c.args.r remove_visitor (ap kind_of c.requires.kind_value) c.visitor_row.ensures refl c.fields.ensures c.in_err-fields.was
+    ∙ refused-fields c.args.diary.good c.args.r remove_visitor (ap kind_of c.requires.kind_value) c.visitor_row.ensures refl c.fields.ensures c.in_err-fields.was
 
 pub bookings-requires : goal.bookings-requires
 unfolding kind_of
 bookings-requires c =
-    let h = ready c.requires.good c.args.r remove_visitor (ap kind_of c.requires.kind_value) c.visitor_row.ensures refl (none-no c.fields.ensures c.in_ok-fields.was) in
+    let h = ready c.args.diary.good c.args.r remove_visitor (ap kind_of c.requires.kind_value) c.visitor_row.ensures refl (none-no c.fields.ensures c.in_ok-fields.was) in
     record {
-      good = c.requires.good;
       visitor_lt_visitors = h.b;
       first_le_last = h.order;
       last_lt_dates = h.slot;
@@ -29,4 +29,4 @@ pub returns : goal.returns
 unfolding kind_of in_words
 returns c =
     ap done_with c.bookings.ensures
-    ∙ answered-by c.requires.good c.args.site.sited c.args.r remove_visitor (ap kind_of c.requires.kind_value) c.visitor_row.ensures refl (none-no c.fields.ensures c.in_ok-fields.was)
+    ∙ answered-by c.args.diary.good c.args.diary.site.sited c.args.r remove_visitor (ap kind_of c.requires.kind_value) c.visitor_row.ensures refl (none-no c.fields.ensures c.in_ok-fields.was)

@@ -5,8 +5,8 @@ use lib.ListN.{length}
 use Rattle.lines.proofs.Turns.{So}
 use Rattle.lines.proofs.stream.answer_lines.Given as goal
 
-abbrev pub invariant-loop-i : goal.invariant-loop-i
-invariant-loop-i l = So l.s l.initial.book l.chunk l.initial.out l.from l.book l.out l.at l.i
+abbrev pub invariant-loop-t : goal.invariant-loop-t
+invariant-loop-t l = So l.s l.initial.book l.chunk l.initial.out l.from l.book l.out l.at l.i
 
-abbrev pub decreases-loop-i : goal.decreases-loop-i
-decreases-loop-i l = length l.chunk - l.i
+abbrev pub decreases-loop-t : goal.decreases-loop-t
+decreases-loop-t l = length l.chunk - l.i

@@ -1,60 +1,42 @@
--- The sessions before i are counted.
+-- The sessions, one by one.
 -- Assumes nothing.
 use Prim.Native.Nat.{ℕ, ◌-◌}
-use mathlib.Core.Path.{◌≡◌, ◌∙◌, ap}
+use mathlib.Core.Path.{◌≡◌, refl, ◌∙◌}
 use native.Mathlib.Omega.{arith}
-use lib.ListN.{length, length-append}
+use lib.ListN.{length}
+use Rattle.std.proofs.Common.{rules}
+use Rattle.std.specs.List.{range_with_len}
+use Rattle.std.proofs.lemmas.Iterator.{YieldsList-from_range, YieldsList-from_map}
+use Rattle.std.proofs.lemmas.Iterator.Consumers.{sum_by_from_yields_List, fits_by_from_yields_list}
 use Rattle.model.specs.Reading.{state_of}
-use Rattle.model.specs.Page.{join_from, session_lines}
+use Rattle.model.specs.Page.{session_lines}
 use Rattle.book.specs.Lent.{reading}
-use Rattle.book.proofs.Goods.{good-laid}
-use Rattle.units.proofs.Slots.{all-sessions}
+use Rattle.queries.proofs.Ranges.{sum-range}
 use Rattle.pages.specs.Pages.{between}
-use Rattle.pages.proofs.Joins.{join-next, join-start}
+use Rattle.pages.proofs.Joins.{join-length}
+use Rattle.pages.proofs.Shows.{between-few}
 use Rattle.pages.proofs.counts.lines_between.Goals as goal
 
-pub loop-i-init : goal.loop-i-init
-loop-i-init c =
-    let a = c.args in (
-      omega arith,
-      omega (arith, c.requires.from_le_to),
-      ap length
-          (join-start (session_lines (state_of (reading a.diary.now))) a.from.0),
-      omega arith,
-    )
-
-pub lines_in-n-requires : goal.lines_in-n-requires
-lines_in-n-requires c = record {
-  good = c.requires.good;
-  session_bound = omega (arith, c.requires.from_le_to);
-}
-
-pub overflow_add-n : goal.overflow_add-n
-overflow_add-n c =
-    omega (arith, c.lines_in-n.ensures.few, c.requires.from_le_to, all-sessions _ (good-laid c.requires.good).ranges)
-
-pub loop-i-preserved : goal.loop-i-preserved
-loop-i-preserved c =
+pub sum-requires-clause-fits : goal.sum-requires-clause-fits
+unfolding between
+sum-requires-clause-fits c =
     let a = c.args in
-    let f = session_lines (state_of (reading a.diary.now)) in (
-      omega arith,
-      omega arith,
-      omega (
-        arith,
-        c.loop-i.invariant.2,
-        c.lines_in-n.ensures.is,
-        ap length (join-next f a.from.0 c.loop-i.i c.loop-i.invariant.0),
-        length-append (join_from f a.from.0 (c.loop-i.i - a.from.0)) (f c.loop-i.i),
-      ),
-      omega (arith, c.lines_in-n.ensures.few),
-    )
+    let x = state_of (reading a.diary.words.now) in
+    let f : ℕ → ℕ = λ i. length (session_lines x i) in
+    let n = a.to.0 - a.from.0 in
+    fits_by_from_yields_list f (range_with_len a.from.0 n) c.map.result _
+    (YieldsList-from_map _ f (YieldsList-from_range a.from.0 a.to.0 n c.map.ensures.source refl) c.map.ensures.closure (λ x r q k. search rules))
+    (omega (arith, sum-range f a.from.0 n, join-length (session_lines x) a.from.0 n, between-few a.diary.good a.from.0 a.to.0 c.requires.1))
 
 pub returns : goal.returns
 unfolding between
 returns c =
     let a = c.args in
-    let e : c.loop-i.i ≡ a.to.0 = omega arith in
-    record {
-      is = c.loop-i.invariant.2 ∙ ap (λ (k : ℕ). length (join_from (session_lines (state_of (reading a.diary.now))) a.from.0 (k - a.from.0))) e;
-      few = omega (arith, c.loop-i.invariant.3, c.requires.from_le_to, all-sessions _ (good-laid c.requires.good).ranges);
-    }
+    let x = state_of (reading a.diary.words.now) in
+    let f : ℕ → ℕ = λ i. length (session_lines x i) in
+    let n = a.to.0 - a.from.0 in
+    let is : c.sum.result ≡ length (between x a.from.0 a.to.0)
+    = sum_by_from_yields_List f (range_with_len a.from.0 n) c.map.result _ c.sum.ensures.ran
+    (YieldsList-from_map _ f (YieldsList-from_range a.from.0 a.to.0 n c.map.ensures.source refl) c.map.ensures.closure (λ x r q k. search rules))
+    ∙ sum-range f a.from.0 n ∙ join-length (session_lines x) a.from.0 n in
+    record { is = is; few = omega (arith, is, between-few a.diary.good a.from.0 a.to.0 c.requires.1) }

@@ -17,17 +17,16 @@ loop-i-init c =
       omega arith,
       omega (arith, c.requires.from_le_to),
       written_none a.page.now 0
-          (join-start (session_lines (state_of (reading a.diary.now))) a.from.0),
+          (join-start (session_lines (state_of (reading a.diary.words.now))) a.from.0),
     )
 
 pub put_session-at-requires : goal.put_session-at-requires
 unfolding between
 put_session-at-requires c =
     let a = c.args in
-    let room = still-room (session_lines (state_of (reading a.diary.now))) a.from.0 c.loop-i.i a.to.0 c.loop-i.invariant.0 (omega arith)
+    let room = still-room (session_lines (state_of (reading a.diary.words.now))) a.from.0 c.loop-i.i a.to.0 c.loop-i.invariant.0 (omega arith)
     (omega (arith, c.requires.to_in_bounds)) c.loop-i.invariant.2 in
     record {
-      good = c.requires.good;
       session_bound = omega (arith, c.requires.from_le_to);
       session_in_bounds = room;
     }
@@ -37,12 +36,9 @@ loop-i-preserved c =
     let a = c.args in (
       omega (arith, c.loop-i.invariant.0),
       omega (arith, c.loop-i-test.true),
-      written-more (join-next (session_lines (state_of (reading a.diary.now))) a.from.0 c.loop-i.i c.loop-i.invariant.0) c.loop-i.invariant.2
+      written-more (join-next (session_lines (state_of (reading a.diary.words.now))) a.from.0 c.loop-i.i c.loop-i.invariant.0) c.loop-i.invariant.2
           c.put_session-at.ensures,
     )
-
-pub shape_of-page : goal.shape_of-page
-shape_of-page c = c.loop-i.invariant.2.put.kept
 
 pub returns : goal.returns
 unfolding between
@@ -50,4 +46,4 @@ returns c =
     let a = c.args in
     let e : c.loop-i.i ≡ a.to.0 = omega arith in
     subst (λ (k : ℕ). Put a.page.now c.loop-i.page 0
-    (page_bytes (join_from (session_lines (state_of (reading a.diary.now))) a.from.0 (k - a.from.0)))) e c.loop-i.invariant.2.put
+    (page_bytes (join_from (session_lines (state_of (reading a.diary.words.now))) a.from.0 (k - a.from.0)))) e c.loop-i.invariant.2.put

@@ -9,4 +9,4 @@ use Rattle.pages.proofs.lines.put_sessions.Given as goal
 
 abbrev pub invariant-loop-i : goal.invariant-loop-i
 invariant-loop-i l = (l.fn.from.0 ≤ l.i) × (l.i ≤ l.fn.to.0) × Written l.initial.page l.page 0
-    (join_from (session_lines (state_of (reading l.diary))) l.fn.from.0 (l.i - l.fn.from.0)) l.at
+    (join_from (session_lines (state_of (reading l.diary.words.now))) l.fn.from.0 (l.i - l.fn.from.0)) l.at

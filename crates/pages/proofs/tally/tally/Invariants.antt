@@ -6,4 +6,4 @@ use Rattle.pages.proofs.Shows.{Tallied}
 use Rattle.pages.proofs.tally.tally.Given as goal
 
 abbrev pub invariant-loop-v : goal.invariant-loop-v
-invariant-loop-v l = (l.v ≤ l.visitors) × Tallied l.site.grids.attend (reading l.diary) l.session.0 l.v l.table
+invariant-loop-v l = (l.v ≤ l.diary.site.settings.visitors) × Tallied l.attend.grid (reading l.attend.words.now) l.session.0 l.v l.table

@@ -17,17 +17,17 @@ use Rattle.queries.proofs.bookings.bookings.Goals as goal
 pub sum-requires-clause-fits : goal.sum-requires-clause-fits
 sum-requires-clause-fits c =
     let a = c.args in
-    let x = state_of (reading a.book.now) in
+    let x = state_of (reading a.diary.words.now) in
     let f : ℕ → ℕ = λ d. bookings x a.visitor d d in
     let n = a.last.0 + 1 - a.first.0 in
     fits_by_from_yields_list f (range_with_len a.first.0 n) c.map.result _
     (YieldsList-from_map _ f (YieldsList-from_range a.first.0 (a.last.0 + 1) n c.map.ensures.source refl) c.map.ensures.closure (λ x r q k. search rules))
-    (omega (arith, sum-range f a.first.0 n, bookings-sum x a.visitor a.first.0 a.last.0 c.requires.first_le_last, bookings-few c.requires.good a.visitor a.first.0 a.last.0))
+    (omega (arith, sum-range f a.first.0 n, bookings-sum x a.visitor a.first.0 a.last.0 c.requires.first_le_last, bookings-few c.args.diary.good a.visitor a.first.0 a.last.0))
 
 pub returns : goal.returns
 returns c =
     let a = c.args in
-    let x = state_of (reading a.book.now) in
+    let x = state_of (reading a.diary.words.now) in
     let f : ℕ → ℕ = λ d. bookings x a.visitor d d in
     let n = a.last.0 + 1 - a.first.0 in
     sum_by_from_yields_List f (range_with_len a.first.0 n) c.map.result _ c.sum.ensures.ran

@@ -18,6 +18,6 @@ pub returns : goal.returns
 unfolding column_count
 returns c =
     let a = c.args in
-    let t : ℕ → Bool = λ k. not (eqb (cell_at a.g (reading a.book.now) k a.item) 0) in
+    let t : ℕ → Bool = λ k. not (eqb (cell_at a.g.grid (reading a.g.words.now) k a.item) 0) in
     any_from_yields_List t _ _ _ c.any.ensures.ran (YieldsList-from_range a.lo a.hi (a.hi - a.lo) refl refl) (λ x b q k. search (rules, tests))
     ∙ any-count t a.lo (a.hi - a.lo)

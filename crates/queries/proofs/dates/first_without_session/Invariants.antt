@@ -11,5 +11,5 @@ use Rattle.units.specs.Units.{Cut}
 use Rattle.queries.proofs.dates.first_without_session.Given as goal
 
 abbrev pub invariant-loop-d : goal.invariant-loop-d
-invariant-loop-d l = (l.fn.first.0 ≤ l.d) × Cut l.site.settings sessions l.d l.from.0
-    × ((d : ℕ) → l.fn.first.0 ≤ d → d < l.d → stands_on (state_of (reading l.book)) d l.meeting ≡ true)
+invariant-loop-d l = (l.fn.first.0 ≤ l.d) × Cut l.diary.site.settings sessions l.d l.from.0
+    × ((d : ℕ) → l.fn.first.0 ≤ d → d < l.d → stands_on (state_of (reading l.diary.words.now)) d l.meeting ≡ true)

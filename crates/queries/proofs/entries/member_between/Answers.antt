@@ -16,6 +16,6 @@ use Rattle.queries.proofs.entries.member_between.Goals as goal
 pub returns : goal.returns
 returns c =
     let a = c.args in
-    let t : ℕ → Bool = λ k. bit (cell_at a.g (reading a.book.now) k (a.v / 32)) (a.v % 32) in
+    let t : ℕ → Bool = λ k. bit (cell_at a.g.grid (reading a.g.words.now) k (a.v / 32)) (a.v % 32) in
     any_from_yields_List t _ _ _ c.any.ensures.ran (YieldsList-from_range a.lo a.hi (a.hi - a.lo) refl refl) (λ x b q k. search (rules, tests))
     ∙ any-between t a.lo a.hi

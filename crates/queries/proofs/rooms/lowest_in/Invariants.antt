@@ -11,13 +11,13 @@ use Rattle.queries.proofs.rooms.lowest_in.Given as goal
 
 abbrev pub invariant-loop-slot : goal.invariant-loop-slot
 invariant-loop-slot l = (l.from ≤ l.slot) × (l.slot ≤ l.to)
-    × ((k : ℕ) → l.from ≤ k → k < l.slot → room_taken (state_of (reading l.book)) l.room k ≡ false)
+    × ((k : ℕ) → l.from ≤ k → k < l.slot → room_taken (state_of (reading l.diary.words.now)) l.room k ≡ false)
 
 abbrev pub decreases-loop-slot : goal.decreases-loop-slot
 decreases-loop-slot l = l.to - l.slot
 
 abbrev pub invariant-rooms : goal.invariant-rooms
-invariant-rooms l = (l.next ≤ l.rooms) × ((c : ℕ) → c < l.next → free_in (state_of (reading l.book)) l.from l.to c ≡ false)
+invariant-rooms l = (l.next ≤ l.rooms) × ((c : ℕ) → c < l.next → free_in (state_of (reading l.diary.words.now)) l.from l.to c ≡ false)
 
 abbrev pub decreases-rooms : goal.decreases-rooms
 decreases-rooms l = l.rooms - l.next

@@ -13,6 +13,6 @@ use Rattle.queries.proofs.rooms.lowest_soon.Goals as goal
 pub returns : goal.returns
 returns c =
     let a = c.args in
-    let p = empty_in a.g (reading a.book.now) a.first a.middle a.last in
+    let p = empty_in a.g.grid (reading a.g.words.now) a.first a.middle a.last in
     lowest-found p a.items c.find.result
     (first_from_Range _ _ _ c.find.result (λ k. p k ≡ true) (λ k. p k ≡ false) c.find.ensures.ran (λ x q k. search (rules, tests)) (λ x q k. search (rules, tests)))

@@ -1,36 +1,30 @@
--- The second word of the meeting's cell, if the first names the room.
+-- The word of the seats, times the weight of what the cell holds.
 -- Assumes nothing.
-use Rattle.book.specs.Lent.{reading}
-use mathlib.Core.Path.{sym, ◌∙◌}
 use native.Mathlib.Omega.{arith}
-use Rattle.model.specs.Words.{lunch_triples}
-use Rattle.book.proofs.Entries.{word-is}
-use Rattle.book.proofs.Goods.{good-laid, good-lies}
-use Rattle.queries.proofs.Shows.{seats-own, seats-other}
+use Rattle.book.specs.Lent.{reading}
+use Rattle.queries.proofs.Weights.{weight-lt, weighed}
 use Rattle.queries.proofs.rooms.seats_at.Goals as goal
 
-pub cell-requires-clause-lies : goal.cell-requires-clause-lies
-cell-requires-clause-lies c = rw c.args.site.sited (good-lies c.requires.good lunch_triples)
-
-pub overflow_add-room : goal.overflow_add-room
-overflow_add-room c = omega (arith, (good-laid c.requires.good).ranges.dining)
-
-pub returns-then-cell-room : goal.returns-then-cell-room
-returns-then-cell-room c =
+pub bounds-weights-at : goal.bounds-weights-at
+bounds-weights-at c =
     let a = c.args in
-    let e = rw c.args.site.sited at c.cell.ensures in
-    seats-other a.site.settings (reading a.book.now) c.requires.good a.date.0 a.room a.meeting c.requires.date_lt_dates c.requires.room_lt_dining
-    c.requires.meeting_lt_meetings
-    (λ q. c.if-cell-room.true (e ∙ q))
+    let e = rw (c.lunch-lunch.ensures.grid, c.lunch-lunch.ensures.words, a.diary.site.sited) at c.cell-at.ensures in
+    weight-lt a.diary.site.settings (reading a.diary.words.now) a.diary.good a.date.0 a.room a.meeting
+    c.requires.date_lt_dates c.requires.room_lt_dining c.requires.meeting_lt_meetings _ e
 
-pub word-requires-clause-lies : goal.word-requires-clause-lies
-word-requires-clause-lies c = rw c.args.site.sited (good-lies c.requires.good lunch_triples)
+pub overflow_mul-result : goal.overflow_mul-result
+overflow_mul-result c =
+    let a = c.args in
+    let e = rw (c.lunch-lunch.ensures.grid, c.lunch-lunch.ensures.words, a.diary.site.sited) at c.cell-at.ensures in
+    let w = rw (c.lunch-lunch.ensures.grid, c.lunch-lunch.ensures.words, a.diary.site.sited) at c.word.ensures in
+    let t = weighed a.diary.site.settings (reading a.diary.words.now) a.diary.good a.date.0 a.room a.meeting
+    c.requires.date_lt_dates c.requires.room_lt_dining c.requires.meeting_lt_meetings _ _ w e in
+    rw c.requires.weighed (omega (arith, t.few))
 
 pub returns : goal.returns
 returns c =
     let a = c.args in
-    let e = rw c.args.site.sited at c.cell.ensures in
-    let w = rw c.args.site.sited at c.word.ensures in
-    seats-own a.site.settings (reading a.book.now) c.requires.good a.date.0 a.room a.meeting c.requires.date_lt_dates c.requires.room_lt_dining
-    c.requires.meeting_lt_meetings
-    _ (sym e ∙ c.if-cell-room.false) (w ∙ word-is a.site.settings (reading a.book.now) lunch_triples a.date.0 a.meeting 1)
+    let e = rw (c.lunch-lunch.ensures.grid, c.lunch-lunch.ensures.words, a.diary.site.sited) at c.cell-at.ensures in
+    let w = rw (c.lunch-lunch.ensures.grid, c.lunch-lunch.ensures.words, a.diary.site.sited) at c.word.ensures in
+    rw c.requires.weighed (weighed a.diary.site.settings (reading a.diary.words.now) a.diary.good a.date.0 a.room a.meeting
+    c.requires.date_lt_dates c.requires.room_lt_dining c.requires.meeting_lt_meetings _ _ w e)

@@ -6,4 +6,4 @@ use Rattle.questions.proofs.cells.first_without.Goals as goal
 
 pub returns : goal.returns
 unfolding first_without
-returns c = c.first_slot.ensures _ (λ i b l h p. search rules)
+returns g c = c.lowest.ensures _ (λ i b l h p. search rules)

@@ -8,12 +8,12 @@ use Rattle.questions.specs.Asked.{not_held}
 use Rattle.questions.proofs.slots.not_held.Goals as goal
 
 pub date_of-date-requires : goal.date_of-date-requires
-date_of-date-requires c = (good-laid c.requires.good).ranges
+date_of-date-requires c = (good-laid c.args.diary.good).ranges
 
 pub lunch_held-requires-clause-date_lt_dates : goal.lunch_held-requires-clause-date_lt_dates
 lunch_held-requires-clause-date_lt_dates c =
     let a = c.args in
-    rw c.date_of-date.ensures (date-lt a.site.settings (good-laid c.requires.good).ranges sessions a.session.0 c.requires.session_bound)
+    rw c.date_of-date.ensures (date-lt a.diary.site.settings (good-laid c.args.diary.good).ranges sessions a.session.0 c.requires.session_bound)
 
 pub returns-then-lunch_held : goal.returns-then-lunch_held
 unfolding not_held

@@ -11,8 +11,8 @@ overflow_add-result c =
     omega (
       arith,
       c.reserved.ensures,
-      reserved-le c.requires.good a.date.0 a.room c.requires.date_lt_dates c.requires.room_lt_dining,
-      capacity-le c.requires.good a.room c.requires.room_lt_dining,
+      reserved-le c.args.diary.good a.date.0 a.room c.requires.date_lt_dates c.requires.room_lt_dining,
+      capacity-le c.args.diary.good a.room c.requires.room_lt_dining,
       c.requires.n_bound,
     )
 

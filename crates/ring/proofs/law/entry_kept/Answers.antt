@@ -7,19 +7,23 @@ use Rattle.model.specs.Tail.{word_of}
 use mathlib.Core.Path.{sym, ◌∙◌, ap}
 use native.Mathlib.Omega.{arith}
 use Rattle.model.specs.Tail.{tail_length}
-use Rattle.ring.proofs.Entries.{kept-empty, kept-twice, kept-once}
+use Rattle.ring.proofs.Entries.{zeros-at, kept-empty, kept-twice, kept-once}
 use Rattle.ring.proofs.law.entry_kept.Goals as goal
 
 pub bounds-tail-at : goal.bounds-tail-at
 unfolding tail_length
 bounds-tail-at c = omega (arith, c.requires.tail_len, c.requires.i_lt_ring_places)
 
-pub all_zero-requires : goal.all_zero-requires
+pub slice_bounds-all_zero-end : goal.slice_bounds-all_zero-end
 unfolding tail_length
-all_zero-requires c = omega (arith, c.requires.tail_len, c.requires.i_lt_ring_places)
+slice_bounds-all_zero-end c = omega (arith, c.requires.tail_len, c.requires.i_lt_ring_places)
 
 pub returns-then-order-eq0 : goal.returns-then-order-eq0
-returns-then-order-eq0 c = c.all_zero.ensures ∙ kept-empty c.args.tail.now c.args.i c.if-order-eq0.true
+unfolding tail_length
+returns-then-order-eq0 c =
+    c.all_zero.ensures
+    ∙ zeros-at c.args.tail.now c.args.i (omega (arith, c.requires.tail_len, c.requires.i_lt_ring_places))
+    ∙ kept-empty c.args.tail.now c.args.i c.if-order-eq0.true
 
 pub returns-in-Some : goal.returns-in-Some
 returns-in-Some c = kept-twice c.args.tail.now c.args.i c.if-order-eq0.false _ c.numbered.ensures _ c.in-Some.is

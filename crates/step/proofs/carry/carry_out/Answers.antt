@@ -1,7 +1,7 @@
 -- Judged by the kind's own function: a refusal leaves the book.
 -- Assumes nothing.
 use mathlib.Core.Path.{refl, sym, ◌∙◌, ap}
-use Rattle.judge.proofs.Whole.{err-is}
+use Rattle.model.proofs.Answers.{err-is}
 use Rattle.book.specs.declared.site.Site.{Site}
 use Rattle.book.proofs.Goods.{good-laid}
 use Rattle.step.proofs.Outcomes.{refused-book}
@@ -12,5 +12,5 @@ site_of-site-requires g c = (good-laid c.requires.good).ranges
 
 pub returns-in_err-value : goal.returns-in_err-value
 returns-in_err-value g c =
-    let told = c.requires.judges.says _ c.site_of-site.result _ refl (ap (λ (x : Site). x.settings) c.site_of-site.ensures) c.judge.ensures in
+    let told = c.requires.judges.says _ _ refl (ap (λ (x : Site). x.settings) c.site_of-site.ensures) c.judge.ensures in
     rw (err-is _ c.from_residual.ensures.1) (refused-book c.requires.good c.args.r (sym told ∙ c.in_err-value.was))

@@ -4,7 +4,8 @@ use mathlib.Core.Path.{refl, sym, ap}
 use Rattle.book.specs.Lent.{reading}
 use Rattle.book.proofs.Goods.{good-laid}
 use Rattle.model.specs.Kinds.{kind_of, Kind.remove_visitor}
-use Rattle.judge.proofs.Whole.{err-is, none-no, refused-fields, ready, past-seven}
+use Rattle.model.proofs.Answers.{err-is}
+use Rattle.judge.proofs.Whole.{none-no, refused-fields, ready, past-seven}
 use Rattle.step.proofs.Outcomes.{refused-book, removal-done}
 use Rattle.step.proofs.carry.remove_visitor.Goals as goal
 

@@ -11,5 +11,6 @@ pub returns : goal.returns
 returns c =
     let a = c.args in
     let k : a.at + 8 - a.at ≡ 8 = omega arith in
-    let e = rw k at c.copy_from_slice.ensures.after in
+    let whole = rw c.unwrap-bytes.ensures at c.try_into.ensures.1 in
+    let e = rw k at whole.same in
     c.word_of.ensures ∙ ap word_in (bytes-read a.s.now a.at c.requires (λ i. omega (arith, c.type_inv.s i)) e c.from_be_bytes.ensures)

@@ -55,17 +55,14 @@ returns-then-not-triples c =
     c.args.self.now.lunch.now _ _ in
     λ d. said-false c.triples.result (c.if-not-triples.true) (rw few at c.triples.ensures) (record { each = λ j h. one j h (d.eaten j h); sums = d.sums })
 
-pub guest_rows-requires : goal.guest_rows-requires
-guest_rows-requires c = record {
-  ready = record {
-    few = c.args.self.now.ranges.visitors.1;
-    size = c.bar_past.auto.table;
-    same = c.guest_row.auto.seen ∙ c.bar_past.auto.table;
-    none = c.bar_past.ensures.0.none;
-    past = c.bar_past.ensures.1;
-    kept = c.guest_row.ensures.past;
-  };
-  cells_len = c.args.self.now.long.rides;
+pub rides-requires : goal.rides-requires
+rides-requires c = record {
+  few = c.args.self.now.ranges.visitors.1;
+  size = c.bar_past.auto.table;
+  same = c.guest_row.auto.seen ∙ c.bar_past.auto.table;
+  none = c.bar_past.ensures.0.none;
+  past = c.bar_past.ensures.1;
+  kept = c.guest_row.ensures.past;
 }
 
 pub returns : goal.returns
@@ -75,7 +72,7 @@ returns c =
     let slept = said-true c.guest_row.result (c.if-not-guest_row.false) c.guest_row.ensures.decides in
     let sat = said-true c.sessions.result (c.if-not-sessions.false) c.sessions.ensures in
     let lunched = said-true c.triples.result (c.if-not-triples.false) (rw few at c.triples.ensures) in
-    relay c.guest_rows.result
+    relay c.rides.result
     (λ rides. record {
       pad = c.requires;
       slept = guested _ _ _ b _ slept;
@@ -85,4 +82,4 @@ returns c =
       ridden = λ i h. guested _ _ _ b _ (rides i h);
     })
     (λ d i h. guests _ _ _ b _ (d.ridden i h))
-    c.guest_rows.ensures
+    c.rides.ensures

@@ -1,9 +1,0 @@
--- What the search finds.
--- Assumes nothing.
-use Rattle.std.proofs.Common.{rules}
-use Rattle.questions.specs.Asked.{first_not_member}
-use Rattle.questions.proofs.short.first_not_member.Goals as goal
-
-pub returns : goal.returns
-unfolding first_not_member
-returns c = c.first_soon.ensures _ (λ i b l h p. search rules)
