@@ -117,7 +117,8 @@ fn is_interrupted(error: &Error) -> bool
     error.kind() == ErrorKind::Interrupted
 }
 
-// Reads once; a call that a signal interrupted is made again.
+// Reads once; a call that a signal interrupted is made again. As many turns as a number of 64 bits, here and below: a loop that ends by itself
+// has to show that it ends, and how often the system lets it go on is in no contract.
 fn receive<R: Read>(input: &mut R, chunk: &mut [u8]) -> io::Result<usize>
     ensures bound { ReadsAtMost result chunk.new }
     ensures bytes { ReadConsumes (R.remaining input.old) (R.remaining input.new) result chunk.new }

@@ -4,13 +4,14 @@ use Prim.Native.Nat.{ℕ}
 use mathlib.Core.Path.{◌≡◌, refl, sym, ◌∙◌, ap}
 use mathlib.Core.List.{List, [], ◌++◌, append-nil}
 use lib.ListN.{take}
-use Rattle.model.specs.Ledger.{ledger_of}
+use Rattle.model.specs.Ledger.{book_words, ledger_of}
 use Rattle.model.specs.Lines.{frames}
 use Rattle.lines.specs.Stream.{Point, opening, Turn, silent, behind, run, closed}
 use Rattle.lines.specs.Post.{point_at, point_of, held_of, Going, Moved, Begun}
 use Rattle.lines.specs.declared.stream.Phase.{Phase}
-use Rattle.lines.specs.declared.stream.Phase.TheVariants.{Over}
+use Rattle.lines.specs.declared.stream.Phase.TheVariants.{Later, Over}
 use Rattle.lines.specs.declared.stream.Stream.{Stream}
+use Rattle.model.proofs.Ledger.{words-ledger_of}
 use Rattle.lines.proofs.Turns.{run_none}
 use Rattle.lines.proofs.Streams.{begun}
 use Rattle.lines.proofs.Whole.{whole, run-append, whole_append, whole-over, whole-frames}
@@ -56,3 +57,7 @@ ran_over {i} {w} {b} {s} r h rest =
     ∙ ap (λ (t : Turn). t.out ++ (whole t.point rest).out) (sym r.same)
     ∙ ap (λ (t : Turn). t.out) (sym (whole_append (opening []) i rest))
     ∙ whole-frames (i ++ rest)
+
+-- behind a good settings line the book's words are those of the machine's ledger
+pub book-shown : {s : Stream} {b : List ℕ} → Going s b → s.phase ≡ Later → book_words (ledger_of (take s.size b)) ≡ take s.size b
+book-shown {s} {b} g h = let k = g.sized.good h in words-ledger_of (take s.size b) k.laid k.lawful
