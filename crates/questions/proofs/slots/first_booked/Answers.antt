@@ -1,8 +1,8 @@
 -- The visitor has no entry on a date before `from`.
 -- Assumes nothing.
 use Prim.Native.Nat.{ℕ, suc}
-use mathlib.Core.Path.{refl, sym, ◌∙◌, ap}
-use mathlib.Core.Bool.{Bool, not}
+use mathlib.Core.Path.{sym, ◌∙◌}
+use mathlib.Core.Bool.{Bool}
 use native.Mathlib.Omega.{arith}
 use borrow.Author.Tests.{not-false, not-true}
 use Rattle.model.specs.Reading.{state_of}
@@ -10,7 +10,7 @@ use Rattle.model.proofs.Search.{failing-at, none-failing, passed-more}
 use Rattle.book.specs.Lent.{reading}
 use Rattle.book.proofs.Goods.{good-laid}
 use Rattle.queries.proofs.Found.{found-in, found-past, found-none}
-use Rattle.questions.specs.Asked.{NoBookings, holds_in}
+use Rattle.questions.specs.Asked.{holds_in}
 use Rattle.questions.proofs.Booked.{none-past}
 use Rattle.questions.proofs.slots.first_booked.Goals as goal
 

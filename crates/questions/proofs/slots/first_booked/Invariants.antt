@@ -1,7 +1,6 @@
 -- The visitor has no entry on a date before `from`.
 -- Assumes nothing.
 use Prim.Native.Nat.{suc, ◌-◌, ◌≤◌}
-use Rattle.book.specs.Lent.{reading}
 use Rattle.questions.proofs.Booked.{NoneBefore}
 use Rattle.questions.proofs.slots.first_booked.Given as goal
 
