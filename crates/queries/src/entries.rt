@@ -46,7 +46,7 @@ pub fn on_leave(diary: Diary<'_>, date: Date, visitor: u32) -> bool
 }
 
 // The lowest slot of first..last that has bit v. A call, and not compiled into its callers: of a loop among their other work the compiler keeps
-// what they make of the slot in memory, for each slot that is passed, and a slot then takes up to twice as long.
+// what they make of the slot in memory, for each slot that is passed, and a slot then takes up to 1.7 times as long.
 #[inline(never)]
 pub fn first_member(g: Cells<'_>, v: u32, first: u32, last: u32) -> Option<u32>
     requires last_lt_slots { last < g.grid.slots }

@@ -2,14 +2,12 @@
 ghost use Rattle.std.specs.Prelude.{ℕ, ◌≡◌, ◌≤◌};
 ghost use Rattle.queries.specs.Found.{IsFirst, middle_of};
 
-// The lowest slot of first..last for which `found` says yes. The numbers are counted in 64 bits: a range that has its end in it keeps a flag
-// beside the slot, and over a long run a turn takes half as long again.
+// The lowest slot of first..last for which `found` says yes.
 pub fn first_slot<F: Fn(u32) -> bool>(first: u32, last: u32, found: F) -> Option<u32>
     requires { (i : ℕ) → first ≤ i → i ≤ last → F.pre found i }
     ensures { IsFirst (F.post found) first last result }
 {
-    for n in first as u64..last as u64 + 1 {
-        let i = n as u32;
+    for i in first..=last {
         if found(i) {
             return Some(i);
         }
