@@ -62,6 +62,7 @@ module _ (g : Grid) (on : Bool) (v : ℕ) (hv : v / 32 < g.items) where
       ap (λ (y : ℕ). set (set b n x) n y) e ∙ set-get_or (set b n x) n 0
 
   in-book : (i : ℕ) (b : List ℕ) → Lies g b → i < g.slots → place g i (v / 32) 0 < length b
+  unfolding Lies
   in-book i b f hi = omega (arith, f.ends, f.wide, (cell_room g.width hi hv).room)
 
   -- the slots of a short run, the last one marked again where they are fewer than three

@@ -1,13 +1,17 @@
 -- A removal date by date: the dates one after the other, and a date without leave, on which there is nothing to remove.
 -- Assumes nothing.
-use Prim.Native.Nat.{ℕ, suc, ◌+◌, ◌≤◌, ◌<◌}
+use Prim.Native.Nat.{ℕ, zero, suc, ◌+◌, ◌-◌, ◌≤◌, ◌<◌}
 use mathlib.Core.Path.{◌≡◌, refl, sym, ◌∙◌, ap, subst}
-use mathlib.Core.Bool.{false}
+use mathlib.Core.Bool.{Bool, true, false, not}
 use mathlib.Core.List.{List}
 use native.Mathlib.Omega.{arith}
+use lib.Dec.{leb}
+use borrow.Author.Tests.{leb-true, leb-false}
+use Rattle.std.specs.Prelude.{Option, Some, None}
 use Rattle.model.specs.declared.Settings.{Settings}
 use Rattle.model.specs.State.{State}
 use Rattle.model.specs.Kinds.{sessions, times, Kind.remove_visitor}
+use Rattle.model.specs.Bounded.{failing}
 use Rattle.model.specs.Questions.{bookings}
 use Rattle.model.specs.Machine.{change}
 use Rattle.model.specs.Words.{leaves, hotel_cells, attend_cells, ride_cells, words}
@@ -28,8 +32,9 @@ use Rattle.book.proofs.Goods.{good-words}
 use Rattle.book.proofs.Regions.{group-lt}
 use Rattle.book.proofs.RowRuns.{one-row}
 use Rattle.book.proofs.Turns.{wrote_then}
+use Rattle.queries.proofs.Found.{found-in, found-past, found-none}
 use Rattle.queries.proofs.Runs.{bookings-is}
-use Rattle.queries.proofs.Spans.{bookings-none, bookings-few}
+use Rattle.queries.proofs.Spans.{bookings-none, bookings-none-on, bookings-few}
 use Rattle.apply.specs.Removals.{removal, without, Erased}
 use Rattle.apply.specs.Stores.{marked_all, Emptied}
 use Rattle.apply.proofs.Writes.{swept-writes, marked_all-writes}
@@ -110,6 +115,43 @@ removing-end {S} {v} {first} {last} {b₀} {d} r h = (
   none_left r.good v d last h ∙ ap words r.rest,
   omega (arith, r.count, bookings-none r.good v d last (λ i l k. absurd (omega (arith, h, l, k)))),
 )
+
+-- dates without leave are passed: nothing is to be removed on them
+pub removing-past : {S : Settings} {v first last : ℕ} {b₀ : List ℕ} {d : ℕ} {b : List ℕ} {n : ℕ} → Removing S v first last b₀ d b n
+    → (e : ℕ) → d ≤ e → e ≤ suc last → ((i : ℕ) → d ≤ i → i < e → (state_of b).leave i v ≡ false) → Removing S v first last b₀ e b n
+removing-past {S} {v} {first} {last} {b₀} {d} {b} {n} r e h l away =
+    let k : d + (e - d) ≡ e = omega (arith, h) in subst (λ (i : ℕ). Removing S v first last b₀ i b n) k (go (e - d) (omega (arith, h)))
+  where
+    go : (k : ℕ) → d + k ≤ e → Removing S v first last b₀ (d + k) b n
+    go zero m = subst (λ (i : ℕ). Removing S v first last b₀ i b n) (omega arith) r
+    go (suc k) m =
+        let p = go k (omega (arith, m)) in
+        let off = away (d + k) (omega arith) (omega (arith, m)) in
+        let q : Removing S v first last b₀ (d + k + 1) b (n + 0)
+        = removing-next p (omega (arith, m, l)) (away-kept p.good v (d + k) off) (sym (bookings-none-on p.good v (d + k) off)) in
+        let i : d + k + 1 ≡ d + suc k = omega arith in
+        let z : n + 0 ≡ n = omega arith in
+        subst (λ (i : ℕ). Removing S v first last b₀ i b n) i (subst (λ (m : ℕ). Removing S v first last b₀ (d + k + 1) b m) z q)
+
+-- the search for a date with leave passes those before it, and where it finds none all of them
+module _ {S : Settings} {v first last : ℕ} {b₀ : List ℕ} {d : ℕ} {b : List ℕ} {n : ℕ} (r : Removing S v first last b₀ d b n) {o : Option ℕ}
+    (s : o ≡ failing (λ i. not ((state_of b).leave i v)) d last) where
+  abbrev leave : ℕ → Bool
+  leave i = (state_of b).leave i v
+
+  pub removing-found : {e : ℕ} → o ≡ Some e → ((d ≤ e) × (e ≤ last)) × Removing S v first last b₀ e b n
+  removing-found {e} q =
+      let h = found-in leave d last s q in
+      (h, removing-past r e h.0 (omega (arith, h.1)) (found-past leave d last s q))
+
+  pub removing-over : o ≡ None → (b ≡ words (without (state_of b₀) v first last)) × (n ≡ bookings (state_of b₀) v first last)
+  removing-over q = go (leb d last) refl
+    where
+      go : (t : Bool) → leb d last ≡ t → (b ≡ words (without (state_of b₀) v first last)) × (n ≡ bookings (state_of b₀) v first last)
+      go true e =
+          let away = λ (i : ℕ) (a : d ≤ i) (k : i < suc last). found-none leave d last s q i a (omega (arith, k)) in
+          removing-end (removing-past r (suc last) (omega (arith, leb-true d last e)) (omega arith) away) (omega arith)
+      go false e = removing-end r (leb-false d last e)
 
 -- few enough to be counted
 pub removing-few : {S : Settings} {v first last : ℕ} {b₀ : List ℕ} {d : ℕ} {b : List ℕ} {n m : ℕ} → Good S b₀ → Removing S v first last b₀ d b n

@@ -63,7 +63,7 @@ fn mark_each<const ON: bool>(book: &mut [u32], g: Grid, v: u32, from: u32, to: u
 
 // The same. Most requests are for one to three slots, and the processor does not foresee where so short a loop ends:
 // they are marked without one.
-pub fn mark_all<const ON: bool>(book: &mut [u32], g: Grid, v: u32, from: u32, to: u32)
+fn mark_run<const ON: bool>(book: &mut [u32], g: Grid, v: u32, from: u32, to: u32)
     requires lies { Lies g (reading book.old) }
     requires to_le_slots { to ≤ g.slots }
     requires v_bound { v / 32 < g.items }
@@ -79,4 +79,19 @@ pub fn mark_all<const ON: bool>(book: &mut [u32], g: Grid, v: u32, from: u32, to
         return;
     }
     mark_each::<ON>(book, g, v, from, to);
+}
+
+// The same, with the direction as a value: a caller may have it in a variable.
+#[inline(always)]
+pub fn mark_all(book: &mut [u32], g: Grid, on: bool, v: u32, from: u32, to: u32)
+    requires lies { Lies g (reading book.old) }
+    requires to_le_slots { to ≤ g.slots }
+    requires v_bound { v / 32 < g.items }
+    ensures { Wrote (marked_all g on v from to) (reading book.old) (reading book.new) }
+{
+    if on {
+        mark_run::<true>(book, g, v, from, to);
+    } else {
+        mark_run::<false>(book, g, v, from, to);
+    }
 }

@@ -19,7 +19,7 @@ pub fn add_standing(book: &mut [u32], site: Site, r: Request)
     requires kind_value { r.kind ≡ 8 }
     ensures { reading book.new ≡ words (step (state_of (reading book.old)) r).state }
 {
-    turn::<true>(book, site.grids.standing, r.a, r.first, r.last);
+    turn(book, site.grids.standing, true, r.a, r.first, r.last);
 }
 
 // Kind 9: a meeting no longer stands.

@@ -14,8 +14,8 @@ use book::diary::Diary;
 use book::grid::Site;
 use book::runs::{sweep_long, sweep_run};
 use model::{Date, Session, Time};
-use queries::entries::on_leave;
-use units::on_dates;
+use queries::entries::first_on_leave;
+use units::{after, on_dates};
 
 // What the visitor has on a date: leave, the hotel room, the rides at its times and the meetings in its sessions; how many bookings.
 fn erase(book: &mut [u32], site: Site, v: u32, date: Date) -> u32
@@ -24,7 +24,7 @@ fn erase(book: &mut [u32], site: Site, v: u32, date: Date) -> u32
     requires date_lt_dates { date.0 < site.settings.dates }
     ensures { Erased site.settings v date.0 (reading book.old) (reading book.new) result }
 {
-    turn::<false>(book, site.grids.leave, v, date.0, date.0);
+    turn(book, site.grids.leave, false, v, date.0, date.0);
     let hotel = site.grids.hotel;
     let nights = sweep_run(book, hotel, v + 1, date.0, date.0 + 1);
     let times = on_dates::<Time>(site.settings, date, date);
@@ -36,21 +36,8 @@ fn erase(book: &mut [u32], site: Site, v: u32, date: Date) -> u32
     nights + rides + meetings
 }
 
-// A visitor without leave on the date has no entry on it.
-fn remove_on(book: &mut [u32], site: Site, v: u32, date: Date) -> u32
-    requires good { Good site.settings (reading book.old) }
-    requires v_lt_visitors { v < site.settings.visitors }
-    requires date_lt_dates { date.0 < site.settings.dates }
-    ensures book_after { reading book.new ≡ words (without (state_of (reading book.old)) v date.0 date.0) }
-    ensures value { result ≡ bookings (state_of (reading book.old)) v date.0 date.0 }
-{
-    if !on_leave(Diary { words: book, site }, date, v) {
-        return 0;
-    }
-    erase(book, site, v, date)
-}
-
-// The dates first..last, both included; how many bookings are erased.
+// The dates first..last, both included; how many bookings are erased. A visitor without leave on a date has no entry on it, so the dates with
+// leave are looked for.
 pub fn remove_visitor(book: &mut [u32], site: Site, v: u32, first: Date, last: Date) -> u32
     requires good { Good site.settings (reading book.old) }
     requires v_lt_visitors { v < site.settings.visitors }
@@ -59,8 +46,11 @@ pub fn remove_visitor(book: &mut [u32], site: Site, v: u32, first: Date, last: D
     ensures value { result ≡ bookings (state_of (reading book.old)) v first.0 last.0 }
 {
     let mut n: u32 = 0;
-    for date in first.0..last.0 + 1 {
-        n += remove_on(book, site, v, Date(date));
+    let mut from = first;
+    while let Some(d) = first_on_leave(Diary { words: book, site }, v, from, last) {
+        let date = Date(d);
+        n += erase(book, site, v, date);
+        from = after(date);
     }
     n
 }

@@ -56,12 +56,13 @@ pub fn drop(book: &mut [u32], g: Grid, who: u32, first: u32, last: u32)
 }
 
 // A member's bit set or cleared.
-pub fn turn<const ON: bool>(book: &mut [u32], g: Grid, v: u32, first: u32, last: u32)
+#[inline(always)]
+pub fn turn(book: &mut [u32], g: Grid, on: bool, v: u32, first: u32, last: u32)
     requires span { Span g (reading book.old) last }
     requires v_bound { v / 32 < g.items }
-    ensures { Wrote (marked_all g ON v first (last + 1)) (reading book.old) (reading book.new) }
+    ensures { Wrote (marked_all g on v first (last + 1)) (reading book.old) (reading book.new) }
 {
-    mark_all::<ON>(book, g, v, first, last + 1);
+    mark_all(book, g, on, v, first, last + 1);
 }
 
 // Kind 9: the meeting no longer stands, and nobody attends it.
@@ -72,7 +73,7 @@ pub fn end_standing(book: &mut [u32], g: Grids, a: u32, first: Session, last: Se
     requires a_bound_2 { a < 1000 }
     ensures { Wrote (standing_ended g a first.0 last.0) (reading book.old) (reading book.new) }
 {
-    turn::<false>(book, g.standing, a, first.0, last.0);
+    turn(book, g.standing, false, a, first.0, last.0);
     let attend = g.attend;
     sweep_run(book, attend, a + 1, first.0, last.0 + 1);
 }

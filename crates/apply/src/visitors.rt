@@ -21,7 +21,7 @@ pub fn add_leave(book: &mut [u32], site: Site, r: Request)
     requires kind_value { r.kind ≡ 1 }
     ensures { reading book.new ≡ words (step (state_of (reading book.old)) r).state }
 {
-    turn::<true>(book, site.grids.leave, r.b, r.first, r.last);
+    turn(book, site.grids.leave, true, r.b, r.first, r.last);
 }
 
 // Kind 2: a visitor's leave ends.
@@ -31,7 +31,7 @@ pub fn end_leave(book: &mut [u32], site: Site, r: Request)
     requires kind_value { r.kind ≡ 2 }
     ensures { reading book.new ≡ words (step (state_of (reading book.old)) r).state }
 {
-    turn::<false>(book, site.grids.leave, r.b, r.first, r.last);
+    turn(book, site.grids.leave, false, r.b, r.first, r.last);
 }
 
 // Kind 4: a visitor gets a hotel room.

@@ -20,7 +20,7 @@ part_by b start end from n e q h =
     record { is = is; long = ap length is ∙ length-take-le n (drop from b) (omega (arith, length-drop from b)) }
 
 -- where the words of the first i rows end
-words-le : (g : Grid) (n : ℕ) → Fits g n → (i : ℕ) → i ≤ g.slots → g.base + i * g.items * g.width ≤ n
+pub words-le : (g : Grid) (n : ℕ) → Fits g n → (i : ℕ) → i ≤ g.slots → g.base + i * g.items * g.width ≤ n
 words-le g n f i h = omega (arith, mul-le-mul_right g.width (mul-le-mul_right g.items h), f.ends)
 
 pub block-by : (g : Grid) (b : List ℕ) → Fits g (length b) → (from to : ℕ) → from ≤ to → to ≤ g.slots

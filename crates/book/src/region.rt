@@ -1,6 +1,6 @@
 // The cells of a region as they are read: a grid and the words that it lies in.
 ghost use Rattle.std.specs.Prelude.{◌≡◌, not, ◌*◌, ◌-◌, ◌≤◌, ◌<◌, eqb};
-ghost use Rattle.book.specs.Lent.{reading, Lies};
+ghost use Rattle.book.specs.Lent.{reading, Lies, Lies-prop};
 ghost use Rattle.book.specs.Blocks.{Part, across, block_of};
 ghost use Rattle.book.specs.Grids.{word_at, cell_at};
 ghost use Rattle.book.specs.Rows.{rows_count, row_count, row_has, row_members};
@@ -12,7 +12,7 @@ use crate::rows::{part_count, part_has};
 pub struct Cells<'a> {
     pub words: &'a [u32],
     pub grid: Grid,
-    pub ghost lies: { Lies grid (reading words.now) },
+    pub ghost lies: { Lies grid (reading words.now) } by { Lies-prop grid (reading words.now) },
 }
 
 impl<'a> Cells<'a> {

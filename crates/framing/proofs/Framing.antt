@@ -10,7 +10,7 @@ use lib.Dec.{eqb}
 use lib.ListN.{length, take, drop, get_or, set}
 use lib.Seq.{take-length}
 use Rattle.std.proofs.lemmas.List.{take_more, take_more_set}
-use borrow.Author.Tests.{eqb-true}
+use borrow.Author.Tests.{eqb-true, eq-eqb, ne_eqb}
 use Rattle.model.specs.Answers.{Answer, done_with, refused_with}
 use Rattle.std.specs.Prelude.{Ok, Err}
 use Rattle.model.specs.Messages.{request_length, order_length, answer_words}
@@ -36,13 +36,17 @@ pub word-is : (l : List ℕ) (k : ℕ) → k < length l / 8 → shown (take 8 (d
 unfolding line_words
 word-is l k h = sym (get_d-list (λ i. shown (take 8 (drop (8 * i) l))) (length l / 8) k h)
 
-pub words_more : (l words : List ℕ) (k : ℕ) → k < length l / 8 → k < length words → take k words ≡ take k (line_words l)
+pub words_next : (l words : List ℕ) (k : ℕ) → k < length l / 8 → k < length words → take k words ≡ take k (line_words l)
     → take (k + 1) (set words k (get_or (line_words l) k 0)) ≡ take (k + 1) (line_words l)
-words_more l words k h g e =
+words_next l words k h g e =
     let n = words-length l in
     take_more_set words k (get_or (line_words l) k 0) g
     ∙ ap (λ (xs : List ℕ). xs ++ (get_or (line_words l) k 0 ∷ [])) e
     ∙ sym (take_more (line_words l) k 0 (omega arith))
+
+pub words_more : (l words : List ℕ) (k : ℕ) → k < length l / 8 → k < length words → take k words ≡ take k (line_words l)
+    → take (k + 1) (set words k (shown (take 8 (drop (8 * k) l)))) ≡ take (k + 1) (line_words l)
+words_more l words k h g e = ap (λ (x : ℕ). take (k + 1) (set words k x)) (word-is l k h) ∙ words_next l words k h g e
 
 -- what shows nothing fails its test
 pub shows-none : {A : Type 0} (t : Bool) (a : A) → None ≡ cond t (Some a) None → t ≡ false
@@ -53,6 +57,34 @@ shows-none false a e = refl
 module _ (l : List ℕ) where
   pub digits_from : (m : ℕ) {t d : Bool} → t ≡ digits_only (take m l) → d ≡ digits_only (take 8 (drop m l)) → t && d ≡ digits_only (take (m + 8) l)
   digits_from m e f = ap₂ ◌&&◌ e f ∙ sym (digits_more l m 8)
+
+  -- whether eight bytes show a word
+  pub shows : (m : ℕ) {d : Bool} → d ≡ is_some (word_in (take 8 (drop m l))) → d ≡ digits_only (take 8 (drop m l))
+  shows m e = e ∙ by (digits_only (take 8 (drop m l)))
+    where
+      by : (t : Bool) → is_some (cond t (Some (shown (take 8 (drop m l)))) None) ≡ t
+      by true = refl
+      by false = refl
+
+  pub digits_of : (k : ℕ) → digits_only l ≡ true → 8 * k + 8 ≤ length l → digits_only (take 8 (drop (8 * k) l)) ≡ true
+  digits_of k e h = digits-part l (8 * k) 8 (length l) h (rw (take-length l) e)
+
+  -- whole words
+  pub whole_by : (k : ℕ) {t : Bool} → k ≡ length l / 8 → length l % 8 ≡ 0 → t ≡ digits_only (take (8 * k) l) → t ≡ whole_words l
+  whole_by k n w e =
+      let s : 8 * k ≡ length l = omega arith in
+      e ∙ ap (λ (m : ℕ). digits_only (take m l)) s ∙ ap digits_only (take-length l) ∙ sym (and_yes (digits_only l)) ∙ simp (eq-eqb (length l % 8) 0 w)
+    where
+      and_yes : (t : Bool) → t && true ≡ t
+      and_yes true = refl
+      and_yes false = refl
+
+  pub not-whole : (length l % 8 ≡ 0 → ⊥) → false ≡ whole_words l
+  not-whole h = sym (and_no (digits_only l)) ∙ simp (ne_eqb (length l % 8) 0 h)
+    where
+      and_no : (t : Bool) → t && false ≡ false
+      and_no true = refl
+      and_no false = refl
 
   -- words in front of a line: not all of them show one, and all of them
   word-shown : (m : ℕ) {t : Bool} → m + 8 ≤ request_digits → digits_only (take request_digits l) ≡ true → t ≡ is_some (word_in (take 8 (drop m l))) → t ≡ true
@@ -94,8 +126,7 @@ module _ (l : List ℕ) where
   -- each word of a line of digits
   pub word_by : (k : ℕ) → digits_only l ≡ true → k < length l / 8 → word_in (take 8 (drop (8 * k) l)) ≡ Some (get_or (line_words l) k 0)
   word_by k d h =
-      let e = digits-part l (8 * k) 8 (length l) (omega arith) (rw (take-length l) d) in
-      cond-true (digits_only (take 8 (drop (8 * k) l))) (Some (shown (take 8 (drop (8 * k) l)))) None e ∙ ap Some (word-is l k h)
+      cond-true (digits_only (take 8 (drop (8 * k) l))) (Some (shown (take 8 (drop (8 * k) l)))) None (digits_of k d (omega arith)) ∙ ap Some (word-is l k h)
 
 -- the lengths of frames
 module _ (l : List ℕ) where

@@ -1,10 +1,9 @@
 // Lines: what stands at the front of the input, the words of a settings line, and the line of an answer.
 ghost use Rattle.std.specs.Prelude.{◌≡◌, ◌==◌, true, ◌+◌, ◌/◌, ◌≤◌, length, take, position};
-ghost use Rattle.std.specs.List.{list_all};
 ghost use Rattle.model.specs.Messages.{answer_words};
 ghost use Rattle.model.specs.Text.{hexadecimal};
 ghost use Rattle.model.specs.Lines.{whole_words, line_words, answer_line, answer_digits, answer_bytes};
-ghost use Rattle.text.specs.Digits.{is_digit, digits_only};
+ghost use Rattle.text.specs.Digits.{digits_only};
 ghost use Rattle.text.specs.Put.{Put};
 ghost use Rattle.framing.specs.Frame.{request_at};
 ghost use Rattle.framing.specs.Front.{NoFrame, DigitsAhead, NextOf};
@@ -94,25 +93,18 @@ pub fn look(s: &[u8]) -> Next
     }
 }
 
-// A byte is one of the sixteen digits.
-fn is_digit(b: u8) -> bool
-    ensures { result ≡ is_digit b }
-{
-    matches!(b, b'0'..=b'9' | b'a'..=b'f')
-}
-
-// All bytes of a line are digits.
-fn all_digits(line: &[u8]) -> bool
-    ensures { result ≡ list_all (λ b. is_digit b) line.now }
-{
-    line.iter().all(|b| is_digit(*b))
-}
-
-// Whether a line is whole words: digits alone, eight to a word.
+// Whether a line is whole words: its length first, then word by word. There is no early end, since a settings line is whole words as a rule.
 pub fn whole_words(line: &[u8]) -> bool
     ensures { result ≡ whole_words line.now }
 {
-    all_digits(line) && line.len() % 8 == 0
+    if line.len() % 8 != 0 {
+        return false;
+    }
+    let mut all = true;
+    for k in 0..line.len() / 8 {
+        all &= word_at(line, 8 * k).is_some();
+    }
+    all
 }
 
 // The words of a line, at the front of `words`.

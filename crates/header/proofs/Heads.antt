@@ -17,7 +17,7 @@ use Rattle.model.specs.Reading.{settings_of}
 use Rattle.model.specs.Ledger.{book_length}
 use Rattle.model.specs.Laws.{well_laid, diary_laid}
 use Rattle.model.specs.Calls.{settings_good}
-use Rattle.std.specs.Prelude.{MatchBool, None, Option, Some}
+use Rattle.std.specs.Prelude.{MatchBool, None, Some}
 use Rattle.std.specs.List.{zip, range_with_len, AllWithin, HoldsAt}
 use Rattle.std.proofs.lemmas.List.FromFn.{length-range_with_len, get_or-range_with_len}
 use Rattle.std.proofs.lemmas.Slice.Zip.{length-zip, get_or-zip}

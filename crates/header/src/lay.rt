@@ -6,13 +6,16 @@ ghost use Rattle.book.specs.Good.{answered};
 use crate::settings::{length_of, settings, settings_good};
 use model::{Answer, refused};
 
-// The words, then zeros to the end of the book.
+// The words, then zeros to the end of the book. Word by word: a copy of a slice whose length is not known would have the archive for C need
+// `memmove` from outside.
 fn fill(words: &[u32], book: &mut [u32])
     requires { length words.now ≤ length book.old }
     ensures { book.new ≡ words.now ++ replicate (length book.old - length words.now) 0 }
 {
     let (head, rest) = book.split_at_mut(words.len());
-    head.copy_from_slice(words);
+    for (i, word) in head.iter_mut().enumerate() {
+        *word = words[i];
+    }
     rest.fill(0);
 }
 

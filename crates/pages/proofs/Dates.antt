@@ -60,7 +60,7 @@ pub ordered : {S : Settings} (d : ℕ) {lo hi : ℕ} → OnDates S sessions d d 
 ordered d on = (run-order _ sessions d d _ _ on (omega arith), on.ends.most)
 
 module _ {S : Settings} {b : List ℕ} (good : Good S b) (d : ℕ) {lo hi : ℕ} (on : OnDates S sessions d d lo hi) where
-  date-lines : between (state_of b) lo hi ≡ page_lines (state_of b) d
+  pub date-lines : between (state_of b) lo hi ≡ page_lines (state_of b) d
   unfolding read_state
   date-lines =
       lines-on (state_of b) d lo hi (ordered d on).0

@@ -1,12 +1,13 @@
 -- A search for the lowest slot of a run: what the slots behind it answered, and what is found.
 -- Assumes nothing.
-use Prim.Native.Nat.{ℕ, ◌+◌, ◌≤◌, ◌<◌}
-use mathlib.Core.Path.{◌≡◌, refl, sym, subst}
-use mathlib.Core.Bool.{Bool, true, false, cond}
+use Prim.Native.Nat.{ℕ, suc, ◌+◌, ◌-◌, ◌≤◌, ◌<◌}
+use mathlib.Core.Path.{◌≡◌, refl, sym, ◌∙◌, ap, subst}
+use mathlib.Core.Bool.{Bool, true, false, cond, not}
 use native.Mathlib.Omega.{arith}
 use native.Mathlib.Decide.{ℕ_discrete}
-use Rattle.std.specs.Prelude.{Some, None}
-use Rattle.model.proofs.Search.{failing-at, none-failing}
+use Rattle.std.specs.Prelude.{Option, Some, None}
+use Rattle.model.specs.Bounded.{failing}
+use Rattle.model.proofs.Search.{Lowest, lowest-is, failing-at, failing-none, none-failing}
 use Rattle.queries.specs.Found.{IsFirst, middle_of}
 use lib.Dec.{leb}
 use borrow.Author.Tests.{leb-true, leb-false}
@@ -32,6 +33,27 @@ module _ (answer : ℕ → Bool → Type 0) (first i : ℕ) (passed : AllNo answ
   pub first-none : {last : ℕ} → last < i → IsFirst answer first last None
   first-none {last} h t is =
       sym (none-failing t first last (λ k a b. is k false a b (passed k a (omega (arith, b, h)))))
+
+-- a search for the lowest slot with t: what it finds is in the run, and no slot before it has t; and where it finds none, none has
+module _ (t : ℕ → Bool) (from to : ℕ) {o : Option ℕ} (s : o ≡ failing (λ i. not (t i)) from to) where
+  off : (b : Bool) → not (not b) ≡ false → b ≡ false
+  off false e = refl
+  off true e = e
+
+  pub found-in : {e : ℕ} → o ≡ Some e → (from ≤ e) × (e ≤ to)
+  found-in {e} q =
+      let p : ℕ → Bool = λ i. not (not (t i)) in
+      let l = subst (Lowest p from (suc to - from)) (sym s ∙ q) (lowest-is p from (suc to - from)) in
+      (l.low, omega (arith, l.low, l.high))
+
+  pub found-past : {e : ℕ} → o ≡ Some e → (i : ℕ) → from ≤ i → i < e → t i ≡ false
+  found-past {e} q i a k =
+      let p : ℕ → Bool = λ i. not (not (t i)) in
+      let l = subst (Lowest p from (suc to - from)) (sym s ∙ q) (lowest-is p from (suc to - from)) in
+      off (t i) (l.first i a k)
+
+  pub found-none : o ≡ None → (i : ℕ) → from ≤ i → i ≤ to → t i ≡ false
+  found-none q i a k = off (t i) (ap not (failing-none (λ i. not (t i)) from to (sym s ∙ q) i a k))
 
 -- where the middle stands
 pub middle-within : {first middle last : ℕ} → middle ≡ middle_of first last → first ≤ last

@@ -34,7 +34,12 @@ fn column_has(g: Cells<'_>, item: u32, lo: u32, hi: u32) -> bool
     requires hi_le_slots { hi ≤ g.grid.slots }
     ensures { result ≡ not (eqb (column_count g.entry.grid (reading g.entry.words.now) item lo hi) 0) }
 {
-    (lo..hi).any(|i| g.cell(i, item) != 0)
+    for i in lo..hi {
+        if g.cell(i, item) != 0 {
+            return true;
+        }
+    }
+    false
 }
 
 // The entries of the visitor on the date: there are none without leave, and else they are searched for in every slot of the date.

@@ -27,7 +27,7 @@ pub fn first_without_session(diary: Diary<'_>, meeting: u32, first: Date, last: 
     ensures { result ≡ failing (λ d. stands_on (state_of (reading diary.entry.words.now)) d meeting) first.0 last.0 }
 {
     let mut from = first_on::<Session>(diary.site.settings, first);
-    for d in first.0..=last.0 {
+    for d in first.0..last.0 + 1 {
         let to = first_on::<Session>(diary.site.settings, after(Date(d)));
         if !member_between(diary.standing(), meeting, from.0, to.0) {
             return Some(d);

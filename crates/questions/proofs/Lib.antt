@@ -3,3 +3,4 @@ pub mod Grounds
 pub mod Shown
 pub mod Pairs
 pub mod Shorts
+pub mod Booked

@@ -33,7 +33,9 @@ fn choose(first: u32, middle: u32, last: u32, x: bool, y: bool, z: bool) -> Opti
     None
 }
 
-// The lowest slot of first..last for which `found` says yes, of a short run without a loop.
+// The lowest slot of first..last for which `found` says yes, of a short run without a loop. Compiled into its callers, with the test: a call
+// has the cells that are asked laid out in memory.
+#[inline(always)]
 fn first_soon<F: Fn(u32) -> bool>(first: u32, last: u32, found: F) -> Option<u32>
     requires { (i : ℕ) → first ≤ i → i ≤ last → F.pre found i }
     ensures { IsFirst (F.post found) first last result }
@@ -69,6 +71,7 @@ impl Search for ByLoop {
 pub struct AtOnce;
 
 impl Search for AtOnce {
+    #[inline(always)]
     fn lowest<F: Fn(u32) -> bool>(first: u32, last: u32, found: F) -> Option<u32> {
         first_soon(first, last, found)
     }

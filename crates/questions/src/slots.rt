@@ -10,10 +10,10 @@ use crate::short::Search;
 use book::diary::Diary;
 use model::{Date, Session};
 use queries::bookings::has_bookings;
-use queries::entries::{conf_held, lunch_held, on_leave};
+use queries::entries::{conf_held, first_on_leave, lunch_held, on_leave};
 use queries::rooms::reserved;
 use queries::search::first_slot;
-use units::{Slot, date_of};
+use units::{Slot, after, date_of};
 
 // Has the visitor leave on the date of the unit's slot i?
 pub(crate) fn on_leave_in<U: Slot>(diary: Diary<'_>, visitor: u32, i: u32) -> bool
@@ -63,13 +63,22 @@ pub fn first_over(diary: Diary<'_>, room: u32, n: u32, first: Date, last: Date) 
     first_slot(first.0, last.0, |i| !room_left(diary, Date(i), room, n))
 }
 
-// Question 18: the lowest date of first..last on which the visitor has a hotel, ride or attend entry.
+// Question 18: the lowest date of first..last on which the visitor has a hotel, ride or attend entry. There is none without leave, so the dates
+// with leave are looked for.
 pub fn first_booked(diary: Diary<'_>, visitor: u32, first: Date, last: Date) -> Option<u32>
     requires last_lt_dates { last.0 < diary.site.settings.dates }
     requires visitor_lt_visitors { visitor < diary.site.settings.visitors }
     ensures { result ≡ slots_fail diary.entry.site.settings (reading diary.entry.words.now) NoBookings visitor 0 first.0 last.0 }
 {
-    first_slot(first.0, last.0, |i| has_bookings(diary, visitor, Date(i)))
+    let mut from = first;
+    while let Some(d) = first_on_leave(diary, visitor, from, last) {
+        let date = Date(d);
+        if has_bookings(diary, visitor, date) {
+            return Some(d);
+        }
+        from = after(date);
+    }
+    None
 }
 
 // Question 19 in one session: what costs less is asked first.

@@ -76,7 +76,7 @@ module _ (dining : ℕ) (caps : List ℕ) (absent : Bool) (w seats info : ℕ) w
           let n : eqb seats 0 ≡ false = ne_eqb seats 0 (λ q. omega (arith, q, t.some (eqb-false w 0 p))) in
           rw (n, t.stands (eqb-false w 0 p))
 
-shift-lt : (w k : ℕ) → w / 2 ^ k ≡ 0 → w < 2 ^ k
+pub shift-lt : (w k : ℕ) → w / 2 ^ k ≡ 0 → w < 2 ^ k
 shift-lt w k e = omega (arith, (div-lt_iff_lt-mul {k = 2 ^ k} {x = w} {y = 1} (pow_pos k)).0 (omega arith))
 
 -- unused bits: only the last word can have any

@@ -8,7 +8,7 @@ use lib.Seq.{length-take-le}
 use Rattle.std.specs.Option.{is_some}
 use Rattle.std.proofs.lemmas.List.{take_all, take_at}
 use Rattle.model.specs.Lines.{line_words}
-use Rattle.framing.proofs.Framing.{word_by, words_more, words-length}
+use Rattle.framing.proofs.Framing.{word_by, words_next, words-length}
 use Rattle.framing.proofs.line.line_words.Goals as goal
 
 -- as many words are written as the line has
@@ -26,7 +26,7 @@ loop-k-preserved c =
     let e = c.word_at.ensures ∙ word_by line l.k c.requires.line_value (omega arith) in
     let w : c.unwrap.result ≡ get_or (line_words line) l.k 0 = cc in
     ap (λ (x : ℕ). take (l.k + 1) (set l.word-items l.k x)) w
-    ∙ words_more line l.word-items l.k (omega arith) (omega (arith, l.auto.word-items)) l.invariant
+    ∙ words_next line l.word-items l.k (omega arith) (omega (arith, l.auto.word-items)) l.invariant
 
 pub returns : goal.returns
 returns c =

@@ -19,7 +19,7 @@ returns-then-not-member_between c =
     let e = rw (c.standing.ensures.grid, c.standing.ensures.words, c.args.diary.site.sited) at c.member_between.ensures in
     let to = rw c.after.ensures at c.first_on-to.ensures in
     sym
-    (failing-at _ _ _ c.loop-d.d c.loop-d.invariant.0 c.loop-d-test.true
+    (failing-at _ _ c.args.last.0 c.loop-d.d c.loop-d.invariant.0 (omega (arith, c.loop-d-test.true))
     (sym (date-bits c.args.diary.site.settings (reading c.args.diary.words.now) c.args.diary.good c.loop-d.d c.args.meeting _ _ c.loop-d.invariant.1 to c.requires.meeting_lt_meetings)
     ∙ sym e ∙ c.if-not-member_between.true) c.loop-d.invariant.2)
 
@@ -34,11 +34,6 @@ loop-d-preserved c =
           ∙ sym e ∙ c.if-not-member_between.false),
     )
 
-pub returns-else-not-member_between : goal.returns-else-not-member_between
-returns-else-not-member_between c =
-    let e = rw (c.standing.ensures.grid, c.standing.ensures.words, c.args.diary.site.sited) at c.member_between.ensures in
-    let to = rw c.after.ensures at c.first_on-to.ensures in
-    let q = passed-more _ _ _ c.loop-d.invariant.2
-    (sym (date-bits c.args.diary.site.settings (reading c.args.diary.words.now) c.args.diary.good c.loop-d.d c.args.meeting _ _ c.loop-d.invariant.1 to c.requires.meeting_lt_meetings)
-    ∙ sym e ∙ c.if-not-member_between.false) in
-    sym (none-failing _ c.args.first.0 c.args.last.0 (λ d l h. q d l (omega (arith, h))))
+pub returns : goal.returns
+returns c =
+    sym (none-failing _ c.args.first.0 c.args.last.0 (λ d l h. c.loop-d.invariant.2 d l (omega (arith, h, c.loop-d-test.false))))

@@ -9,7 +9,7 @@ use Rattle.questions.proofs.short.first_soon.Goals as goal
 pub found-y-requires : goal.found-y-requires
 found-y-requires g c =
     let m = middle-is c.is_short.ensures (ap not c.if-not-is_short.false) c.middle_of-middle.ensures in
-    c.requires _ m.inside.0 m.inside.1
+    c.requires _ (omega (arith, m.inside.0, m.low)) (omega (arith, m.inside.1, m.low))
 
 pub returns : goal.returns
 returns g c t h =

@@ -1,4 +1,4 @@
--- `bits::mark_all`: no slots, three that may be the same, or many.
+-- `bits::mark_run`: no slots, three that may be the same, or many.
 -- Assumes nothing.
 use Rattle.std.specs.Prelude.{ℕ, ◌-◌, eqb, not}
 use Rattle.std.proofs.Common.{◌∙◌, ap}
@@ -7,7 +7,7 @@ use Rattle.book.proofs.Turns.{over-end, wrote_none}
 use Rattle.apply.specs.Stores.{marked_all, marked_three}
 use native.Mathlib.Omega.{arith}
 use Rattle.apply.proofs.Marks.{three-are-all, middle-min}
-use Rattle.apply.proofs.bits.mark_all.Goals as goal
+use Rattle.apply.proofs.bits.mark_run.Goals as goal
 
 pub returns-then-to-from : goal.returns-then-to-from
 unfolding marked_all
